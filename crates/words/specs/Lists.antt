@@ -1,0 +1,20 @@
+-- Tests over lists, and the list of a function's values.
+use mathlib.Core.Bool.{Bool, true, false, _&&_, _||_}
+use mathlib.Core.List.{List, [], _∷_}
+use Prim.Native.Nat.{ℕ, zero, suc}
+
+module _ {A : Type 0} where
+  -- the test holds of each element
+  abbrev pub allOf : (A → Bool) → List A → Bool
+  allOf p [] = true
+  allOf p (a ∷ l) = p a && allOf p l
+
+  -- the test holds of some element
+  abbrev pub anyOf : (A → Bool) → List A → Bool
+  anyOf p [] = false
+  anyOf p (a ∷ l) = p a || anyOf p l
+
+  -- f i, f (i + 1), .., n of them
+  abbrev pub tabulate : (ℕ → A) → ℕ → ℕ → List A
+  tabulate f zero i = []
+  tabulate f (suc n) i = f i ∷ tabulate f n (suc i)

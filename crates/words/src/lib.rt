@@ -1,0 +1,66 @@
+// Bits and bytes of numbers.
+ghost use mathlib.Core.Path.{_≡_};
+ghost use Prim.Native.Nat.{_<_};
+ghost use Rattle.words.specs.Bits.{bit, digit, withBit, setWhere, flipWhere, low, high, word};
+
+// Whether bit k of a byte is set.
+pub fn bit8(x: u8, k: u8) -> bool
+    requires { ⌜ k < 8 ⌝ }
+    ensures { λ r. ⌜ r ≡ bit k x ⌝ }
+{
+    (x >> k) % 2 == 1
+}
+
+// A yes as 1, a no as 0.
+pub fn digit8(on: bool) -> u8
+    ensures { λ r. ⌜ r ≡ digit on ⌝ }
+{
+    if on { 1 } else { 0 }
+}
+
+// A byte with bit k as told.
+pub fn with_bit(x: u8, k: u8, on: bool) -> u8
+    requires { ⌜ k < 8 ⌝ }
+    ensures { λ r. ⌜ r ≡ withBit k on x ⌝ }
+{
+    let weight: u8 = 1 << k;
+    let cleared = x - (x >> k) % 2 * weight;
+    if on { cleared + weight } else { cleared }
+}
+
+// A byte with bit k set where told.
+pub fn set_where(x: u8, k: u8, on: bool) -> u8
+    requires { ⌜ k < 8 ⌝ }
+    ensures { λ r. ⌜ r ≡ setWhere k on x ⌝ }
+{
+    if on { with_bit(x, k, true) } else { x }
+}
+
+// A byte with bit k inverted where told.
+pub fn flip_where(x: u8, k: u8, on: bool) -> u8
+    requires { ⌜ k < 8 ⌝ }
+    ensures { λ r. ⌜ r ≡ flipWhere k on x ⌝ }
+{
+    if on { with_bit(x, k, !bit8(x, k)) } else { x }
+}
+
+// The lower byte of a 16-bit number.
+pub fn low_byte(x: u16) -> u8
+    ensures { λ r. ⌜ r ≡ low x ⌝ }
+{
+    (x % 256) as u8
+}
+
+// The upper byte of a 16-bit number.
+pub fn high_byte(x: u16) -> u8
+    ensures { λ r. ⌜ r ≡ high x ⌝ }
+{
+    (x / 256 % 256) as u8
+}
+
+// The 16-bit number of two bytes.
+pub fn word16(upper: u8, lower: u8) -> u16
+    ensures { λ r. ⌜ r ≡ word upper lower ⌝ }
+{
+    upper as u16 * 256 + lower as u16
+}
