@@ -1,0 +1,14 @@
+use Rattle.counters.specs.Counters.{loadA}
+use mathlib.Core.Path.{refl}
+use Rattle.counters.proofs.a.CounterA.load.Statement.{statement}
+use Rattle.counters.proofs.a.CounterA.load.Tie as tie
+use Rattle.counters.proofs.a.CounterA.load.Reads as reads
+use Rattle.counters.proofs.a.CounterA.load.Lts as lts
+
+-- src/a.rt:95:5
+returns : tie.Need-returns
+unfolding loadA
+returns c = refl
+
+pub load-spec : {M : Type 1} → statement M
+load-spec = tie.close (tie.spec returns)
