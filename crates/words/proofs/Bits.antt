@@ -7,7 +7,7 @@ use lib.Pow.{pow-lt}
 use lib.Dec.{T, leb, ltb, eqb, leb→le, ltb→lt}
 use Rattle.words.specs.Bits.{bit, withBit}
 use Rattle.words.specs.Lists.{allOf, tabulate}
-use Rattle.words.proofs.Cond.{both-left, both-right}
+use Rattle.words.proofs.Cond.{both-left, both-right, equal}
 use Rattle.words.proofs.Tables.{upTo, below2}
 
 -- a byte with bit k cleared has room for it, and the cleared bit was in it
@@ -25,12 +25,6 @@ bit-within k x h l = leb→le (x / 2 ^ k % 2 * 2 ^ k) x (both-left (leb (x / 2 ^
 pub bit-room : (k x : ℕ) → k < 8 → x < 256 → x - x / 2 ^ k % 2 * 2 ^ k + 2 ^ k < 256
 unfolding fits
 bit-room k x h l = ltb→lt (x - x / 2 ^ k % 2 * 2 ^ k + 2 ^ k) 256 (both-right (leb (x / 2 ^ k % 2 * 2 ^ k) x) _ (fits-all k x h l))
-
-equal : (a b : Bool) → T (Bool·beq a b) → a ≡ b
-equal true true t = refl
-equal true false t = absurd t
-equal false true t = absurd t
-equal false false t = refl
 
 -- what is put at bit k stands there
 pub putAt : Bool → ℕ → ℕ → Bool

@@ -1,12 +1,14 @@
 -- Laws of choices by a test.
 use mathlib.Core.Path.{_≡_, refl}
-use mathlib.Core.Bool.{Bool, true, false, _&&_, cond}
-use lib.Dec.{T}
+use mathlib.Core.Bool.{Bool, true, false, _&&_, cond, Bool·beq, false≢true}
+use Prim.Native.Nat.{_≤_}
+use lib.Dec.{T, lit≤}
+use Rattle.words.specs.Bits.{digit}
 
 -- what holds of both ways holds of the choice; each way may use how the test came out
-pub cond-both : {A : Type 0} (P : A → Type 0) (t : Bool) {x y : A} → (t ≡ true → P x) → (t ≡ false → P y) → P (cond t x y)
-cond-both P true h k = h refl
-cond-both P false h k = k refl
+pub cond-both : {A : Type 0} (P : A → Type 0) (t : Bool) (x y : A) → (t ≡ true → P x) → (t ≡ false → P y) → P (cond t x y)
+cond-both P true x y h k = h refl
+cond-both P false x y h k = k refl
 
 -- a function of a choice is the choice of its values
 pub cond-map : {A B : Type 0} (f : A → B) (t : Bool) (x y : A) → f (cond t x y) ≡ cond t (f x) (f y)
@@ -20,3 +22,26 @@ both-left false b t = t
 pub both-right : (a b : Bool) → T (a && b) → T b
 both-right true b t = t
 both-right false b t = absurd t
+
+-- two tests that are found equal are equal
+pub equal : (a b : Bool) → T (Bool·beq a b) → a ≡ b
+equal true true t = refl
+equal true false t = absurd t
+equal false true t = absurd t
+equal false false t = refl
+
+pub digit-le : (b : Bool) → digit b ≤ 1
+digit-le true = lit≤ tt
+digit-le false = lit≤ tt
+
+-- a conjunction of tests, taken apart and made
+pub and-left : (a b : Bool) → (a && b) ≡ true → a ≡ true
+and-left true b e = refl
+and-left false b e = e
+
+pub and-right : (a b : Bool) → (a && b) ≡ true → b ≡ true
+and-right true b e = e
+and-right false b e = absurd (false≢true e)
+
+pub and-both : (a b : Bool) → a ≡ true → b ≡ true → (a && b) ≡ true
+and-both a b e f = rw (e, f)

@@ -1,3 +1,4 @@
+pub mod Cond
 pub mod Tables
 pub mod Bits
-pub mod Cond
+pub mod Numbers

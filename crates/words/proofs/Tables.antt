@@ -5,7 +5,7 @@ use mathlib.Core.List.{List, [], _∷_}
 use Prim.Native.Nat.{ℕ, zero, suc, _+_, _<_}
 use native.Mathlib.Nat.{add-zero, zero-add, add-suc, suc-add, le-of-suc-le-suc, not-suc-le-zero}
 use lib.Dec.{T}
-use lib.ListN.{getD}
+use lib.ListN.{getD, length}
 use Rattle.words.specs.Lists.{allOf, tabulate}
 use Rattle.words.proofs.Cond.{both-left, both-right}
 
@@ -15,6 +15,10 @@ module _ {A : Type 0} where
   getD-tabulate f zero i k d h = absurd (not-suc-le-zero h)
   getD-tabulate f (suc n) i zero d h = ap f (sym (add-zero i))
   getD-tabulate f (suc n) i (suc k) d h = getD-tabulate f n (suc i) k d (le-of-suc-le-suc h) ∙ ap f (suc-add i k ∙ sym (add-suc i k))
+
+  pub length-tabulate : (f : ℕ → A) (n i : ℕ) → length (tabulate f n i) ≡ n
+  length-tabulate f zero i = refl
+  length-tabulate f (suc n) i = ap suc (length-tabulate f n (suc i))
 
   -- a test that passes over the list of a function's values passes at each of them
   pub allOf-at : (p : A → Bool) (f : ℕ → A) (n i : ℕ) → T (allOf p (tabulate f n i)) → (k : ℕ) → k < n → T (p (f (i + k)))

@@ -1,0 +1,14 @@
+use borrow.Author.Needs.{needs}
+use Rattle.serial.proofs.Frames.{fold-right}
+use mathlib.Core.Path.{refl}
+use Rattle.serial.proofs.format.odd_ones.Statement.{statement}
+use Rattle.serial.proofs.format.odd_ones.Tie as tie
+use Rattle.serial.proofs.format.odd_ones.Reads as reads
+use Rattle.serial.proofs.format.odd_ones.Lts as lts
+
+-- src/format.rt:77:1
+returns : tie.Need-returns
+returns c = fold-right (c .args .x) (search needs)
+
+pub odd-ones-spec : {M : Type 1} → statement M
+odd-ones-spec = tie.close (tie.spec returns)

@@ -1,0 +1,28 @@
+use Rattle.serial.specs.Transmitter.{taken}
+use borrow.Author.Needs.{needs}
+use Rattle.serial.proofs.transmitter.take.Statement.{statement}
+use Rattle.serial.proofs.transmitter.take.Tie as tie
+use Rattle.serial.proofs.transmitter.take.Reads as reads
+use Rattle.serial.proofs.transmitter.take.Lts as lts
+use Rattle.serial.proofs.transmitter.begun.Reads as begun-reads
+use Rattle.words.proofs.with_bit.Reads as with-bit-reads
+
+-- src/transmitter.rt:47:34
+with-bit-requires : tie.Need-with-bit-requires
+with-bit-requires c κs = search needs
+
+-- src/transmitter.rt:47:9
+with-bit-requires-2 : tie.Need-with-bit-requires-2
+with-bit-requires-2 c κs = search needs
+
+-- src/transmitter.rt:48:28
+begun-requires : tie.Need-begun-requires
+begun-requires c κs = search needs
+
+-- src/transmitter.rt:44:1
+returns : tie.Need-returns
+unfolding taken
+returns c = rw (← (c .before .before .with-bit .ensures), ← (c .before .with-bit2 .ensures), ← (c .begun .ensures))
+
+pub take-spec : {M : Type 1} → statement M
+take-spec = tie.close (tie.spec with-bit-requires with-bit-requires-2 begun-requires returns)

@@ -1,0 +1,67 @@
+-- 01, Serial channel: the transmitter.
+use mathlib.Core.Bool.{Bool, true, false, _&&_, _||_, not, cond}
+use Prim.Native.Nat.{ℕ, _+_, _-_, _/_, _%_}
+use lib.Dec.{leb, ltb, eqb}
+use lib.ListN.{length}
+use Rattle.words.specs.Bits.{bit, withBit}
+use Rattle.words.specs.Lists.{number}
+use Rattle.counters.specs.declared.time.Ticks.{Ticks}
+use Rattle.serial.specs.declared.transmitter.Transmitter.{Transmitter}
+use Rattle.serial.specs.declared.transmitter.Sending.{Sending}
+use Rattle.serial.specs.Format.{sends, frameBits}
+
+abbrev pub sending : Transmitter → ℕ → Sending
+sending t scsr = record { transmitter = t; scsr = scsr }
+
+-- progress 0
+abbrev pub idleTransmitter : Transmitter
+idleTransmitter = record { left = 0; phase = 0; register = 0 }
+
+-- "phase 0, register and bits left to a frame"
+unfoldable pub framed : ℕ → ℕ → Transmitter
+framed sccr byte = record { left = length (frameBits sccr byte); phase = 0; register = number (frameBits sccr byte) }
+
+-- "it takes the data, sets SCSR6"; 001, 5.3, SCSR 7: "Cleared by a transfer of new data into the Transmitter Shift Register"
+unfoldable pub taken : ℕ → ℕ → ℕ → Sending
+taken sccr scsr byte = sending (framed sccr byte) (withBit 7 false (withBit 6 true scsr))
+
+-- "with no bits left and SCSR6 clear, it takes the data"; 001, 5.3, SCSR 7: under-run is no matter of later idle ticks
+unfoldable pub idleTick : Transmitter → ℕ → ℕ → ℕ → Sending
+idleTick t sccr scsr byte = cond (bit 6 scsr) (sending t scsr) (taken sccr scsr byte)
+
+-- "None left: it takes the next data that tick, or sets SCSR7."
+unfoldable pub frameEnd : Transmitter → ℕ → ℕ → ℕ → Sending
+frameEnd t sccr scsr byte = cond (bit 6 scsr) (sending t (withBit 7 true scsr)) (taken sccr scsr byte)
+
+-- "from 15 to 0 shifts the register down, one bit fewer left"
+abbrev pub shiftedDown : Transmitter → Transmitter
+shiftedDown t = record { left = t .left - 1; phase = 0; register = t .register / 2 }
+
+-- "each later tick raises the phase"
+abbrev pub raised : Transmitter → Transmitter
+raised t = record { left = t .left; phase = t .phase + 1; register = t .register }
+
+unfoldable pub bitTick : Transmitter → ℕ → ℕ → ℕ → Sending
+bitTick t sccr scsr byte =
+    cond (ltb (t .phase) 15) (sending (raised t) scsr)
+    (cond (eqb (t .left - 1) 0) (frameEnd (shiftedDown t) sccr scsr byte) (sending (shiftedDown t) scsr))
+
+-- one tick of a transmitter that is on
+unfoldable pub sendTick : Transmitter → ℕ → ℕ → ℕ → Sending
+sendTick t sccr scsr byte = cond (eqb (t .left) 0) (idleTick t sccr scsr byte) (bitTick t sccr scsr byte)
+
+-- 01, One clock, 3, for the transmitter: the ticks of a clock are none or one
+unfoldable pub sent : Transmitter → Ticks → ℕ → ℕ → ℕ → Sending
+sent t ticks sccr scsr byte = cond (not (eqb (ticks .0) 0) && sends sccr) (sendTick t sccr scsr byte) (sending t scsr)
+
+-- "the transmitter's line (high when idle)": "While bits are left, bit 0 is the line"; "A half in shift-register mode idles."
+unfoldable pub line : ℕ → Transmitter → Bool
+line sccr t = not (sends sccr) || eqb (t .left) 0 || bit 0 (t .register)
+
+-- "Writing SCCR zeroes the progress of each half that the new value has off or in shift-register mode."
+unfoldable pub transmitterUnder : ℕ → Transmitter → Transmitter
+transmitterUnder sccr t = cond (sends sccr) t idleTransmitter
+
+-- 01, Machine state: "transmitter bits left (0 to 12), phase (0 to 15), register (12 bits)"
+abbrev pub transmitterFits : Transmitter → Bool
+transmitterFits t = leb (t .left) 12 && leb (t .phase) 15 && ltb (t .register) 4096

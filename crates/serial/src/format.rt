@@ -1,0 +1,124 @@
+// What the serial control register (SCCR) says, and the frame that a byte is sent in.
+ghost use mathlib.Core.Path.{_≡_};
+ghost use Prim.Native.Nat.{ℕ, _^_, _%_, _-_};
+ghost use lib.ListN.{length};
+ghost use Rattle.words.specs.Bits.{digit};
+ghost use Rattle.words.specs.Lists.{bitsOf, oddOnes, number};
+ghost use Rattle.serial.specs.Format.{sends, receives, holdsA, width, hasParity, dataBits, parityBit, ending, frameBits};
+
+// The bits of SCCR, by weight.
+const TRANSMITTER_ON: u8 = 128;
+
+const RECEIVER_ON: u8 = 64;
+
+const TRANSMITTER_SHIFTS: u8 = 32;
+
+const RECEIVER_SHIFTS: u8 = 16;
+
+const PARITY: u8 = 2;
+
+const EVEN: u8 = 1;
+
+// Whether the transmitter moves: on, and not in shift-register mode.
+pub fn transmitter_moves(sccr: u8) -> bool
+    ensures { λ r. ⌜ r ≡ sends sccr ⌝ }
+{
+    (sccr / TRANSMITTER_ON % 2 == 1) & (sccr / TRANSMITTER_SHIFTS % 2 != 1)
+}
+
+// Whether the receiver moves: on, and not in shift-register mode.
+pub fn receiver_moves(sccr: u8) -> bool
+    ensures { λ r. ⌜ r ≡ receives sccr ⌝ }
+{
+    (sccr / RECEIVER_ON % 2 == 1)
+        & !((sccr / TRANSMITTER_SHIFTS % 2 != 1) & (sccr / RECEIVER_SHIFTS % 2 == 1))
+}
+
+// Whether counter A is held to mode 00.
+pub fn holds_counter(sccr: u8) -> bool
+    ensures { λ r. ⌜ r ≡ holdsA sccr ⌝ }
+{
+    (sccr / TRANSMITTER_ON % 2 == 1) | receiver_moves(sccr)
+}
+
+// 2 to the number of data bits.
+pub fn data_span(sccr: u8) -> u16
+    ensures { λ r. ⌜ r ≡ 2 ^ width sccr ⌝ }
+{
+    let k = sccr / 4 % 4;
+    if k == 0 {
+        return 256;
+    }
+    if k == 1 {
+        return 128;
+    }
+    if k == 2 {
+        return 64;
+    }
+    32
+}
+
+// Whether a frame has a parity bit.
+pub fn has_parity(sccr: u8) -> bool
+    ensures { λ r. ⌜ r ≡ hasParity sccr ⌝ }
+{
+    sccr / PARITY % 2 == 1
+}
+
+// 1 where a frame has a parity bit.
+pub fn parity_size(sccr: u8) -> u8
+    ensures { λ r. ⌜ r ≡ digit (hasParity sccr) ⌝ }
+{
+    words::digit8(has_parity(sccr))
+}
+
+// One bit fewer left.
+pub fn one_fewer(left: u8) -> u8
+    ensures { λ r. ⌜ r ≡ left - 1 ⌝ }
+{
+    if left == 0 { 0 } else { left - 1 }
+}
+
+// Whether a byte has an odd number of ones.
+pub fn odd_ones(x: u8) -> bool
+    ensures { λ r. ⌜ r ≡ oddOnes (bitsOf 8 x) ⌝ }
+{
+    let nibble = (x / 16) ^ (x % 16);
+    let pair = (nibble / 4) ^ (nibble % 4);
+    ((pair / 2) ^ (pair % 2)) == 1
+}
+
+// The parity bit of a byte.
+pub fn parity_bit(sccr: u8, byte: u8) -> bool
+    ensures { λ r. ⌜ r ≡ parityBit sccr (bitsOf 8 byte) ⌝ }
+{
+    let odd = odd_ones(byte);
+    if sccr / EVEN % 2 == 1 { odd } else { !odd }
+}
+
+// What follows the data bits, as a number: parity and one stop, or two stops.
+pub fn frame_ending(sccr: u8, byte: u8) -> u16
+    ensures { λ r. ⌜ r ≡ number (ending sccr (bitsOf 8 byte)) ⌝ }
+{
+    if has_parity(sccr) {
+        return words::digit8(parity_bit(sccr, byte)) as u16 + 2;
+    }
+    3
+}
+
+// The frame of a byte, as a number: its first bit lowest.
+pub fn frame(sccr: u8, byte: u8) -> u16
+    ensures { λ r. ⌜ r ≡ number (frameBits sccr byte) ⌝ }
+{
+    let span = data_span(sccr);
+    let data = byte as u16 % span;
+    let ending = frame_ending(sccr, data as u8);
+    (data + span * ending) * 2
+}
+
+// The number of bits of a frame: start, data, and two more.
+pub fn frame_length(sccr: u8, byte: u8) -> u8
+    ensures { λ r. ⌜ r ≡ length (frameBits sccr byte) ⌝ }
+{
+    8 - sccr / 4 % 4 + 3
+}

@@ -1,0 +1,153 @@
+// The asynchronous transmitter.
+ghost use mathlib.Core.Path.{_≡_};
+ghost use Rattle.serial.specs.Transmitter.{idleTransmitter, framed, taken, idleTick, frameEnd, bitTick, sendTick, sent, line, transmitterUnder};
+use crate::format::frame;
+use crate::format::frame_length;
+use crate::format::one_fewer;
+use crate::format::transmitter_moves;
+use counters::time::Ticks;
+
+// The status register's bit for an empty data register (SCSR6), and the place of the line's bit, by weight.
+const EMPTY: u8 = 64;
+
+const LINE: u16 = 1;
+
+// The bits left of a frame, the phase within a bit, and the bits themselves, the present one lowest.
+#[repr(C)]
+pub struct Transmitter {
+    pub left: u8,
+    pub phase: u8,
+    pub register: u16,
+}
+
+// The transmitter and the status register after a clock.
+pub struct Sending {
+    pub transmitter: Transmitter,
+    pub scsr: u8,
+}
+
+// The transmitter with no progress.
+pub fn idle_transmitter() -> Transmitter
+    ensures { λ r. ⌜ r ≡ idleTransmitter ⌝ }
+{
+    Transmitter {
+        left: 0,
+        phase: 0,
+        register: 0,
+    }
+}
+
+// A frame begun.
+fn begun(sccr: u8, byte: u8) -> Transmitter
+    ensures { λ r. ⌜ r ≡ framed sccr byte ⌝ }
+{
+    Transmitter {
+        left: frame_length(sccr, byte),
+        phase: 0,
+        register: frame(sccr, byte),
+    }
+}
+
+// The data taken: the data register is empty again, and an under-run is over.
+fn take(sccr: u8, scsr: u8, byte: u8) -> Sending
+    ensures { λ r. ⌜ r ≡ taken sccr scsr byte ⌝ }
+{
+    let status = words::with_bit(words::with_bit(scsr, 6, true), 7, false);
+    Sending {
+        transmitter: begun(sccr, byte),
+        scsr: status,
+    }
+}
+
+impl Transmitter {
+    // A tick with no bits left.
+    fn idle_tick(mut self, sccr: u8, scsr: u8, byte: u8) -> Sending
+        ensures { λ r. ⌜ r ≡ idleTick self sccr scsr byte ⌝ }
+    {
+        if scsr / EMPTY % 2 == 1 {
+            return Sending {
+                transmitter: self,
+                scsr: scsr,
+            };
+        }
+        take(sccr, scsr, byte)
+    }
+
+    // The tick that ends a frame: the next data, or an under-run.
+    fn frame_end(mut self, sccr: u8, scsr: u8, byte: u8) -> Sending
+        ensures { λ r. ⌜ r ≡ frameEnd self sccr scsr byte ⌝ }
+    {
+        if scsr / EMPTY % 2 == 1 {
+            let status = words::with_bit(scsr, 7, true);
+            return Sending {
+                transmitter: self,
+                scsr: status,
+            };
+        }
+        take(sccr, scsr, byte)
+    }
+
+    // A tick with bits left.
+    fn bit_tick(mut self, sccr: u8, scsr: u8, byte: u8) -> Sending
+        ensures { λ r. ⌜ r ≡ bitTick self sccr scsr byte ⌝ }
+    {
+        if self.phase < 15 {
+            self.phase += 1;
+            return Sending {
+                transmitter: self,
+                scsr: scsr,
+            };
+        }
+        self.phase = 0;
+        self.register = self.register / 2;
+        self.left = one_fewer(self.left);
+        if self.left == 0 {
+            return self.frame_end(sccr, scsr, byte);
+        }
+        Sending {
+            transmitter: self,
+            scsr: scsr,
+        }
+    }
+
+    // One tick of a transmitter that is on.
+    fn tick(mut self, sccr: u8, scsr: u8, byte: u8) -> Sending
+        ensures { λ r. ⌜ r ≡ sendTick self sccr scsr byte ⌝ }
+    {
+        if self.left == 0 {
+            return self.idle_tick(sccr, scsr, byte);
+        }
+        self.bit_tick(sccr, scsr, byte)
+    }
+
+    // The transmitter after a clock with these ticks.
+    pub fn clock(mut self, ticks: Ticks, sccr: u8, scsr: u8, byte: u8) -> Sending
+        ensures { λ r. ⌜ r ≡ sent self ticks sccr scsr byte ⌝ }
+    {
+        let moves = (ticks.0 != 0) & transmitter_moves(sccr);
+        if moves {
+            return self.tick(sccr, scsr, byte);
+        }
+        Sending {
+            transmitter: self,
+            scsr: scsr,
+        }
+    }
+
+    // The level of its line, high when idle.
+    pub fn line_level(self, sccr: u8) -> bool
+        ensures { λ r. ⌜ r ≡ line sccr self ⌝ }
+    {
+        !transmitter_moves(sccr) | (self.left == 0) | (self.register / LINE % 2 == 1)
+    }
+
+    // Its progress after a write of SCCR.
+    pub fn under(mut self, sccr: u8) -> Transmitter
+        ensures { λ r. ⌜ r ≡ transmitterUnder sccr self ⌝ }
+    {
+        if transmitter_moves(sccr) {
+            return self;
+        }
+        idle_transmitter()
+    }
+}
