@@ -11,6 +11,14 @@ pub fn bit8(x: u8, k: u8) -> bool
     (x >> k) % 2 == 1
 }
 
+// Whether bit k of a 32-bit number is set.
+pub fn bit32(x: u32, k: u32) -> bool
+    requires { ⌜ k < 32 ⌝ }
+    ensures { λ r. ⌜ r ≡ bit k x ⌝ }
+{
+    (x >> k) % 2 == 1
+}
+
 // A yes as 1, a no as 0.
 pub fn digit8(on: bool) -> u8
     ensures { λ r. ⌜ r ≡ digit on ⌝ }
@@ -26,6 +34,20 @@ pub fn with_bit(x: u8, k: u8, on: bool) -> u8
     let weight: u8 = 1 << k;
     let cleared = x - (x >> k) % 2 * weight;
     if on { cleared + weight } else { cleared }
+}
+
+// A 32-bit number with bit k as told.
+pub fn with_bit32(x: u32, k: u32, on: bool) -> u32
+    requires { ⌜ k < 32 ⌝ }
+    ensures { λ r. ⌜ r ≡ withBit k on x ⌝ }
+{
+    let weight: u32 = 1 << k;
+    let cleared = x - (x >> k) % 2 * weight;
+    if on {
+        cleared + weight
+    } else {
+        cleared
+    }
 }
 
 // A byte with bit k set where told.

@@ -20,25 +20,25 @@ shr-cleared c = search needs
 
 -- src/lib.rt:27:23
 mul-cleared : tie.Need-mul-cleared
-mul-cleared c = rw (weight _ (c .pre)) (omega (arith, bit-within (c .args .k) (c .args .x) (c .pre) (search needs)))
+mul-cleared c = rw (weight 8 _ (c .pre)) (omega (arith, bit-within (c .args .k) (c .args .x)))
 
 -- src/lib.rt:27:19
 sub-cleared : tie.Need-sub-cleared
-sub-cleared c = rw (weight _ (c .pre)) (bit-within _ _ (c .pre) (search needs))
+sub-cleared c = rw (weight 8 _ (c .pre)) (bit-within _ _)
 
 -- src/lib.rt:28:13
 add-result : tie.Need-add-result
-add-result c = rw (weight _ (c .before .pre)) (omega (arith, bit-room (c .before .args .k) (c .before .args .x) (c .before .pre) (search needs)))
+add-result c = rw (weight 8 _ (c .before .pre)) (omega (arith, bit-room 8 (c .before .args .k) (c .before .args .x) (c .before .pre) (search needs)))
 
 -- src/lib.rt:22:1
 returns : tie.Need-returns
 unfolding withBit
-returns c = rw (weight _ (c .before .pre), c .if1 .taken)
+returns c = rw (weight 8 _ (c .before .pre), c .if1 .taken)
 
 -- src/lib.rt:22:1
 returns-2 : tie.Need-returns-2
 unfolding withBit
-returns-2 c = rw (weight _ (c .before .pre), c .if1 .left, add-zero)
+returns-2 c = rw (weight 8 _ (c .before .pre), c .if1 .left, add-zero)
 
 pub with-bit-spec : {M : Type 1} → statement M
 with-bit-spec =

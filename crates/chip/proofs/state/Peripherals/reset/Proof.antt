@@ -1,0 +1,29 @@
+use borrow.Author.Needs.{needs}
+use Rattle.chip.proofs.state.Peripherals.reset.Statement.{statement}
+use Rattle.chip.proofs.state.Peripherals.reset.Tie as tie
+use Rattle.chip.proofs.state.Peripherals.reset.Reads as reads
+use Rattle.chip.proofs.state.Peripherals.reset.Lts as lts
+use Rattle.chip.proofs.state.fresh_ports.Reads as fresh-ports-reads
+use Rattle.serial.proofs.receiver.idle_receiver.Reads as idle-receiver-reads
+use Rattle.serial.proofs.transmitter.idle_transmitter.Reads as idle-transmitter-reads
+
+-- src/pins.rt:61:13
+fresh-ports-requires : tie.Need-fresh-ports-requires
+fresh-ports-requires c κs = search needs
+
+-- src/pins.rt:63:13
+idle-transmitter-requires : tie.Need-idle-transmitter-requires
+idle-transmitter-requires c κs = search needs
+
+-- src/pins.rt:64:13
+idle-receiver-requires : tie.Need-idle-receiver-requires
+idle-receiver-requires c κs = search needs
+
+-- src/pins.rt:58:5
+returns : tie.Need-returns
+returns c = rw (← (c .before .before .fresh-ports .ensures), ← (c .before .idle-transmitter .ensures), ← (c .idle-receiver .ensures))
+
+pub reset-spec : {M : Type 1} → statement M
+reset-spec =
+    tie.close
+    (tie.spec fresh-ports-requires idle-transmitter-requires idle-receiver-requires returns)

@@ -1,0 +1,27 @@
+-- What several registers share: the interrupt flags as read, and the counters' modes.
+use mathlib.Core.Bool.{Bool, true, false, _&&_, _||_, not, cond}
+use Prim.Native.Nat.{ℕ, _/_, _%_}
+use lib.Dec.{eqb}
+use Rattle.words.specs.Bits.{bit, withBit}
+use Rattle.counters.specs.Counters.{inForce}
+use Rattle.serial.specs.Format.{holdsA}
+use Rattle.chip.specs.declared.state.Control.{Control}
+
+-- 01, Registers: "IFR6 is SCSR0 or 1 or 2 or 3."
+abbrev pub receiverFlag : ℕ → Bool
+receiverFlag scsr = bit 0 scsr || bit 1 scsr || bit 2 scsr || bit 3 scsr
+
+-- "IFR7 is SCSR6 and (not SCSR5, or SCSR7)."
+abbrev pub transmitterFlag : ℕ → Bool
+transmitterFlag scsr = bit 6 scsr && (not (bit 5 scsr) || bit 7 scsr)
+
+-- the interrupt flags, bits 6 and 7 with them
+unfoldable pub flagsOf : Control → ℕ
+flagsOf c = withBit 7 (transmitterFlag (c .scsr)) (withBit 6 (receiverFlag (c .scsr)) (c .ifr))
+
+-- 01, One clock, 2: "MCR1, MCR0 choose A's mode, MCR3, MCR2 B's"; "SCCR7, or SCCR6 with an asynchronous receiver, holds A to mode 00"
+unfoldable pub modeA : ℕ → ℕ → ℕ
+modeA mcr sccr = inForce (holdsA sccr) (mcr % 4)
+
+unfoldable pub modeB : ℕ → ℕ
+modeB mcr = mcr / 4 % 4
