@@ -61,3 +61,7 @@ bit-kept false = below2 (keptAt false) 8 256 tt
 -- the weight of a bit, as a shift within n bits gives it
 pub weight : (n k : ℕ) → k < n → 1 * 2 ^ k % 2 ^ n ≡ 2 ^ k
 weight n k h = rw one-mul (mod-eq-of-lt (pow-lt {i = k} {j = n} h))
+
+-- the lowest bit, without a division by 1
+pub bit-zero : (x : ℕ) → bit 0 x ≡ eqb (x % 2) 1
+bit-zero x = let h : x / 1 ≡ x = omega arith in rw h

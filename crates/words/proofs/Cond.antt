@@ -1,7 +1,7 @@
 -- Laws of choices by a test.
 use mathlib.Core.Path.{_≡_, refl}
-use mathlib.Core.Bool.{Bool, true, false, _&&_, cond, Bool·beq, false≢true}
-use Prim.Native.Nat.{_≤_}
+use mathlib.Core.Bool.{Bool, true, false, _&&_, not, cond, Bool·beq, false≢true}
+use Prim.Native.Nat.{_≤_, _+_}
 use lib.Dec.{T, lit≤}
 use Rattle.words.specs.Bits.{digit}
 
@@ -33,6 +33,10 @@ equal false false t = refl
 pub digit-le : (b : Bool) → digit b ≤ 1
 digit-le true = lit≤ tt
 digit-le false = lit≤ tt
+
+pub digit-not : (b : Bool) → digit b + digit (not b) ≡ 1
+digit-not true = refl
+digit-not false = refl
 
 -- a conjunction of tests, taken apart and made
 pub and-left : (a b : Bool) → (a && b) ≡ true → a ≡ true

@@ -1,0 +1,11 @@
+use Rattle.words.proofs.Bits.{bit-zero}
+use Rattle.alu.specs.Status.{unpacked}
+use Rattle.alu.proofs.Status.unpack.Statement.{statement}
+use Rattle.alu.proofs.Status.unpack.Tie as tie
+
+returns : tie.Need-returns
+unfolding unpacked
+returns c = rw bit-zero
+
+pub unpack-spec : {M : Type 1} → statement M
+unpack-spec = tie.close (tie.spec returns)

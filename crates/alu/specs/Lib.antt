@@ -1,0 +1,4 @@
+pub mod Status
+pub mod Arithmetic
+pub mod Logic
+pub mod Shift

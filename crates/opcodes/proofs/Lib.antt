@@ -1,0 +1,3 @@
+pub mod Apart
+pub mod Unpack
+pub mod Laws
