@@ -1,0 +1,108 @@
+-- What follows from the definitions for every tape and memory: what a load leaves alone, and that a record's own digits may be
+-- passed in the search for the next record.
+use mathlib.Core.Path.{_≡_, refl, ap, _∙_}
+use mathlib.Core.Bool.{Bool, true, false, _&&_}
+use mathlib.Core.List.{List, [], _∷_}
+use Prim.Native.Nat.{ℕ, zero, suc, _+_, _≤_}
+use native.Mathlib.Omega.{arith}
+use native.Mathlib.Nat.{add-zero}
+use borrow.Author.Tests.{eq-eqb, ne-eqb, eqb-true}
+use lib.Dec.{eqb}
+use lib.ListN.{length, take, drop}
+use Rattle.words.specs.Lists.{allOf}
+use Rattle.words.proofs.Cond.{cond-both}
+use Rattle.tape.specs.declared.Loaded.{Loaded}
+use Rattle.tape.specs.Digits.{isDigit, bytesOf}
+use Rattle.tape.specs.Records.{mark, memorySpan, recordLength, countOf, addressOf, faultOf, dataOf}
+use Rattle.tape.specs.Tapes.{registerEnd, told, recordBy, checkFrom, checkOf, landed, storeFrom, Outcome, outcome, loadOf}
+use Rattle.tape.proofs.DigitLaws.{and-true}
+use Rattle.tape.proofs.RecordLaws.{good}
+use Rattle.tape.proofs.MemoryLaws.{length-puts, take-puts}
+
+-- what each landing keeps, the store of a tape keeps
+store-keeps : (P : List ℕ → Type 0) → ((text memory : List ℕ) → P memory → P (landed text memory)) → (tape memory : List ℕ) → P memory → P (storeFrom tape memory)
+unfolding storeFrom
+store-keeps P k [] memory p = p
+store-keeps P k (c ∷ text) memory p =
+    cond-both P (eqb c mark && eqb (countOf text) 0) _ _ (λ _. p)
+    (λ _. store-keeps P k text _ (cond-both P (eqb c mark) _ _ (λ _. k text memory p) (λ _. p)))
+
+module _ (tape memory : List ℕ) where
+  load-keeps : (P : List ℕ → Type 0) → ((text m : List ℕ) → P m → P (landed text m)) → P memory → P (loadOf tape memory .memory)
+  unfolding loadOf
+  load-keeps P k p =
+      cond-both (λ (o : Outcome). P (o .memory)) (eqb (length memory) memorySpan) _ _
+      (λ _. cond-both P (eqb (checkOf tape .number) 0) _ _ (λ _. store-keeps P k tape memory p) (λ _. p))
+      (λ _. p)
+
+  -- memory keeps its length
+  pub load-length : length (loadOf tape memory .memory) ≡ length memory
+  unfolding landed
+  load-length =
+      load-keeps (λ m. length m ≡ length memory) (λ text m e. length-puts registerEnd (addressOf text) (bytesOf (dataOf text)) m ∙ e) refl
+
+  -- the registers' bytes, 0 to 3Fh, are never touched
+  pub load-registers : take registerEnd (loadOf tape memory .memory) ≡ take registerEnd memory
+  unfolding landed
+  load-registers =
+      load-keeps (λ m. take registerEnd m ≡ take registerEnd memory)
+      (λ text m e. take-puts registerEnd (addressOf text) (bytesOf (dataOf text)) m ∙ e) refl
+
+  -- a memory of another length is 1, at place 0, whatever the tape
+  pub load-other-length : (length memory ≡ memorySpan → ⊥) → loadOf tape memory ≡ outcome (told 1 0) memory
+  unfolding loadOf
+  load-other-length h = rw (ne-eqb (length memory) memorySpan h)
+
+  module _ (right : length memory ≡ memorySpan) where
+    -- a refused tape leaves memory unchanged
+    pub load-refused : (checkOf tape .number ≡ 0 → ⊥) → loadOf tape memory ≡ outcome (checkOf tape) memory
+    unfolding loadOf
+    load-refused h = rw (eq-eqb (length memory) memorySpan right, ne-eqb (checkOf tape .number) 0 h)
+
+    pub load-accepted : (place : ℕ) → checkOf tape ≡ told 0 place → loadOf tape memory ≡ outcome (told 0 place) (storeFrom tape memory)
+    unfolding loadOf
+    load-accepted place e = rw (eq-eqb (length memory) memorySpan right, e)
+
+-- a digit is no `;`
+digit-unmarked : (c : ℕ) → isDigit c ≡ true → eqb c mark ≡ false
+unfolding isDigit
+digit-unmarked c h = ne-eqb c mark (λ e. let f = rw e at h in let z : _≡_ {A = ℕ} 0 1 = cc in omega arith)
+
+-- digits are skipped, by the check and by the store
+digits-stored : (n : ℕ) (text : List ℕ) → n ≤ length text → allOf isDigit (take n text) ≡ true
+    → (memory : List ℕ) → storeFrom text memory ≡ storeFrom (drop n text) memory
+unfolding storeFrom
+digits-stored zero text h d memory = refl
+digits-stored (suc n) [] h d memory = absurd (omega arith)
+digits-stored (suc n) (c ∷ text) h d memory =
+    let b = and-true (isDigit c) (allOf isDigit (take n text)) d in
+    rw (digit-unmarked c (b .0)) (digits-stored n text (omega arith) (b .1) memory)
+
+digits-past : (n : ℕ) (text : List ℕ) → n ≤ length text → allOf isDigit (take n text) ≡ true
+    → (place seen : ℕ) → checkFrom place seen text ≡ checkFrom (place + n) seen (drop n text)
+unfolding checkFrom
+digits-past zero text h d place seen = rw add-zero
+digits-past (suc n) [] h d place seen = absurd (omega arith)
+digits-past (suc n) (c ∷ text) h d place seen =
+    let b = and-true (isDigit c) (allOf isDigit (take n text)) d in
+    let e : place + suc n ≡ place + 1 + n = omega arith in
+    rw (digit-unmarked c (b .0), add-zero, e) (digits-past n text (omega arith) (b .1) (place + 1) seen)
+
+-- the tape goes on past a record's own digits: the search for the next `;` may start there or right behind this one
+pub check-past : (place n : ℕ) (text : List ℕ)
+    → recordBy place n text (checkFrom (place + 1) n text)
+    ≡ recordBy place n text (checkFrom (place + 1 + recordLength (countOf text)) n (drop (recordLength (countOf text)) text))
+unfolding recordBy
+check-past place n text = by-fault (eqb (faultOf text) 0) refl
+  where
+    next : Loaded
+    next = checkFrom (place + 1 + recordLength (countOf text)) n (drop (recordLength (countOf text)) text)
+
+    by-fault : (t : Bool) → eqb (faultOf text) 0 ≡ t → recordBy place n text (checkFrom (place + 1) n text) ≡ recordBy place n text next
+    by-fault true e =
+        let g = good text (eqb-true (faultOf text) 0 e) in
+        ap (recordBy place n text) (digits-past (recordLength (countOf text)) text (g .whole) (g .digits) (place + 1) n)
+    by-fault false e = rw e
+
+pub store-past : (text memory : List ℕ) → faultOf text ≡ 0 → storeFrom text memory ≡ storeFrom (drop (recordLength (countOf text)) text) memory
+store-past text memory e = let g = good text e in digits-stored (recordLength (countOf text)) text (g .whole) (g .digits) memory

@@ -1,0 +1,6 @@
+pub mod DigitLaws
+pub mod MemoryLaws
+pub mod RecordLaws
+pub mod TapeLaws
+pub mod Laws
+pub mod Examples

@@ -1,0 +1,20 @@
+use Rattle.tape.specs.Records.{countOf}
+use lib.ListN.{length, length-take}
+use mathlib.Core.Path.{ap}
+use native.Mathlib.Omega.{arith}
+use borrow.Author.Needs.{needs}
+use Rattle.tape.proofs.record.count.Statement.{statement}
+use Rattle.tape.proofs.record.count.Tie as tie
+
+part-requires : tie.Need-part-requires
+part-requires c κs = search needs
+
+number-requires : tie.Need-number-requires
+number-requires c κs = omega (arith, simp length-take at (ap length (c .part .ensures)))
+
+returns : tie.Need-returns
+unfolding countOf
+returns c = rw (c .number .ensures, c .before .part .ensures)
+
+pub count-spec : {M : Type 1} → statement M
+count-spec = tie.close (tie.spec part-requires number-requires returns)

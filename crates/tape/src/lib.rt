@@ -1,0 +1,116 @@
+// A paper tape loaded into memory.
+mod digits;
+mod memory;
+mod record;
+
+use memory::MEMORY_SPAN;
+use memory::land;
+use record::address;
+use record::count;
+use record::data_digits;
+use record::fault;
+ghost use mathlib.Core.Path.{_≡_};
+ghost use Prim.Native.Nat.{_+_, _<_, _^_};
+ghost use lib.ListN.{length};
+ghost use Rattle.tape.specs.Records.{memorySpan, dataAt};
+ghost use Rattle.tape.specs.Tapes.{endedBy, checkOf, storeFrom, outcome, loadOf};
+
+// Begins a record.
+const MARK: u8 = b';';
+
+// What a load hands back: 0 and the place past the last record, or the number of a refusal and the place of the fault.
+pub struct Loaded {
+    pub number: u8,
+    pub place: usize,
+}
+
+// The digits of a record's data, as a part of the tape, of the record whose `;` stands at `place`; none where no good record
+// stands there.
+pub fn record_data(tape: &[u8], place: usize) -> &[u8]
+    ensures { λ r. ⌜ now r ≡ dataAt (now (tape .entry)) place ⌝ }
+{
+    if tape.len() <= place {
+        return &tape[0..0];
+    }
+    if tape[place] != MARK {
+        return &tape[0..0];
+    }
+    let from = place + 1;
+    data_digits(&tape[from..])
+}
+
+// The last record, the n-th, whose `;` stands at `place`.
+fn ended(text: &[u8], place: usize, n: usize) -> Loaded
+    requires { ⌜ place + 11 < 2 ^ 64 ⌝ }
+    ensures { λ r. ⌜ r ≡ endedBy place n (now (text .entry)) ⌝ }
+{
+    if address(text) == n {
+        return Loaded {
+            number: 0,
+            place: place + 11,
+        };
+    }
+    Loaded { number: 10, place }
+}
+
+// The first fault of a tape, or 0 and the place past its last record.
+fn check(tape: &[u8]) -> Loaded
+    ensures { λ r. ⌜ r ≡ checkOf (now (tape .entry)) ⌝ }
+{
+    let mut place = 0;
+    let mut seen = 0;
+    while place < tape.len() {
+        if tape[place] == MARK {
+            let from = place + 1;
+            let text = &tape[from..];
+            let number = fault(text);
+            if number != 0 {
+                return Loaded { number, place };
+            }
+            if count(text) == 0 {
+                return ended(text, place, seen + 1);
+            }
+            seen += 1;
+        }
+        place += 1;
+    }
+    Loaded { number: 10, place }
+}
+
+// The bytes of an accepted tape into memory, up to its last record.
+fn store(tape: &[u8], memory: &mut [u8])
+    requires { ⌜ length (now memory) ≡ memorySpan ⌝ }
+    ensures { λ _. ⌜ now (memory .exit) ≡ storeFrom (now (tape .entry)) (now (memory .entry)) ⌝ }
+{
+    let mut place = 0;
+    while place < tape.len() {
+        if tape[place] == MARK {
+            let from = place + 1;
+            let text = &tape[from..];
+            if count(text) == 0 {
+                return;
+            }
+            let a = address(text);
+            land(memory, a, record_data(tape, place));
+        }
+        place += 1;
+    }
+}
+
+// A tape into memory: the whole tape is checked first, so that a refused one writes nothing.
+pub fn load(tape: &[u8], memory: &mut [u8]) -> Loaded
+    ensures { λ r. ⌜ outcome r (now (memory .exit)) ≡ loadOf (now (tape .entry)) (now (memory .entry)) ⌝ }
+{
+    if memory.len() != MEMORY_SPAN {
+        return Loaded {
+            number: 1,
+            place: 0,
+        };
+    }
+    let checked = check(tape);
+    if checked.number != 0 {
+        return checked;
+    }
+    store(tape, memory);
+    checked
+}
