@@ -52,9 +52,13 @@ nmiDue due before after = record { reset = due .reset; nmi = due .nmi || (before
 -- the edges noticed; "Last levels become these levels."
 unfoldable pub noticed : State → Levels → State
 noticed s now = record {
-    cpu = s .cpu; due = nmiDue (s .due) (s .last) now;
-    peripherals = flagged (s .peripherals) (edges (s .peripherals .control .ifr) (s .last .ports) (now .ports));
-    external = s .external; last = now; clock = s .clock }
+  cpu = s .cpu;
+  due = nmiDue (s .due) (s .last) now;
+  peripherals = flagged (s .peripherals) (edges (s .peripherals .control .ifr) (s .last .ports) (now .ports));
+  external = s .external;
+  last = now;
+  clock = s .clock;
+}
 
 abbrev pub atWait : Cpu → ℕ → Cpu
 atWait c w = record { a = c .a; x = c .x; y = c .y; sp = c .sp; p = c .p; pc = c .pc; wait = w }
@@ -62,14 +66,25 @@ atWait c w = record { a = c .a; x = c .x; y = c .y; sp = c .sp; p = c .p; pc = c
 -- "the fresh values of port latches, MCR, SCCR, SCSR, IER, IFR and serial progress"
 abbrev pub resetPeripherals : Peripherals → Peripherals
 resetPeripherals p = record {
-    ports = freshPorts; countera = p .countera; counterb = p .counterb; control = freshControl; serial = p .serial;
-    transmitter = idleTransmitter; receiver = idleReceiver }
+  ports = freshPorts;
+  countera = p .countera;
+  counterb = p .counterb;
+  control = freshControl;
+  serial = p .serial;
+  transmitter = idleTransmitter;
+  receiver = idleReceiver;
+}
 
 -- "RES low puts the fresh values ..., drops NMI due, sets wait to 0 and makes reset due."
 unfoldable pub resetOf : State → State
 resetOf s = record {
-    cpu = atWait (s .cpu) 0; due = record { reset = true; nmi = false }; peripherals = resetPeripherals (s .peripherals);
-    external = s .external; last = s .last; clock = s .clock }
+  cpu = atWait (s .cpu) 0;
+  due = record { reset = true; nmi = false };
+  peripherals = resetPeripherals (s .peripherals);
+  external = s .external;
+  last = s .last;
+  clock = s .clock;
+}
 
 -- "Compared with last levels: ..; Then RES low .."
 unfoldable pub settled : State → Levels → State

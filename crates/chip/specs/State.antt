@@ -36,13 +36,14 @@ freshControl = record { ifr = 0; ier = 0; mcr = 0; sccr = 0; scsr = 0x40 }
 -- "counters, latches FFFFh; .. turn C; .. serial data and progress 0"
 abbrev pub freshPeripherals : Peripherals
 freshPeripherals = record {
-    ports = freshPorts;
-    countera = record { count = 0xFFFF; latch = 0xFFFF };
-    counterb = record { count = 0xFFFF; latchb = 0xFFFF; latchc = 0xFFFF; turnc = true };
-    control = freshControl;
-    serial = record { sent = 0; received = 0 };
-    transmitter = idleTransmitter;
-    receiver = idleReceiver }
+  ports = freshPorts;
+  countera = record { count = 0xFFFF; latch = 0xFFFF };
+  counterb = record { count = 0xFFFF; latchb = 0xFFFF; latchc = 0xFFFF; turnc = true };
+  control = freshControl;
+  serial = record { sent = 0; received = 0 };
+  transmitter = idleTransmitter;
+  receiver = idleReceiver;
+}
 
 -- "all levels 1"
 abbrev pub freshLevels : Levels
@@ -51,8 +52,13 @@ freshLevels = record { ports = 0xFFFFFFFF; nmi = true; res = true }
 -- "clock 0"
 unfoldable pub fresh : State
 fresh = record {
-    cpu = freshCpu; due = freshDue; peripherals = freshPeripherals;
-    external = freshLevels; last = freshLevels; clock = 0 }
+  cpu = freshCpu;
+  due = freshDue;
+  peripherals = freshPeripherals;
+  external = freshLevels;
+  last = freshLevels;
+  clock = 0;
+}
 
 -- "wait (0 to 6)"; "Bits 4 and 5 of P are 0"
 abbrev pub cpuFits : Cpu → Bool

@@ -3,7 +3,6 @@ ghost use mathlib.Core.Path.{_≡_};
 ghost use Prim.Native.Nat.{_<_};
 ghost use Rattle.words.specs.Bits.{withBit};
 ghost use Rattle.chip.specs.Inputs.{codeRight, withInput};
-
 use crate::state::Levels;
 
 // The weight of the code's level.

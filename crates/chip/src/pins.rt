@@ -3,17 +3,17 @@ ghost use mathlib.Core.Path.{_≡_};
 ghost use Prim.Native.Nat.{_<_};
 ghost use Rattle.chip.specs.State.{freshControl};
 ghost use Rattle.chip.specs.Pins.{driveA, driveD, wordOf, drivenWord, levelsOf, rose, fell, edges, resetPeripherals, resetOf, noticed, sensed};
-
-use serial::receiver::idle_receiver;
-use serial::transmitter::idle_transmitter;
 use crate::state::Control;
 use crate::state::Levels;
 use crate::state::Peripherals;
 use crate::state::State;
 use crate::state::fresh_ports;
+use serial::receiver::idle_receiver;
+use serial::transmitter::idle_transmitter;
 
 // SCCR7, while which PA6 is the transmitter's line; MCR5, while which port D is an output. By weight.
 const TRANSMITTER_ON: u8 = 128;
+
 const PORT_D_OUTPUT: u8 = 32;
 
 // Four ports as a word.
@@ -59,7 +59,13 @@ impl Peripherals {
         ensures { λ r. ⌜ r ≡ resetPeripherals self ⌝ }
     {
         let ports = fresh_ports();
-        let control = Control { ifr: 0, ier: 0, mcr: 0, sccr: 0, scsr: 64 };
+        let control = Control {
+            ifr: 0,
+            ier: 0,
+            mcr: 0,
+            sccr: 0,
+            scsr: 64,
+        };
         let transmitter = idle_transmitter();
         let receiver = idle_receiver();
         self.ports = ports;
@@ -106,7 +112,11 @@ impl State {
         ensures { λ r. ⌜ r ≡ levelsOf self ⌝ }
     {
         let driven = self.peripherals.driven_word();
-        Levels { ports: driven & self.external.ports, nmi: self.external.nmi, res: self.external.res }
+        Levels {
+            ports: driven & self.external.ports,
+            nmi: self.external.nmi,
+            res: self.external.res,
+        }
     }
 
     // The edges noticed, and the levels kept.

@@ -2,18 +2,23 @@
 ghost use mathlib.Core.Path.{_≡_};
 ghost use Rattle.chip.specs.Registers.{receiverFlag, transmitterFlag, flagsOf, modeA, modeB};
 ghost use Rattle.chip.specs.Read.{levelByte, portLatch, portValue, controlValue, counterValue, registerValue, afterRead, readOf};
-
 use crate::state::Control;
 use crate::state::Peripherals;
 use crate::state::Ports;
 
 // The bits of SCSR, by weight: receiver full and its errors, end of transmission, transmitter empty, under-run.
 const FULL: u8 = 1;
+
 const OVERRUN: u8 = 2;
+
 const PARITY: u8 = 4;
+
 const FRAMING: u8 = 8;
+
 const END: u8 = 32;
+
 const EMPTY: u8 = 64;
+
 const UNDERRUN: u8 = 128;
 
 // The value read, and what the read leaves.
@@ -70,7 +75,10 @@ impl Ports {
 fn receiver_flag(scsr: u8) -> bool
     ensures { λ r. ⌜ r ≡ receiverFlag scsr ⌝ }
 {
-    (scsr / FULL % 2 == 1) | (scsr / OVERRUN % 2 == 1) | (scsr / PARITY % 2 == 1) | (scsr / FRAMING % 2 == 1)
+    (scsr / FULL % 2 == 1)
+        | (scsr / OVERRUN % 2 == 1)
+        | (scsr / PARITY % 2 == 1)
+        | (scsr / FRAMING % 2 == 1)
 }
 
 // IFR7.
@@ -177,6 +185,9 @@ impl Peripherals {
     pub fn read(self, levels: u32, latch: bool, address: u8) -> Reading
         ensures { λ r. ⌜ r ≡ readOf self levels latch address ⌝ }
     {
-        Reading { value: self.value(levels, latch, address), peripherals: self.after_read(address) }
+        Reading {
+            value: self.value(levels, latch, address),
+            peripherals: self.after_read(address),
+        }
     }
 }

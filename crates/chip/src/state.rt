@@ -1,7 +1,6 @@
 // The machine state (document 01, "Machine state"): nested structs by value.
 ghost use mathlib.Core.Path.{_≡_};
 ghost use Rattle.chip.specs.State.{freshCpu, freshPorts, freshPeripherals, freshLevels, fresh, cpuFits, peripheralsFit, wellFormed};
-
 use counters::a::CounterA;
 use counters::b::CounterB;
 use serial::receiver::Receiver;
@@ -88,14 +87,27 @@ pub struct State {
 fn fresh_cpu() -> Cpu
     ensures { λ r. ⌜ r ≡ freshCpu ⌝ }
 {
-    Cpu { a: 0, x: 0, y: 0, sp: 255, p: 4, pc: 0, wait: 0 }
+    Cpu {
+        a: 0,
+        x: 0,
+        y: 0,
+        sp: 255,
+        p: 4,
+        pc: 0,
+        wait: 0,
+    }
 }
 
 // The port latches at a reset.
 pub fn fresh_ports() -> Ports
     ensures { λ r. ⌜ r ≡ freshPorts ⌝ }
 {
-    Ports { a: 255, b: 255, c: 255, d: 255 }
+    Ports {
+        a: 255,
+        b: 255,
+        c: 255,
+        d: 255,
+    }
 }
 
 fn fresh_peripherals() -> Peripherals
@@ -103,10 +115,27 @@ fn fresh_peripherals() -> Peripherals
 {
     Peripherals {
         ports: fresh_ports(),
-        countera: CounterA { count: 65535, latch: 65535 },
-        counterb: CounterB { count: 65535, latchb: 65535, latchc: 65535, turnc: true },
-        control: Control { ifr: 0, ier: 0, mcr: 0, sccr: 0, scsr: 64 },
-        serial: SerialData { sent: 0, received: 0 },
+        countera: CounterA {
+            count: 65535,
+            latch: 65535,
+        },
+        counterb: CounterB {
+            count: 65535,
+            latchb: 65535,
+            latchc: 65535,
+            turnc: true,
+        },
+        control: Control {
+            ifr: 0,
+            ier: 0,
+            mcr: 0,
+            sccr: 0,
+            scsr: 64,
+        },
+        serial: SerialData {
+            sent: 0,
+            received: 0,
+        },
         transmitter: idle_transmitter(),
         receiver: idle_receiver(),
     }
@@ -115,7 +144,11 @@ fn fresh_peripherals() -> Peripherals
 fn fresh_levels() -> Levels
     ensures { λ r. ⌜ r ≡ freshLevels ⌝ }
 {
-    Levels { ports: 4294967295, nmi: true, res: true }
+    Levels {
+        ports: 4294967295,
+        nmi: true,
+        res: true,
+    }
 }
 
 // A chip that has not run yet.
@@ -124,7 +157,10 @@ pub fn fresh_state() -> State
 {
     State {
         cpu: fresh_cpu(),
-        due: Due { reset: true, nmi: false },
+        due: Due {
+            reset: true,
+            nmi: false,
+        },
         peripherals: fresh_peripherals(),
         external: fresh_levels(),
         last: fresh_levels(),

@@ -2,12 +2,11 @@
 ghost use mathlib.Core.Path.{_≡_};
 ghost use Rattle.chip.specs.Registers.{modeA, modeB};
 ghost use Rattle.chip.specs.Write.{writePort, clearFlags, modeOf, entering, writeMcr, zeroed, writeSccr, writeScsr, writeData, writeControl, startA, writeCounterA, startB, writeCounterB, writeOf};
-
-use counters::time::in_force;
-use serial::format::holds_counter;
 use crate::state::Control;
 use crate::state::Peripherals;
 use crate::state::Ports;
+use counters::time::in_force;
+use serial::format::holds_counter;
 
 impl Ports {
     // A port's latch written.

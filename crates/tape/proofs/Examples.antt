@@ -6,7 +6,8 @@ use Prim.Native.Char.{code}
 use Prim.Native.String.{String, [], _∷_}
 use lib.ListN.{length, set}
 use Rattle.tape.specs.Digits.{isDigit, valueOf, numberFrom, byteOf, bytesOf, totalOf}
-use Rattle.tape.specs.Records.{memorySpan, countOf, addressOf, sumOf, checkSumOf, areDigits, malformed, faultOf, dataOf}
+use Rattle.tape.specs.Records.{countOf, addressOf, sumOf, checkSumOf, areDigits, malformed, faultOf, dataOf}
+use Rattle.words.specs.Memory.{memorySpan}
 use Rattle.tape.specs.Tapes.{told, endedBy, recordBy, checkFrom, checkOf, putFrom, landed, storeFrom, outcome, loadOf}
 use Rattle.tape.proofs.Laws.{load-accepted}
 

@@ -13,8 +13,10 @@ use Rattle.words.specs.Lists.{allOf}
 use Rattle.words.proofs.Cond.{cond-both}
 use Rattle.tape.specs.declared.Loaded.{Loaded}
 use Rattle.tape.specs.Digits.{isDigit, bytesOf}
-use Rattle.tape.specs.Records.{mark, memorySpan, recordLength, countOf, addressOf, faultOf, dataOf}
-use Rattle.tape.specs.Tapes.{registerEnd, told, recordBy, checkFrom, checkOf, landed, storeFrom, Outcome, outcome, loadOf}
+use Rattle.tape.specs.Records.{mark, recordLength, countOf, addressOf, faultOf, dataOf}
+use Rattle.words.specs.Memory.{memorySpan}
+use Rattle.tape.specs.Tapes.{told, recordBy, checkFrom, checkOf, landed, storeFrom, Outcome, outcome, loadOf}
+use Rattle.words.specs.Memory.{registerEnd}
 use Rattle.tape.proofs.DigitLaws.{and-true}
 use Rattle.tape.proofs.RecordLaws.{good}
 use Rattle.tape.proofs.MemoryLaws.{length-puts, take-puts}

@@ -10,7 +10,8 @@ use lib.ListN.{length, take, drop, length-take}
 use Rattle.words.specs.Lists.{allOf}
 use Rattle.words.proofs.Cond.{cond-both}
 use Rattle.tape.specs.Digits.{isDigit}
-use Rattle.tape.specs.Records.{mostBytes, memorySpan, headLength, recordLength, countOf, addressOf, sumOf, checkSumOf, areDigits, malformed, faultOf, dataOf}
+use Rattle.tape.specs.Records.{mostBytes, headLength, recordLength, countOf, addressOf, sumOf, checkSumOf, areDigits, malformed, faultOf, dataOf}
+use Rattle.words.specs.Memory.{memorySpan}
 use Rattle.tape.proofs.DigitLaws.{and-true, number-byte, number-word}
 
 or-false : (a b : Bool) → a || b ≡ false → (a ≡ false) × (b ≡ false)

@@ -14,8 +14,10 @@ use Rattle.tape.specs.declared.Loaded.{Loaded}
 use Rattle.tape.specs.Digits.{bytesOf}
 use Rattle.words.specs.Bits.{digit}
 use Rattle.words.proofs.Cond.{cond-both}
-use Rattle.tape.specs.Records.{mark, memorySpan, countOf, addressOf, faultOf, dataOf, dataAt}
-use Rattle.tape.specs.Tapes.{registerEnd, told, endedBy, recordBy, checkFrom, putFrom, landed, storeFrom}
+use Rattle.tape.specs.Records.{mark, countOf, addressOf, faultOf, dataOf, dataAt}
+use Rattle.words.specs.Memory.{memorySpan}
+use Rattle.tape.specs.Tapes.{told, endedBy, recordBy, checkFrom, putFrom, landed, storeFrom}
+use Rattle.words.specs.Memory.{registerEnd}
 use Rattle.tape.proofs.RecordLaws.{address-most, data-room}
 
 -- a part to the end, as it is lent

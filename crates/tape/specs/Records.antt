@@ -6,6 +6,7 @@ use Prim.Native.Nat.{ℕ, _+_, _*_, _%_}
 use lib.Dec.{ltb, leb, eqb}
 use lib.ListN.{length, getD, take, drop}
 use Rattle.words.specs.Lists.{allOf}
+use Rattle.words.specs.Memory.{memorySpan}
 use Rattle.tape.specs.Digits.{isDigit, numberOf, bytesOf, totalOf}
 
 -- `;`
@@ -15,10 +16,6 @@ mark = 59
 -- the most data bytes of a record
 abbrev pub mostBytes : ℕ
 mostBytes = 0x18
-
--- the bytes of memory
-abbrev pub memorySpan : ℕ
-memorySpan = 65536
 
 -- the digits of count and address
 abbrev pub headLength : ℕ

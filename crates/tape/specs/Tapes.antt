@@ -5,13 +5,10 @@ use Prim.Native.Nat.{ℕ, _+_}
 use lib.Dec.{ltb, eqb}
 use lib.ListN.{length, set}
 use Rattle.words.specs.Bits.{digit}
+use Rattle.words.specs.Memory.{memorySpan, registerEnd}
 use Rattle.tape.specs.declared.Loaded.{Loaded}
 use Rattle.tape.specs.Digits.{bytesOf}
-use Rattle.tape.specs.Records.{mark, memorySpan, countOf, addressOf, faultOf, dataOf}
-
--- memory's bytes below this are the registers
-abbrev pub registerEnd : ℕ
-registerEnd = 0x40
+use Rattle.tape.specs.Records.{mark, countOf, addressOf, faultOf, dataOf}
 
 -- a number of "What is handed back", and a place: the index of a record's `;`, the tape's length, or the place past it
 abbrev pub told : ℕ → ℕ → Loaded

@@ -12,7 +12,8 @@ use record::fault;
 ghost use mathlib.Core.Path.{_≡_};
 ghost use Prim.Native.Nat.{_+_, _<_, _^_};
 ghost use lib.ListN.{length};
-ghost use Rattle.tape.specs.Records.{memorySpan, dataAt};
+ghost use Rattle.tape.specs.Records.{dataAt};
+ghost use Rattle.words.specs.Memory.{memorySpan};
 ghost use Rattle.tape.specs.Tapes.{endedBy, checkOf, storeFrom, outcome, loadOf};
 
 // Begins a record.

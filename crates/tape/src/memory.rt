@@ -6,7 +6,8 @@ ghost use lib.ListN.{length, set};
 ghost use mathlib.Core.Bool.{cond};
 ghost use lib.Dec.{ltb};
 ghost use Rattle.tape.specs.Digits.{bytesOf};
-ghost use Rattle.tape.specs.Tapes.{registerEnd, putFrom};
+ghost use Rattle.tape.specs.Tapes.{putFrom};
+ghost use Rattle.words.specs.Memory.{registerEnd};
 
 // The bytes of memory; those below `REGISTER_END` are the registers.
 pub const MEMORY_SPAN: usize = 65536;

@@ -18,7 +18,7 @@ parts k x =
     let s : q ≡ q / 2 + q / 2 + q % 2 = omega arith in
     let d = div-add-mod' x (2 ^ k) in
     let m : q * 2 ^ k ≡ q / 2 * 2 ^ k + q / 2 * 2 ^ k + q % 2 * 2 ^ k =
-        ap (λ n. n * 2 ^ k) s ∙ add-mul (q / 2 + q / 2) (q % 2) (2 ^ k) ∙ ap (λ n. n + q % 2 * 2 ^ k) (add-mul (q / 2) (q / 2) (2 ^ k)) in
+    ap (λ n. n * 2 ^ k) s ∙ add-mul (q / 2 + q / 2) (q % 2) (2 ^ k) ∙ ap (λ n. n + q % 2 * 2 ^ k) (add-mul (q / 2) (q / 2) (2 ^ k)) in
     omega (arith, d, m)
 
 -- the weight of a bit that is set is in the number
@@ -32,7 +32,7 @@ bit-room n k x h l =
     let m = 2 ^ (n - k - 1) in
     let e : n ≡ k + suc (n - k - 1) = omega arith in
     let p : 2 ^ n ≡ (m + m) * w =
-        ap (λ j. 2 ^ j) e ∙ pow-add 2 k (suc (n - k - 1)) ∙ ap (λ j. w * j) (pow-suc 2 (n - k - 1) ∙ omega arith) ∙ mul-comm w (m + m) in
+    ap (λ j. 2 ^ j) e ∙ pow-add 2 k (suc (n - k - 1)) ∙ ap (λ j. w * j) (pow-suc 2 (n - k - 1) ∙ omega arith) ∙ mul-comm w (m + m) in
     let q : x / w < m + m = div-lt-iff-lt-mul (pow-pos k) .1 (subst (λ j. x < j) p l) in
     let u : (x / w / 2 + 1) * w ≤ m * w = mul-le-mul-right w (omega arith) in
     let v : (x / w / 2 + 1) * w ≡ x / w / 2 * w + 1 * w = add-mul (x / w / 2) 1 w in

@@ -43,11 +43,7 @@ pub fn with_bit32(x: u32, k: u32, on: bool) -> u32
 {
     let weight: u32 = 1 << k;
     let cleared = x - (x >> k) % 2 * weight;
-    if on {
-        cleared + weight
-    } else {
-        cleared
-    }
+    if on { cleared + weight } else { cleared }
 }
 
 // A byte with bit k set where told.
