@@ -13,7 +13,7 @@ use Rattle.words.proofs.Bits.{bit-room}
 use Rattle.counters.specs.Counters.{lowerA, upperA, loadA, lowerB, upperB, copyB, loadB, turnToC}
 use Rattle.serial.specs.Transmitter.{transmitterFits, transmitterUnder}
 use Rattle.serial.specs.Receiver.{receiverFits, receiverUnder}
-use Rattle.serial.proofs.Ranges.{under-fits, receiver-under-fits}
+use Rattle.serial.proofs.Ranges.{transmitter-under-fits, receiver-under-fits}
 use Rattle.chip.specs.declared.state.Control.{Control}
 use Rattle.chip.specs.declared.state.Peripherals.{Peripherals}
 use Rattle.chip.specs.declared.state.Levels.{Levels}
@@ -74,7 +74,7 @@ control-in p at v i =
     (λ _. cond-both InPeripherals (eqb at 0x12) (withControl p (withIer (p .control) v)) _ (λ _. same-in p _ refl refl refl i)
     (λ _. cond-both InPeripherals (eqb at 0x14) (writeMcr p v) _ (λ _. same-in p _ refl refl refl i)
     (λ _. cond-both InPeripherals (eqb at 0x15) (writeSccr p v) _
-    (λ _. record { ifr = i .ifr; transmitter = under-fits v (p .transmitter) (i .transmitter); receiver = receiver-under-fits v (p .receiver) (i .receiver) })
+    (λ _. record { ifr = i .ifr; transmitter = transmitter-under-fits v (p .transmitter) (i .transmitter); receiver = receiver-under-fits v (p .receiver) (i .receiver) })
     (λ _. cond-both InPeripherals (eqb at 0x16) (writeScsr p v) _ (λ _. same-in p _ refl refl refl i)
     (λ _. cond-both InPeripherals (eqb at 0x17) (writeData p v) p (λ _. same-in p _ refl refl refl i) (λ _. i))))))
 

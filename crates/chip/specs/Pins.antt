@@ -16,7 +16,7 @@ use Rattle.chip.specs.State.{freshPorts, freshControl, flagged}
 unfoldable pub driveA : Peripherals → ℕ
 driveA p = cond (bit 7 (p .control .sccr)) (withBit 6 (line (p .control .sccr) (p .transmitter)) (p .ports .a)) (p .ports .a)
 
--- "and port D counts as FFh while MCR makes it an input"; "MCR5: port D output"
+-- "and port D counts as FFh while MCR makes it an input"; Registers, "MCR5: port D output"
 unfoldable pub driveD : Peripherals → ℕ
 driveD p = cond (bit 5 (p .control .mcr)) (p .ports .d) 0xFF
 
@@ -24,7 +24,7 @@ driveD p = cond (bit 5 (p .control .mcr)) (p .ports .d) 0xFF
 abbrev pub wordOf : ℕ → ℕ → ℕ → ℕ → ℕ
 wordOf a b c d = a + b * 0x100 + c * 0x10000 + d * 0x1000000
 
--- "driven word"
+-- the driven word, of which "one record follows each clock after which the word differs"
 unfoldable pub drivenWord : Peripherals → ℕ
 drivenWord p = wordOf (driveA p) (p .ports .b) (p .ports .c) (driveD p)
 
@@ -86,10 +86,10 @@ resetOf s = record {
   clock = s .clock;
 }
 
--- "Compared with last levels: ..; Then RES low .."
+-- "Compared with last levels: .. Then RES low puts .."
 unfoldable pub settled : State → Levels → State
 settled s now = cond (now .res) (noticed s now) (resetOf (noticed s now))
 
--- step 1 once the inputs have set the external levels
+-- step 1 once "Clock plus 1" is done and the inputs have set the external levels
 unfoldable pub sensed : State → State
 sensed s = settled s (levelsOf s)

@@ -24,7 +24,7 @@ portLatch p at = cond (eqb at 0) (p .a) (cond (eqb at 1) (p .b) (cond (eqb at 2)
 unfoldable pub portValue : Ports → ℕ → Bool → ℕ → ℕ
 portValue p levels latch at = cond latch (portLatch p at) (levelByte levels at)
 
--- "IFR reads at 11h; IER 12h, MCR 14h, SCCR 15h"; "SCSR (16h)"; "Data 17h"; "10h reads FFh"; "unassigned registers read FFh"
+-- "IFR reads at 11h; IER 12h, MCR 14h, SCCR 15h"; "SCSR (16h)"; "Data 17h"; "10h reads FFh"; Machine state, "unassigned registers read FFh"
 unfoldable pub controlValue : Peripherals → ℕ → ℕ
 controlValue p at =
     cond (eqb at 0x11) (flagsOf (p .control))

@@ -49,7 +49,7 @@ freshPeripherals = record {
 abbrev pub freshLevels : Levels
 freshLevels = record { ports = 0xFFFFFFFF; nmi = true; res = true }
 
--- "clock 0"
+-- "Fresh", with "clock 0"
 unfoldable pub fresh : State
 fresh = record {
   cpu = freshCpu;
@@ -68,7 +68,8 @@ cpuFits c = eqb (c .p / 16 % 4) 0 && leb (c .wait) 6
 abbrev pub peripheralsFit : Peripherals → Bool
 peripheralsFit p = ltb (p .control .ifr) 64 && transmitterFits (p .transmitter) && receiverFits (p .receiver)
 
--- "Well-formed: every field is within its range here." Fields of 8, 16 and 32 bits, flags and levels are so by their types.
+-- "Well-formed: every field is within its range here." In code, fields of 8, 16 and 32 bits, flags and levels are so by their
+-- types; a theorem over states as such takes those widths as its premise.
 unfoldable pub wellFormed : State → Bool
 wellFormed s = cpuFits (s .cpu) && peripheralsFit (s .peripherals)
 
@@ -91,8 +92,8 @@ withSent p x = record { ports = p .ports; countera = p .countera; counterb = p .
 abbrev pub withProgress : Peripherals → Transmitter → Receiver → Peripherals
 withProgress p t r = record { ports = p .ports; countera = p .countera; counterb = p .counterb; control = p .control; serial = p .serial; transmitter = t; receiver = r }
 
-abbrev pub portA : Ports → ℕ → Ports
-portA p v = record { a = v; b = p .b; c = p .c; d = p .d }
+abbrev pub withPortA : Ports → ℕ → Ports
+withPortA p v = record { a = v; b = p .b; c = p .c; d = p .d }
 
 abbrev pub withIfr : Control → ℕ → Control
 withIfr c v = record { ifr = v; ier = c .ier; mcr = c .mcr; sccr = c .sccr; scsr = c .scsr }
@@ -108,4 +109,4 @@ abbrev pub statused : Peripherals → ℕ → Peripherals
 statused p v = withControl p (withScsr (p .control) v)
 
 abbrev pub latchedA : Peripherals → ℕ → Peripherals
-latchedA p v = withPorts p (portA (p .ports) v)
+latchedA p v = withPorts p (withPortA (p .ports) v)

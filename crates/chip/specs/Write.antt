@@ -10,13 +10,13 @@ use Rattle.serial.specs.Receiver.{receiverUnder}
 use Rattle.chip.specs.declared.state.Ports.{Ports}
 use Rattle.chip.specs.declared.state.Control.{Control}
 use Rattle.chip.specs.declared.state.Peripherals.{Peripherals}
-use Rattle.chip.specs.State.{withPorts, withCounterA, withCounterB, withControl, withSent, withProgress, portA, flagged, statused, latchedA}
+use Rattle.chip.specs.State.{withPorts, withCounterA, withCounterB, withControl, withSent, withProgress, withPortA, flagged, statused, latchedA}
 use Rattle.chip.specs.Registers.{modeA, modeB}
 
 -- "Ports 00h to 03h: .. write latches"
 unfoldable pub writePort : Ports → ℕ → ℕ → Ports
 writePort p at v =
-    cond (eqb at 0) (portA p v)
+    cond (eqb at 0) (withPortA p v)
     (cond (eqb at 1) (record { a = p .a; b = v; c = p .c; d = p .d })
     (cond (eqb at 2) (record { a = p .a; b = p .b; c = v; d = p .d })
     (record { a = p .a; b = p .b; c = p .c; d = v })))
@@ -35,12 +35,12 @@ abbrev pub withSccr : Control → ℕ → Control
 withSccr c v = record { ifr = c .ifr; ier = c .ier; mcr = c .mcr; sccr = v; scsr = c .scsr }
 
 -- A's mode in force
-abbrev pub modeOf : Control → ℕ
-modeOf c = modeA (c .mcr) (c .sccr)
+abbrev pub modeInForce : Control → ℕ
+modeInForce c = modeA (c .mcr) (c .sccr)
 
 -- 001, 6.1.2: "The CA output is initialized high when entering the mode": pulse mode is in force and was not before
 unfoldable pub entering : Peripherals → Control → Peripherals
-entering p c = latchedA (withControl p c) (setWhere 4 (eqb (modeOf c) 1 && not (eqb (modeOf (p .control)) 1)) (p .ports .a))
+entering p c = latchedA (withControl p c) (setWhere 4 (eqb (modeInForce c) 1 && not (eqb (modeInForce (p .control)) 1)) (p .ports .a))
 
 abbrev pub writeMcr : Peripherals → ℕ → Peripherals
 writeMcr p v = entering p (withMcr (p .control) v)
@@ -73,7 +73,7 @@ writeControl p at v =
 unfoldable pub startA : Peripherals → ℕ → Peripherals
 startA p v =
     latchedA (flagged (withCounterA p (loadA (upperA (p .countera) v))) (withBit 4 false (p .control .ifr)))
-    (flipWhere 4 (eqb (modeOf (p .control)) 1) (p .ports .a))
+    (flipWhere 4 (eqb (modeInForce (p .control)) 1) (p .ports .a))
 
 -- 001, 6.1: 18h the lower latch, 19h the upper latch
 unfoldable pub writeCounterA : Peripherals → ℕ → ℕ → Peripherals
@@ -100,7 +100,7 @@ writeCounterB p at v =
     (cond (eqb at 0x1D) (withCounterB p (copyB (upperB (p .counterb) v)))
     (cond (eqb at 0x1E) (startB p v) p))
 
--- a write; unassigned registers "ignore writes"
+-- a write; Machine state, "unassigned registers .. ignore writes"
 unfoldable pub writeOf : Peripherals → ℕ → ℕ → Peripherals
 writeOf p at v =
     cond (ltb at 0x04) (withPorts p (writePort (p .ports) at v))

@@ -1,7 +1,6 @@
 // Input codes: the pin and its new external level.
 ghost use mathlib.Core.Path.{_≡_};
 ghost use Prim.Native.Nat.{_<_};
-ghost use Rattle.words.specs.Bits.{withBit};
 ghost use Rattle.chip.specs.Inputs.{codeRight, withInput};
 use crate::state::Levels;
 

@@ -3,7 +3,7 @@
 // The machine state.
 pub mod state;
 
-// The parts beside the CPU: drive, levels, edges, RES low.
+// Drive, levels, edges, RES low.
 pub mod pins;
 
 // Input codes.

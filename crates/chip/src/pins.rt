@@ -1,18 +1,17 @@
 // What the chip drives, the pins' levels and their edges, and RES low.
 ghost use mathlib.Core.Path.{_≡_};
 ghost use Prim.Native.Nat.{_<_};
-ghost use Rattle.chip.specs.State.{freshControl};
 ghost use Rattle.chip.specs.Pins.{driveA, driveD, wordOf, drivenWord, levelsOf, rose, fell, edges, resetPeripherals, resetOf, noticed, sensed};
-use crate::state::Control;
 use crate::state::Levels;
 use crate::state::Peripherals;
 use crate::state::State;
+use crate::state::fresh_control;
 use crate::state::fresh_ports;
+use serial::format::transmitter_on;
 use serial::receiver::idle_receiver;
 use serial::transmitter::idle_transmitter;
 
-// SCCR7, while which PA6 is the transmitter's line; MCR5, while which port D is an output. By weight.
-const TRANSMITTER_ON: u8 = 128;
+// MCR5, which makes port D an output, by weight.
 
 const PORT_D_OUTPUT: u8 = 32;
 
@@ -28,7 +27,7 @@ impl Peripherals {
     fn drive_a(self) -> u8
         ensures { λ r. ⌜ r ≡ driveA self ⌝ }
     {
-        if self.control.sccr / TRANSMITTER_ON % 2 == 1 {
+        if transmitter_on(self.control.sccr) {
             let high = self.transmitter.line_level(self.control.sccr);
             return words::with_bit(self.ports.a, 6, high);
         }
@@ -59,13 +58,7 @@ impl Peripherals {
         ensures { λ r. ⌜ r ≡ resetPeripherals self ⌝ }
     {
         let ports = fresh_ports();
-        let control = Control {
-            ifr: 0,
-            ier: 0,
-            mcr: 0,
-            sccr: 0,
-            scsr: 64,
-        };
+        let control = fresh_control();
         let transmitter = idle_transmitter();
         let receiver = idle_receiver();
         self.ports = ports;
@@ -143,7 +136,7 @@ impl State {
         self
     }
 
-    // Step 1 of a clock, once the inputs have set the external levels.
+    // Step 1 of a clock, once it is counted and its inputs have set the external levels.
     pub fn sense(mut self) -> State
         ensures { λ r. ⌜ r ≡ sensed self ⌝ }
     {

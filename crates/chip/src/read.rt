@@ -1,6 +1,6 @@
 // Reads of the registers at 00h to 3Fh.
 ghost use mathlib.Core.Path.{_≡_};
-ghost use Rattle.chip.specs.Registers.{receiverFlag, transmitterFlag, flagsOf, modeA, modeB};
+ghost use Rattle.chip.specs.Registers.{receiverFlag, transmitterFlag, flagsOf};
 ghost use Rattle.chip.specs.Read.{levelByte, portLatch, portValue, controlValue, counterValue, registerValue, afterRead, readOf};
 use crate::state::Control;
 use crate::state::Peripherals;

@@ -1,6 +1,6 @@
 // The machine state (document 01, "Machine state"): nested structs by value.
 ghost use mathlib.Core.Path.{_≡_};
-ghost use Rattle.chip.specs.State.{freshCpu, freshPorts, freshPeripherals, freshLevels, fresh, cpuFits, peripheralsFit, wellFormed};
+ghost use Rattle.chip.specs.State.{freshCpu, freshPorts, freshControl, freshPeripherals, freshLevels, fresh, wellFormed};
 use counters::a::CounterA;
 use counters::b::CounterB;
 use serial::receiver::Receiver;
@@ -110,6 +110,13 @@ pub fn fresh_ports() -> Ports
     }
 }
 
+// The control registers at a reset.
+pub fn fresh_control() -> Control
+    ensures { λ r. ⌜ r ≡ freshControl ⌝ }
+{
+    Control { ifr: 0, ier: 0, mcr: 0, sccr: 0, scsr: 64 }
+}
+
 fn fresh_peripherals() -> Peripherals
     ensures { λ r. ⌜ r ≡ freshPeripherals ⌝ }
 {
@@ -125,13 +132,7 @@ fn fresh_peripherals() -> Peripherals
             latchc: 65535,
             turnc: true,
         },
-        control: Control {
-            ifr: 0,
-            ier: 0,
-            mcr: 0,
-            sccr: 0,
-            scsr: 64,
-        },
+        control: fresh_control(),
         serial: SerialData {
             sent: 0,
             received: 0,

@@ -1,7 +1,7 @@
 // Writes of the registers at 00h to 3Fh.
 ghost use mathlib.Core.Path.{_≡_};
-ghost use Rattle.chip.specs.Registers.{modeA, modeB};
-ghost use Rattle.chip.specs.Write.{writePort, clearFlags, modeOf, entering, writeMcr, zeroed, writeSccr, writeScsr, writeData, writeControl, startA, writeCounterA, startB, writeCounterB, writeOf};
+ghost use Rattle.chip.specs.Registers.{modeB};
+ghost use Rattle.chip.specs.Write.{writePort, modeInForce, entering, writeMcr, zeroed, writeSccr, writeScsr, writeData, writeControl, startA, writeCounterA, startB, writeCounterB, writeOf};
 use crate::state::Control;
 use crate::state::Peripherals;
 use crate::state::Ports;
@@ -33,7 +33,7 @@ impl Ports {
 impl Control {
     // Counter A's mode in force.
     pub fn mode_a(self) -> u8
-        ensures { λ r. ⌜ r ≡ modeOf self ⌝ }
+        ensures { λ r. ⌜ r ≡ modeInForce self ⌝ }
     {
         in_force(holds_counter(self.sccr), self.mcr % 4)
     }

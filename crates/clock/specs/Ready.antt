@@ -9,8 +9,8 @@ use Rattle.counters.specs.declared.b.CountedB.{CountedB}
 use Rattle.counters.specs.Counters.{clockA, clockB, toggles, ticksOf}
 use Rattle.serial.specs.declared.transmitter.Sending.{Sending}
 use Rattle.serial.specs.declared.receiver.Receiving.{Receiving}
-use Rattle.serial.specs.Transmitter.{sent}
-use Rattle.serial.specs.Receiver.{heard}
+use Rattle.serial.specs.Transmitter.{transmitterClock}
+use Rattle.serial.specs.Receiver.{receiverClock}
 use Rattle.chip.specs.declared.state.Peripherals.{Peripherals}
 use Rattle.chip.specs.declared.state.Levels.{Levels}
 use Rattle.chip.specs.declared.state.State.{State}
@@ -61,7 +61,7 @@ afterSending p x = record {
     serial = p .serial; transmitter = x .transmitter; receiver = p .receiver }
 
 unfoldable pub sentBy : Peripherals → Ticks → Peripherals
-sentBy p ticks = afterSending p (sent (p .transmitter) ticks (p .control .sccr) (p .control .scsr) (p .serial .sent))
+sentBy p ticks = afterSending p (transmitterClock (p .transmitter) ticks (p .control .sccr) (p .control .scsr) (p .serial .sent))
 
 abbrev pub afterReceiving : Peripherals → Receiving → Peripherals
 afterReceiving p x = record {
@@ -70,7 +70,7 @@ afterReceiving p x = record {
 
 unfoldable pub heardBy : Peripherals → Ticks → ℕ → Peripherals
 heardBy p ticks now =
-    afterReceiving p (heard (p .receiver) ticks (p .control .sccr) (p .control .scsr) (p .serial .received) (bit 7 now))
+    afterReceiving p (receiverClock (p .receiver) ticks (p .control .sccr) (p .control .scsr) (p .serial .received) (bit 7 now))
 
 -- "Counter A, then B."; "Serial, at each underflow of A; that is a tick."
 abbrev pub afterCountA : Counted → ℕ → ℕ → Peripherals

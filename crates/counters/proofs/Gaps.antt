@@ -1,14 +1,15 @@
--- A gap passed: one clock without a rise and without an underflow is a gap of one, and gaps add up.
+-- Laws of single clocks and gaps: one clock without a rise and without an underflow is a gap of one, and gaps add up.
 use mathlib.Core.Path.{_≡_, refl, ap, _∙_, sym}
 use mathlib.Core.Bool.{Bool, true, false, not, cond}
 use Prim.Native.Nat.{ℕ, zero, suc, _+_, _-_, _≤_, _<_}
 use native.Mathlib.Omega.{arith}
 use lib.Dec.{ltb, eqb}
 use borrow.Author.Tests.{ne-eqb, eqb-true, le-ltb}
+use Rattle.words.proofs.Cond.{digit-le}
 use Rattle.counters.specs.declared.time.Clocks.{Clocks}
 use Rattle.counters.specs.declared.a.CounterA.{CounterA}
 use Rattle.counters.specs.declared.b.CounterB.{CounterB}
-use Rattle.counters.specs.Counters.{clockA, countsA, downA, runsA, passA, countedA, clockB, downB, runsB, passB, countedB}
+use Rattle.counters.specs.Counters.{clockA, countsA, downA, runsA, passA, countedA, clockB, downB, reloadB, runsB, passB, countedB, atB, ticksOf}
 
 abbrev pub clocks : ℕ → Clocks
 clocks n = record { 0 = n }
@@ -56,3 +57,13 @@ pub pass-add-b : (c : CounterB) (running : Bool) (m n : ℕ) → passB (passB c 
 unfolding passB
 pass-add-b c true m n = let e : c .count - m - n ≡ c .count - (m + n) = omega arith in rw e
 pass-add-b c false m n = refl
+
+-- 01, One clock, 3: a clock has one tick at most
+pub ticks-le : (underflow : Bool) → ticksOf underflow .0 ≤ 1
+unfolding ticksOf
+ticks-le underflow = digit-le underflow
+
+-- 01, Joints: "PA5 rise and underflow on one clock counted as both": a rise in mode 11 reloads from latch B and is no underflow
+pub rise-reloads : (c : CounterB) → clockB c 3 true ≡ countedB (atB c (c .latchb) (c .turnc)) false
+unfolding clockB reloadB
+rise-reloads c = refl

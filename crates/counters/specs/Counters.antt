@@ -32,16 +32,17 @@ atA c n = record { count = n; latch = c .latch }
 unfoldable pub downA : CounterA → CountedA
 downA c = cond (eqb (c .count) 0) (countedA (atA c (c .latch)) true) (countedA (atA c (c .count - 1)) false)
 
--- "00 interval, a count each clock; 01 pulse, as 00; 10 a count at each rise of PA4; 11 for A a count each clock with PA4 low"
+-- "00 interval, a count each clock; 01 pulse, as 00, ..; 10 a count at each rise of PA4 or PA5; 11 for A a count each clock with
+-- PA4 low"
 unfoldable pub countsA : ℕ → Bool → Bool → Bool
-countsA mode rise low = cond (ltb mode 2) true (cond (eqb mode 2) rise low)
+countsA mode rise isLow = cond (ltb mode 2) true (cond (eqb mode 2) rise isLow)
 
 unfoldable pub clockA : CounterA → ℕ → Bool → Bool → CountedA
-clockA c mode rise low = cond (countsA mode rise low) (downA c) (countedA c false)
+clockA c mode rise isLow = cond (countsA mode rise isLow) (downA c) (countedA c false)
 
 -- 01, Run and leaps: "each counter that counts in all of it": in a gap no pin changes, so there is no rise
 unfoldable pub runsA : ℕ → Bool → Bool
-runsA mode low = countsA mode false low
+runsA mode isLow = countsA mode false isLow
 
 -- "the gap passed: .. each counter that counts in all of it minus gap"
 unfoldable pub passA : CounterA → Bool → Clocks → CounterA

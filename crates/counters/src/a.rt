@@ -1,4 +1,4 @@
-// A counter with one latch: counter A, and the R6500/1's counter.
+// A counter with one latch: counter A.
 ghost use mathlib.Core.Path.{_≡_};
 ghost use Rattle.counters.specs.Counters.{downA, countsA, clockA, runsA, passA, lowerA, upperA, loadA};
 use crate::time::Clocks;

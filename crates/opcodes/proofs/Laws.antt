@@ -28,11 +28,12 @@ timesListed o (r ∷ rs) = cond (eqb o (r .opcode)) 1 0 + timesListed o rs
 onceAt : ℕ → Bool
 onceAt o = eqb (timesListed o rows) (defined (decodeOf o))
 
--- no row is shadowed: a defined opcode has one row, an undefined one none, and there is no row besides
+-- no row is shadowed: a defined opcode has one row, an undefined one none
 pub listed-once : (o : ℕ) → o < 256 → timesListed o rows ≡ defined (decodeOf o)
 unfolding onceAt decodeOf
 listed-once o h = eqb→eq (timesListed o rows) (defined (decodeOf o)) (below onceAt 256 tt o h)
 
+-- and there is no row besides, for an opcode above 255
 pub rows-183 : length rows ≡ 183
 rows-183 = refl
 

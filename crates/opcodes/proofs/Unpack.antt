@@ -9,7 +9,7 @@ use lib.ListN.{getD, length}
 use Rattle.words.specs.Lists.{tabulate}
 use Rattle.words.proofs.Tables.{getD-tabulate}
 use Rattle.opcodes.specs.Decode.{decodeOf}
-use Rattle.opcodes.specs.Table.{opcodeTable, packed, operationOf, modeOf}
+use Rattle.opcodes.specs.Table.{opcodeTable, entryNumber, operationOf, modeOf}
 use Rattle.opcodes.specs.declared.Decoded.{Decoded}
 use Rattle.opcodes.specs.declared.Decoded.the-variants.{Undefined, Defined}
 
@@ -18,21 +18,21 @@ pub same-at : {A : Type 0} (f g : ℕ → A) (n k : ℕ) → tabulate f n 0 ≡ 
 same-at f g n k e h = rw (zero-add k) at (sym (getD-tabulate f n 0 k (f k) h) ∙ ap (λ l. getD l k (f k)) e ∙ getD-tabulate g n 0 k (f k) h)
 
 -- the table's number e of opcode o, taken apart as the code does
-abbrev pub unpacked : ℕ → ℕ → Decoded
-unpacked o e =
+abbrev pub entryOf : ℕ → ℕ → Decoded
+entryOf o e =
     cond (eqb e 0) Undefined
     (Defined (record { operation = operationOf (e / 256) (o / 16 % 8); mode = modeOf (e / 16 % 16); length = e % 16 }))
 
-unpacked-packed : tabulate (λ o. unpacked o (packed (decodeOf o))) 256 0 ≡ tabulate decodeOf 256 0
+numbers-decode : tabulate (λ o. entryOf o (entryNumber (decodeOf o))) 256 0 ≡ tabulate decodeOf 256 0
 unfolding decodeOf
-unpacked-packed = refl
+numbers-decode = refl
 
 pub table-length : length opcodeTable ≡ 256
 unfolding opcodeTable
 table-length = refl
 
-pub table-decodes : (o : ℕ) → o < 256 → unpacked o (getD opcodeTable o 0) ≡ decodeOf o
+pub table-decodes : (o : ℕ) → o < 256 → entryOf o (getD opcodeTable o 0) ≡ decodeOf o
 unfolding opcodeTable
 table-decodes o h =
-    ap (unpacked o) (getD-tabulate (λ k. packed (decodeOf k)) 256 0 o 0 h ∙ ap (λ k. packed (decodeOf k)) (zero-add o))
-    ∙ same-at (λ k. unpacked k (packed (decodeOf k))) decodeOf 256 o unpacked-packed h
+    ap (entryOf o) (getD-tabulate (λ k. entryNumber (decodeOf k)) 256 0 o 0 h ∙ ap (λ k. entryNumber (decodeOf k)) (zero-add o))
+    ∙ same-at (λ k. entryOf k (entryNumber (decodeOf k))) decodeOf 256 o numbers-decode h

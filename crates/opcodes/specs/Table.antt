@@ -12,7 +12,7 @@ use Rattle.opcodes.specs.declared.Operation.the-variants.{Adc, And, Asl,
 use Rattle.opcodes.specs.declared.Mode.{Mode}
 use Rattle.opcodes.specs.declared.Mode.the-variants.{Implied, Accumulator, Immediate, ZeroPage, ZeroPageX, ZeroPageY, Absolute, AbsoluteX, AbsoluteY, IndexedIndirect, IndirectIndexed, Indirect, Relative, ZeroPageRelative}
 
--- the number of an operation, in the order of the mnemonics
+-- the number of an operation: the 6502's in the order of their mnemonics, then the bit instructions
 abbrev pub operationNumber : Operation → ℕ
 operationNumber Adc = 0
 operationNumber And = 1
@@ -92,12 +92,12 @@ modeNumber Relative = 12
 modeNumber ZeroPageRelative = 13
 
 -- an entry as a number, 0 where the opcode has none
-abbrev pub packed : Decoded → ℕ
-packed Undefined = 0
-packed (Defined e) = operationNumber (e .operation) * 256 + modeNumber (e .mode) * 16 + e .length
+abbrev pub entryNumber : Decoded → ℕ
+entryNumber Undefined = 0
+entryNumber (Defined e) = operationNumber (e .operation) * 256 + modeNumber (e .mode) * 16 + e .length
 
 unfoldable pub opcodeTable : List ℕ
-opcodeTable = tabulate (λ o. packed (decodeOf o)) 256 0
+opcodeTable = tabulate (λ o. entryNumber (decodeOf o)) 256 0
 
 -- the way back: the operations but the last in the order of their numbers, where the opcode names bit m
 abbrev pub operationsWith : ℕ → List Operation

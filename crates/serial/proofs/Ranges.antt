@@ -18,9 +18,9 @@ use Rattle.serial.specs.declared.transmitter.Transmitter.{Transmitter}
 use Rattle.serial.specs.declared.transmitter.Sending.{Sending}
 use Rattle.serial.specs.declared.receiver.Receiver.{Receiver}
 use Rattle.serial.specs.declared.receiver.Receiving.{Receiving}
-use Rattle.serial.specs.Format.{sends, receives, width, hasParity, frameBits}
-use Rattle.serial.specs.Transmitter.{transmitterFits, sending, framed, taken, idleTick, frameEnd, bitTick, sendTick, sent, raised, shiftedDown, transmitterUnder, idleTransmitter}
-use Rattle.serial.specs.Receiver.{receiverFits, receiving, atSub, atHalf, started, shiftedIn, hunted, judged, gathered, looked, receiveTick, heard, receiverUnder, idleReceiver}
+use Rattle.serial.specs.Format.{transmitterMoves, receiverMoves, width, hasParity, frameBits}
+use Rattle.serial.specs.Transmitter.{transmitterFits, sending, framed, taken, idleTick, frameEnd, bitTick, sendTick, transmitterClock, raised, shiftedDown, transmitterUnder, idleTransmitter}
+use Rattle.serial.specs.Receiver.{receiverFits, receiving, atSub, atHalf, started, shiftedIn, hunted, judged, gathered, looked, receiveTick, receiverClock, receiverUnder, idleReceiver}
 use Rattle.serial.proofs.Frames.{frame-length}
 
 -- the ranges as facts
@@ -39,8 +39,8 @@ in-transmitter t e = record {
 pub fits-transmitter : (t : Transmitter) → InTransmitter t → transmitterFits t ≡ true
 fits-transmitter t i = and-both _ _ (and-both _ _ (le-leb _ _ (i .left)) (le-leb _ _ (i .phase))) (lt-ltb _ _ (i .register))
 
-abbrev Sends : Sending → Type 0
-Sends s = InTransmitter (s .transmitter)
+abbrev SendingIn : Sending → Type 0
+SendingIn s = InTransmitter (s .transmitter)
 
 framed-in : (sccr byte : ℕ) → InTransmitter (framed sccr byte)
 unfolding framed
@@ -50,42 +50,42 @@ framed-in sccr byte =
     let p : 2 ^ length (frameBits sccr byte) ≤ 2 ^ 12 = pow-mono {i = length (frameBits sccr byte)} {j = 12} (omega arith) in
     record { left = omega arith; phase = omega arith; register = lt-of-lt-of-le n p }
 
-taken-in : (sccr scsr byte : ℕ) → Sends (taken sccr scsr byte)
+taken-in : (sccr scsr byte : ℕ) → SendingIn (taken sccr scsr byte)
 unfolding taken
 taken-in sccr scsr byte = framed-in sccr byte
 
-idle-in : (t : Transmitter) (sccr scsr byte : ℕ) → InTransmitter t → Sends (idleTick t sccr scsr byte)
+idle-in : (t : Transmitter) (sccr scsr byte : ℕ) → InTransmitter t → SendingIn (idleTick t sccr scsr byte)
 unfolding idleTick
-idle-in t sccr scsr byte i = cond-both Sends (bit 6 scsr) (sending t scsr) (taken sccr scsr byte) (λ _. i) (λ _. taken-in sccr scsr byte)
+idle-in t sccr scsr byte i = cond-both SendingIn (bit 6 scsr) (sending t scsr) (taken sccr scsr byte) (λ _. i) (λ _. taken-in sccr scsr byte)
 
-end-in : (t : Transmitter) (sccr scsr byte : ℕ) → InTransmitter t → Sends (frameEnd t sccr scsr byte)
+end-in : (t : Transmitter) (sccr scsr byte : ℕ) → InTransmitter t → SendingIn (frameEnd t sccr scsr byte)
 unfolding frameEnd
-end-in t sccr scsr byte i = cond-both Sends (bit 6 scsr) (sending t (withBit 7 true scsr)) (taken sccr scsr byte) (λ _. i) (λ _. taken-in sccr scsr byte)
+end-in t sccr scsr byte i = cond-both SendingIn (bit 6 scsr) (sending t (withBit 7 true scsr)) (taken sccr scsr byte) (λ _. i) (λ _. taken-in sccr scsr byte)
 
-bit-in : (t : Transmitter) (sccr scsr byte : ℕ) → InTransmitter t → Sends (bitTick t sccr scsr byte)
+bit-in : (t : Transmitter) (sccr scsr byte : ℕ) → InTransmitter t → SendingIn (bitTick t sccr scsr byte)
 unfolding bitTick
 bit-in t sccr scsr byte i =
-    cond-both Sends (ltb (t .phase) 15) (sending (raised t) scsr) (cond (eqb (t .left - 1) 0) (frameEnd (shiftedDown t) sccr scsr byte) (sending (shiftedDown t) scsr))
+    cond-both SendingIn (ltb (t .phase) 15) (sending (raised t) scsr) (cond (eqb (t .left - 1) 0) (frameEnd (shiftedDown t) sccr scsr byte) (sending (shiftedDown t) scsr))
     (λ e. let h = ltb-true (t .phase) 15 e in record { left = i .left; phase = omega arith; register = i .register })
-    (λ _. cond-both Sends (eqb (t .left - 1) 0) (frameEnd (shiftedDown t) sccr scsr byte) (sending (shiftedDown t) scsr)
+    (λ _. cond-both SendingIn (eqb (t .left - 1) 0) (frameEnd (shiftedDown t) sccr scsr byte) (sending (shiftedDown t) scsr)
     (λ _. end-in (shiftedDown t) sccr scsr byte down) (λ _. down))
   where
     down : InTransmitter (shiftedDown t)
     down = let l = i .left in let r = i .register in record { left = omega arith; phase = omega arith; register = omega arith }
 
-tick-in : (t : Transmitter) (sccr scsr byte : ℕ) → InTransmitter t → Sends (sendTick t sccr scsr byte)
+tick-in : (t : Transmitter) (sccr scsr byte : ℕ) → InTransmitter t → SendingIn (sendTick t sccr scsr byte)
 unfolding sendTick
-tick-in t sccr scsr byte i = cond-both Sends (eqb (t .left) 0) (idleTick t sccr scsr byte) (bitTick t sccr scsr byte) (λ _. idle-in t sccr scsr byte i) (λ _. bit-in t sccr scsr byte i)
+tick-in t sccr scsr byte i = cond-both SendingIn (eqb (t .left) 0) (idleTick t sccr scsr byte) (bitTick t sccr scsr byte) (λ _. idle-in t sccr scsr byte i) (λ _. bit-in t sccr scsr byte i)
 
-pub sent-fits : (t : Transmitter) (ticks : Ticks) (sccr scsr byte : ℕ) → transmitterFits t ≡ true → transmitterFits (sent t ticks sccr scsr byte .transmitter) ≡ true
-unfolding sent
-sent-fits t ticks sccr scsr byte e =
-    fits-transmitter _ (cond-both Sends (not (eqb (ticks .0) 0) && sends sccr) (sendTick t sccr scsr byte) (sending t scsr)
+pub transmitter-clock-fits : (t : Transmitter) (ticks : Ticks) (sccr scsr byte : ℕ) → transmitterFits t ≡ true → transmitterFits (transmitterClock t ticks sccr scsr byte .transmitter) ≡ true
+unfolding transmitterClock
+transmitter-clock-fits t ticks sccr scsr byte e =
+    fits-transmitter _ (cond-both SendingIn (not (eqb (ticks .0) 0) && transmitterMoves sccr) (sendTick t sccr scsr byte) (sending t scsr)
     (λ _. tick-in t sccr scsr byte (in-transmitter t e)) (λ _. in-transmitter t e))
 
-pub under-fits : (sccr : ℕ) (t : Transmitter) → transmitterFits t ≡ true → transmitterFits (transmitterUnder sccr t) ≡ true
+pub transmitter-under-fits : (sccr : ℕ) (t : Transmitter) → transmitterFits t ≡ true → transmitterFits (transmitterUnder sccr t) ≡ true
 unfolding transmitterUnder
-under-fits sccr t e = cond-both (λ (u : Transmitter). transmitterFits u ≡ true) (sends sccr) t idleTransmitter (λ _. e) (λ _. refl)
+transmitter-under-fits sccr t e = cond-both (λ (u : Transmitter). transmitterFits u ≡ true) (transmitterMoves sccr) t idleTransmitter (λ _. e) (λ _. refl)
 
 pub record InReceiver (r : Receiver) : Type 0 where
   pub subinterval : r .subinterval ≤ 7
@@ -102,8 +102,8 @@ in-receiver r e = record {
 pub fits-receiver : (r : Receiver) → InReceiver r → receiverFits r ≡ true
 fits-receiver r i = and-both _ _ (and-both _ _ (le-leb _ _ (i .subinterval)) (le-leb _ _ (i .left))) (lt-ltb _ _ (i .register))
 
-abbrev Hears : Receiving → Type 0
-Hears s = InReceiver (s .receiver)
+abbrev ReceivingIn : Receiving → Type 0
+ReceivingIn s = InReceiver (s .receiver)
 
 hunted-in : (r : Receiver) (sccr : ℕ) (high : Bool) → InReceiver r → InReceiver (hunted r sccr high)
 unfolding hunted
@@ -119,37 +119,37 @@ shifted-in r high i =
     let l = i .left in let g = i .register in let d = digit-le high in
     record { subinterval = omega arith; left = omega arith; register = omega arith }
 
-gathered-in : (r : Receiver) (sccr scsr received : ℕ) (high : Bool) → InReceiver r → Hears (gathered r sccr scsr received high)
+gathered-in : (r : Receiver) (sccr scsr received : ℕ) (high : Bool) → InReceiver r → ReceivingIn (gathered r sccr scsr received high)
 unfolding gathered judged
 gathered-in r sccr scsr received high i =
-    cond-both Hears (ltb (r .subinterval) 7) (receiving (atSub r (r .subinterval + 1)) scsr received)
+    cond-both ReceivingIn (ltb (r .subinterval) 7) (receiving (atSub r (r .subinterval + 1)) scsr received)
     (cond (eqb (r .left - 1) 0) (judged (shiftedIn r high) sccr scsr received) (receiving (shiftedIn r high) scsr received))
     (λ e. let h = ltb-true (r .subinterval) 7 e in record { subinterval = omega arith; left = i .left; register = i .register })
-    (λ _. cond-both Hears (eqb (r .left - 1) 0) (judged (shiftedIn r high) sccr scsr received) (receiving (shiftedIn r high) scsr received)
+    (λ _. cond-both ReceivingIn (eqb (r .left - 1) 0) (judged (shiftedIn r high) sccr scsr received) (receiving (shiftedIn r high) scsr received)
     (λ _. shifted-in r high i) (λ _. shifted-in r high i))
 
-looked-in : (r : Receiver) (sccr scsr received : ℕ) (high : Bool) → InReceiver r → Hears (looked r sccr scsr received high)
+looked-in : (r : Receiver) (sccr scsr received : ℕ) (high : Bool) → InReceiver r → ReceivingIn (looked r sccr scsr received high)
 unfolding looked
 looked-in r sccr scsr received high i =
-    cond-both Hears (eqb (r .left) 0) (receiving (hunted r sccr high) scsr received) (gathered r sccr scsr received high)
+    cond-both ReceivingIn (eqb (r .left) 0) (receiving (hunted r sccr high) scsr received) (gathered r sccr scsr received high)
     (λ _. hunted-in r sccr high i) (λ _. gathered-in r sccr scsr received high i)
 
 half-in : (r : Receiver) (h : Bool) → InReceiver r → InReceiver (atHalf r h)
 half-in r h i = record { subinterval = i .subinterval; left = i .left; register = i .register }
 
-hear-in : (r : Receiver) (sccr scsr received : ℕ) (high : Bool) → InReceiver r → Hears (receiveTick r sccr scsr received high)
+hear-in : (r : Receiver) (sccr scsr received : ℕ) (high : Bool) → InReceiver r → ReceivingIn (receiveTick r sccr scsr received high)
 unfolding receiveTick
 hear-in r sccr scsr received high i =
-    cond-both Hears (r .half) (looked (atHalf r false) sccr scsr received high) (receiving (atHalf r true) scsr received)
+    cond-both ReceivingIn (r .half) (looked (atHalf r false) sccr scsr received high) (receiving (atHalf r true) scsr received)
     (λ _. looked-in (atHalf r false) sccr scsr received high (half-in r false i)) (λ _. half-in r true i)
 
-pub heard-fits : (r : Receiver) (ticks : Ticks) (sccr scsr received : ℕ) (high : Bool) → receiverFits r ≡ true
-    → receiverFits (heard r ticks sccr scsr received high .receiver) ≡ true
-unfolding heard
-heard-fits r ticks sccr scsr received high e =
-    fits-receiver _ (cond-both Hears (not (eqb (ticks .0) 0) && receives sccr) (receiveTick r sccr scsr received high) (receiving r scsr received)
+pub receiver-clock-fits : (r : Receiver) (ticks : Ticks) (sccr scsr received : ℕ) (high : Bool) → receiverFits r ≡ true
+    → receiverFits (receiverClock r ticks sccr scsr received high .receiver) ≡ true
+unfolding receiverClock
+receiver-clock-fits r ticks sccr scsr received high e =
+    fits-receiver _ (cond-both ReceivingIn (not (eqb (ticks .0) 0) && receiverMoves sccr) (receiveTick r sccr scsr received high) (receiving r scsr received)
     (λ _. hear-in r sccr scsr received high (in-receiver r e)) (λ _. in-receiver r e))
 
 pub receiver-under-fits : (sccr : ℕ) (r : Receiver) → receiverFits r ≡ true → receiverFits (receiverUnder sccr r) ≡ true
 unfolding receiverUnder
-receiver-under-fits sccr r e = cond-both (λ (u : Receiver). receiverFits u ≡ true) (receives sccr) r idleReceiver (λ _. e) (λ _. refl)
+receiver-under-fits sccr r e = cond-both (λ (u : Receiver). receiverFits u ≡ true) (receiverMoves sccr) r idleReceiver (λ _. e) (λ _. refl)

@@ -13,15 +13,15 @@ abbrev pub receiverShifts : ℕ → Bool
 receiverShifts sccr = not (bit 5 sccr) && bit 4 sccr
 
 -- "Transmitter (SCCR7)", "Receiver (SCCR6)"; "A half in shift-register mode idles."
-unfoldable pub sends : ℕ → Bool
-sends sccr = bit 7 sccr && not (transmitterShifts sccr)
+unfoldable pub transmitterMoves : ℕ → Bool
+transmitterMoves sccr = bit 7 sccr && not (transmitterShifts sccr)
 
-unfoldable pub receives : ℕ → Bool
-receives sccr = bit 6 sccr && not (receiverShifts sccr)
+unfoldable pub receiverMoves : ℕ → Bool
+receiverMoves sccr = bit 6 sccr && not (receiverShifts sccr)
 
 -- 01, One clock, 2: "SCCR7, or SCCR6 with an asynchronous receiver, holds A to mode 00."
 unfoldable pub holdsA : ℕ → Bool
-holdsA sccr = bit 7 sccr || receives sccr
+holdsA sccr = bit 7 sccr || receiverMoves sccr
 
 -- "SCCR3, SCCR2 00 to 11: 8, 7, 6, 5 bits; SCCR1 parity, SCCR0 even"
 abbrev pub width : ℕ → ℕ

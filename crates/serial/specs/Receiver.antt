@@ -6,7 +6,7 @@ use Rattle.words.specs.Bits.{bit, digit, setWhere}
 use Rattle.counters.specs.declared.time.Ticks.{Ticks}
 use Rattle.serial.specs.declared.receiver.Receiver.{Receiver}
 use Rattle.serial.specs.declared.receiver.Receiving.{Receiving}
-use Rattle.serial.specs.Format.{receives, width, hasParity, parityBit, dataBits}
+use Rattle.serial.specs.Format.{receiverMoves, width, hasParity, parityBit, dataBits}
 
 abbrev pub receiving : Receiver → ℕ → ℕ → Receiving
 receiving r scsr received = record { receiver = r; scsr = scsr; received = received }
@@ -78,13 +78,13 @@ receiveTick r sccr scsr received high =
     cond (r .half) (looked (atHalf r false) sccr scsr received high) (receiving (atHalf r true) scsr received)
 
 -- 01, One clock, 3, for the receiver: the ticks of a clock are none or one
-unfoldable pub heard : Receiver → Ticks → ℕ → ℕ → ℕ → Bool → Receiving
-heard r ticks sccr scsr received high =
-    cond (not (eqb (ticks .0) 0) && receives sccr) (receiveTick r sccr scsr received high) (receiving r scsr received)
+unfoldable pub receiverClock : Receiver → Ticks → ℕ → ℕ → ℕ → Bool → Receiving
+receiverClock r ticks sccr scsr received high =
+    cond (not (eqb (ticks .0) 0) && receiverMoves sccr) (receiveTick r sccr scsr received high) (receiving r scsr received)
 
 -- "Writing SCCR zeroes the progress of each half that the new value has off or in shift-register mode."
 unfoldable pub receiverUnder : ℕ → Receiver → Receiver
-receiverUnder sccr r = cond (receives sccr) r idleReceiver
+receiverUnder sccr r = cond (receiverMoves sccr) r idleReceiver
 
 -- 01, Machine state: "receiver sub-interval (0 to 7), half (0 or 1), bits left (0 to 11), register (11 bits)"; half is a flag
 abbrev pub receiverFits : Receiver → Bool

@@ -8,7 +8,7 @@ use Rattle.words.specs.Lists.{number}
 use Rattle.counters.specs.declared.time.Ticks.{Ticks}
 use Rattle.serial.specs.declared.transmitter.Transmitter.{Transmitter}
 use Rattle.serial.specs.declared.transmitter.Sending.{Sending}
-use Rattle.serial.specs.Format.{sends, frameBits}
+use Rattle.serial.specs.Format.{transmitterMoves, frameBits}
 
 abbrev pub sending : Transmitter → ℕ → Sending
 sending t scsr = record { transmitter = t; scsr = scsr }
@@ -51,16 +51,16 @@ unfoldable pub sendTick : Transmitter → ℕ → ℕ → ℕ → Sending
 sendTick t sccr scsr byte = cond (eqb (t .left) 0) (idleTick t sccr scsr byte) (bitTick t sccr scsr byte)
 
 -- 01, One clock, 3, for the transmitter: the ticks of a clock are none or one
-unfoldable pub sent : Transmitter → Ticks → ℕ → ℕ → ℕ → Sending
-sent t ticks sccr scsr byte = cond (not (eqb (ticks .0) 0) && sends sccr) (sendTick t sccr scsr byte) (sending t scsr)
+unfoldable pub transmitterClock : Transmitter → Ticks → ℕ → ℕ → ℕ → Sending
+transmitterClock t ticks sccr scsr byte = cond (not (eqb (ticks .0) 0) && transmitterMoves sccr) (sendTick t sccr scsr byte) (sending t scsr)
 
--- "the transmitter's line (high when idle)": "While bits are left, bit 0 is the line"; "A half in shift-register mode idles."
+-- 01, Pin lists, "the transmitter's line (high when idle)": "While bits are left, bit 0 is the line"; "A half in shift-register mode idles."
 unfoldable pub line : ℕ → Transmitter → Bool
-line sccr t = not (sends sccr) || eqb (t .left) 0 || bit 0 (t .register)
+line sccr t = not (transmitterMoves sccr) || eqb (t .left) 0 || bit 0 (t .register)
 
 -- "Writing SCCR zeroes the progress of each half that the new value has off or in shift-register mode."
 unfoldable pub transmitterUnder : ℕ → Transmitter → Transmitter
-transmitterUnder sccr t = cond (sends sccr) t idleTransmitter
+transmitterUnder sccr t = cond (transmitterMoves sccr) t idleTransmitter
 
 -- 01, Machine state: "transmitter bits left (0 to 12), phase (0 to 15), register (12 bits)"
 abbrev pub transmitterFits : Transmitter → Bool

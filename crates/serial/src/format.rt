@@ -2,9 +2,9 @@
 ghost use mathlib.Core.Path.{_≡_};
 ghost use Prim.Native.Nat.{ℕ, _^_, _%_, _-_};
 ghost use lib.ListN.{length};
-ghost use Rattle.words.specs.Bits.{digit};
+ghost use Rattle.words.specs.Bits.{bit, digit};
 ghost use Rattle.words.specs.Lists.{bitsOf, oddOnes, number};
-ghost use Rattle.serial.specs.Format.{sends, receives, holdsA, width, hasParity, dataBits, parityBit, ending, frameBits};
+ghost use Rattle.serial.specs.Format.{transmitterMoves, receiverMoves, holdsA, width, hasParity, parityBit, ending, frameBits};
 
 // The bits of SCCR, by weight.
 const TRANSMITTER_ON: u8 = 128;
@@ -21,24 +21,38 @@ const EVEN: u8 = 1;
 
 // Whether the transmitter moves: on, and not in shift-register mode.
 pub fn transmitter_moves(sccr: u8) -> bool
-    ensures { λ r. ⌜ r ≡ sends sccr ⌝ }
+    ensures { λ r. ⌜ r ≡ transmitterMoves sccr ⌝ }
 {
     (sccr / TRANSMITTER_ON % 2 == 1) & (sccr / TRANSMITTER_SHIFTS % 2 != 1)
 }
 
 // Whether the receiver moves: on, and not in shift-register mode.
 pub fn receiver_moves(sccr: u8) -> bool
-    ensures { λ r. ⌜ r ≡ receives sccr ⌝ }
+    ensures { λ r. ⌜ r ≡ receiverMoves sccr ⌝ }
 {
     (sccr / RECEIVER_ON % 2 == 1)
         & !((sccr / TRANSMITTER_SHIFTS % 2 != 1) & (sccr / RECEIVER_SHIFTS % 2 == 1))
+}
+
+// Whether SCCR7 is set, while which PA6 is the transmitter's line.
+pub fn transmitter_on(sccr: u8) -> bool
+    ensures { λ r. ⌜ r ≡ bit 7 sccr ⌝ }
+{
+    sccr / TRANSMITTER_ON % 2 == 1
 }
 
 // Whether counter A is held to mode 00.
 pub fn holds_counter(sccr: u8) -> bool
     ensures { λ r. ⌜ r ≡ holdsA sccr ⌝ }
 {
-    (sccr / TRANSMITTER_ON % 2 == 1) | receiver_moves(sccr)
+    transmitter_on(sccr) | receiver_moves(sccr)
+}
+
+// The number of data bits.
+pub fn data_width(sccr: u8) -> u8
+    ensures { λ r. ⌜ r ≡ width sccr ⌝ }
+{
+    8 - sccr / 4 % 4
 }
 
 // 2 to the number of data bits.
@@ -120,5 +134,5 @@ pub fn frame(sccr: u8, byte: u8) -> u16
 pub fn frame_length(sccr: u8, byte: u8) -> u8
     ensures { λ r. ⌜ r ≡ length (frameBits sccr byte) ⌝ }
 {
-    8 - sccr / 4 % 4 + 3
+    data_width(sccr) + 3
 }

@@ -3,8 +3,9 @@ ghost use mathlib.Core.Path.{_≡_};
 ghost use Prim.Native.Nat.{_-_, _+_, _*_, _/_};
 ghost use Rattle.words.specs.Bits.{digit};
 ghost use Rattle.serial.specs.Format.{width, hasParity};
-ghost use Rattle.serial.specs.Receiver.{idleReceiver, frameSize, hunted, byteOf, wrongParity, statusAfter, judged, gathered, looked, receiveTick, heard, receiverUnder};
+ghost use Rattle.serial.specs.Receiver.{idleReceiver, frameSize, hunted, byteOf, wrongParity, statusAfter, judged, gathered, looked, receiveTick, receiverClock, receiverUnder};
 use crate::format::data_span;
+use crate::format::data_width;
 use crate::format::has_parity;
 use crate::format::one_fewer;
 use crate::format::parity_bit;
@@ -51,14 +52,14 @@ pub fn idle_receiver() -> Receiver
 fn frame_size(sccr: u8) -> u8
     ensures { λ r. ⌜ r ≡ frameSize sccr ⌝ }
 {
-    8 - sccr / 4 % 4 + parity_size(sccr) + 1
+    data_width(sccr) + parity_size(sccr) + 1
 }
 
 // How many bits stand below the data: those of the register under stop and parity.
 fn data_place(sccr: u8) -> u16
     ensures { λ r. ⌜ r ≡ 10 - digit (hasParity sccr) - width sccr ⌝ }
 {
-    (10 - parity_size(sccr) - (8 - sccr / 4 % 4)) as u16
+    (10 - parity_size(sccr) - data_width(sccr)) as u16
 }
 
 // The data of a whole frame.
@@ -198,7 +199,7 @@ impl Receiver {
 
     // The receiver after a clock with these ticks and this level of PA7.
     pub fn clock(mut self, ticks: Ticks, sccr: u8, scsr: u8, received: u8, high: bool) -> Receiving
-        ensures { λ r. ⌜ r ≡ heard self ticks sccr scsr received high ⌝ }
+        ensures { λ r. ⌜ r ≡ receiverClock self ticks sccr scsr received high ⌝ }
     {
         let moves = (ticks.0 != 0) & receiver_moves(sccr);
         if moves {

@@ -1,6 +1,6 @@
 // The asynchronous transmitter.
 ghost use mathlib.Core.Path.{_≡_};
-ghost use Rattle.serial.specs.Transmitter.{idleTransmitter, framed, taken, idleTick, frameEnd, bitTick, sendTick, sent, line, transmitterUnder};
+ghost use Rattle.serial.specs.Transmitter.{idleTransmitter, framed, taken, idleTick, frameEnd, bitTick, sendTick, transmitterClock, line, transmitterUnder};
 use crate::format::frame;
 use crate::format::frame_length;
 use crate::format::one_fewer;
@@ -122,7 +122,7 @@ impl Transmitter {
 
     // The transmitter after a clock with these ticks.
     pub fn clock(mut self, ticks: Ticks, sccr: u8, scsr: u8, byte: u8) -> Sending
-        ensures { λ r. ⌜ r ≡ sent self ticks sccr scsr byte ⌝ }
+        ensures { λ r. ⌜ r ≡ transmitterClock self ticks sccr scsr byte ⌝ }
     {
         let moves = (ticks.0 != 0) & transmitter_moves(sccr);
         if moves {

@@ -1,4 +1,4 @@
-use Rattle.serial.specs.Format.{receives}
+use Rattle.serial.specs.Format.{receiverMoves}
 use mathlib.Core.Path.{refl}
 use Rattle.serial.proofs.format.receiver_moves.Statement.{statement}
 use Rattle.serial.proofs.format.receiver_moves.Tie as tie
@@ -7,7 +7,7 @@ use Rattle.serial.proofs.format.receiver_moves.Lts as lts
 
 -- src/format.rt:25:1
 returns : tie.Need-returns
-unfolding receives
+unfolding receiverMoves
 returns c = refl
 
 pub receiver-moves-spec : {M : Type 1} → statement M

@@ -1,4 +1,4 @@
-use Rattle.serial.specs.Format.{sends}
+use Rattle.serial.specs.Format.{transmitterMoves}
 use mathlib.Core.Path.{refl}
 use Rattle.serial.proofs.format.transmitter_moves.Statement.{statement}
 use Rattle.serial.proofs.format.transmitter_moves.Tie as tie
@@ -7,7 +7,7 @@ use Rattle.serial.proofs.format.transmitter_moves.Lts as lts
 
 -- src/format.rt:18:1
 returns : tie.Need-returns
-unfolding sends
+unfolding transmitterMoves
 returns c = refl
 
 pub transmitter-moves-spec : {M : Type 1} → statement M

@@ -1,4 +1,4 @@
-use Rattle.serial.specs.Receiver.{heard}
+use Rattle.serial.specs.Receiver.{receiverClock}
 use borrow.Author.Needs.{needs}
 use Rattle.serial.proofs.receiver.Receiver.clock.Statement.{statement}
 use Rattle.serial.proofs.receiver.Receiver.clock.Tie as tie
@@ -17,12 +17,12 @@ tick-requires c κs = search needs
 
 -- src/receiver.rt:171:13
 returns : tie.Need-returns
-unfolding heard
+unfolding receiverClock
 returns c = rw (← (c .before .before .receiver-moves .ensures), ← (c .tick .ensures), c .before .if1 .taken)
 
 -- src/receiver.rt:166:5
 returns-2 : tie.Need-returns-2
-unfolding heard
+unfolding receiverClock
 returns-2 c = rw (← (c .before .receiver-moves .ensures), c .if1 .left)
 
 pub clock-spec : {M : Type 1} → statement M

@@ -1,4 +1,4 @@
-use Rattle.serial.specs.Transmitter.{sent}
+use Rattle.serial.specs.Transmitter.{transmitterClock}
 use borrow.Author.Needs.{needs}
 use Rattle.serial.proofs.transmitter.Transmitter.clock.Statement.{statement}
 use Rattle.serial.proofs.transmitter.Transmitter.clock.Tie as tie
@@ -17,12 +17,12 @@ tick-requires c κs = search needs
 
 -- src/transmitter.rt:106:13
 returns : tie.Need-returns
-unfolding sent
+unfolding transmitterClock
 returns c = rw (← (c .before .before .transmitter-moves .ensures), ← (c .tick .ensures), c .before .if1 .taken)
 
 -- src/transmitter.rt:101:5
 returns-2 : tie.Need-returns-2
-unfolding sent
+unfolding transmitterClock
 returns-2 c = rw (← (c .before .transmitter-moves .ensures), c .if1 .left)
 
 pub clock-spec : {M : Type 1} → statement M
