@@ -138,7 +138,8 @@ pub input-formed : (s : State) (code : ℕ) → wellFormed s ≡ true → wellFo
 unfolding wellFormed
 input-formed s code e = e
 
-set-lt : (k x : ℕ) (on : Bool) → k < 6 → x < 64 → setWhere k on x < 64
+-- a flag set within the range
+pub set-lt : (k x : ℕ) (on : Bool) → k < 6 → x < 64 → setWhere k on x < 64
 unfolding setWhere withBit
 set-lt k x true h l = bit-room 6 k x h l
 set-lt k x false h l = l

@@ -114,7 +114,13 @@ pub fn fresh_ports() -> Ports
 pub fn fresh_control() -> Control
     ensures { λ r. ⌜ r ≡ freshControl ⌝ }
 {
-    Control { ifr: 0, ier: 0, mcr: 0, sccr: 0, scsr: 64 }
+    Control {
+        ifr: 0,
+        ier: 0,
+        mcr: 0,
+        sccr: 0,
+        scsr: 64,
+    }
 }
 
 fn fresh_peripherals() -> Peripherals

@@ -28,16 +28,22 @@ withInputs l (code ∷ codes) = withInputs (withInput l code) codes
 -- "Clock plus 1; inputs of that clock set external levels."
 abbrev pub begun : State → List ℕ → State
 begun s codes = record {
-    cpu = s .cpu; due = s .due; peripherals = s .peripherals; external = withInputs (s .external) codes; last = s .last;
-    clock = s .clock + 1 }
+  cpu = s .cpu;
+  due = s .due;
+  peripherals = s .peripherals;
+  external = withInputs (s .external) codes;
+  last = s .last;
+  clock = s .clock + 1;
+}
 
 -- step 2, A: an underflow sets IFR4, and in mode 01 inverts PA4's latch; it is the clock's tick
 abbrev pub afterA : Peripherals → ℕ → CountedA → Counted
 afterA p mode a = record {
-    peripherals =
-        latchedA (flagged (withCounterA p (a .counter)) (setWhere 4 (a .underflow) (p .control .ifr)))
-        (flipWhere 4 (toggles mode (a .underflow)) (p .ports .a));
-    ticks = ticksOf (a .underflow) }
+  peripherals =
+      latchedA (flagged (withCounterA p (a .counter)) (setWhere 4 (a .underflow) (p .control .ifr)))
+      (flipWhere 4 (toggles mode (a .underflow)) (p .ports .a));
+  ticks = ticksOf (a .underflow);
+}
 
 -- counter A by its mode in force and PA4, between the levels before step 1 and those after it
 unfoldable pub countedA : Peripherals → ℕ → ℕ → Counted
@@ -57,16 +63,28 @@ countedB p before now = afterB p (modeB (p .control .mcr)) (clockB (p .counterb)
 -- step 3: the transmitter, then the receiver, which looks at PA7's level of step 1
 abbrev pub afterSending : Peripherals → Sending → Peripherals
 afterSending p x = record {
-    ports = p .ports; countera = p .countera; counterb = p .counterb; control = withScsr (p .control) (x .scsr);
-    serial = p .serial; transmitter = x .transmitter; receiver = p .receiver }
+  ports = p .ports;
+  countera = p .countera;
+  counterb = p .counterb;
+  control = withScsr (p .control) (x .scsr);
+  serial = p .serial;
+  transmitter = x .transmitter;
+  receiver = p .receiver;
+}
 
 unfoldable pub sentBy : Peripherals → Ticks → Peripherals
 sentBy p ticks = afterSending p (transmitterClock (p .transmitter) ticks (p .control .sccr) (p .control .scsr) (p .serial .sent))
 
 abbrev pub afterReceiving : Peripherals → Receiving → Peripherals
 afterReceiving p x = record {
-    ports = p .ports; countera = p .countera; counterb = p .counterb; control = withScsr (p .control) (x .scsr);
-    serial = record { sent = p .serial .sent; received = x .received }; transmitter = p .transmitter; receiver = x .receiver }
+  ports = p .ports;
+  countera = p .countera;
+  counterb = p .counterb;
+  control = withScsr (p .control) (x .scsr);
+  serial = record { sent = p .serial .sent; received = x .received };
+  transmitter = p .transmitter;
+  receiver = x .receiver;
+}
 
 unfoldable pub heardBy : Peripherals → Ticks → ℕ → Peripherals
 heardBy p ticks now =
@@ -82,8 +100,13 @@ worked p before now = afterCountA (countedA p before now) before now
 -- steps 2 and 3 of a state that has sensed its pins; `before` are the port levels before step 1
 abbrev pub workedState : ℕ → State → State
 workedState before s = record {
-    cpu = s .cpu; due = s .due; peripherals = worked (s .peripherals) before (s .last .ports);
-    external = s .external; last = s .last; clock = s .clock }
+  cpu = s .cpu;
+  due = s .due;
+  peripherals = worked (s .peripherals) before (s .last .ports);
+  external = s .external;
+  last = s .last;
+  clock = s .clock;
+}
 
 -- steps 1 to 3, given the codes of this clock's inputs
 unfoldable pub readyOf : State → List ℕ → State

@@ -2,7 +2,6 @@
 ghost use mathlib.Core.Path.{_≡_};
 ghost use Prim.Native.Nat.{_<_};
 ghost use Rattle.clock.specs.Ready.{withInputs, countedA, countedB, sentBy, heardBy, worked, readyOf};
-
 use chip::pins::pin_rose;
 use chip::state::Levels;
 use chip::state::Peripherals;
@@ -35,14 +34,18 @@ fn count_a(mut p: Peripherals, before: u32, after: u32) -> Counted
     ensures { λ r. ⌜ r ≡ countedA p before after ⌝ }
 {
     let mode = p.control.mode_a();
-    let counted = p.countera.clock(mode, pin_rose(4, before, after), !words::bit32(after, 4));
+    let counted = p.countera
+        .clock(mode, pin_rose(4, before, after), !words::bit32(after, 4));
     let flags = words::set_where(p.control.ifr, 4, counted.underflow);
     let latch = words::flip_where(p.ports.a, 4, toggles_output(mode, counted.underflow));
     let counter = counted.counter;
     p.countera = counter;
     p.control.ifr = flags;
     p.ports.a = latch;
-    Counted { peripherals: p, ticks: ticks_of(counted.underflow) }
+    Counted {
+        peripherals: p,
+        ticks: ticks_of(counted.underflow),
+    }
 }
 
 // Step 2 for counter B.
@@ -64,7 +67,8 @@ fn count_b(mut p: Peripherals, before: u32, after: u32) -> Peripherals
 fn send(mut p: Peripherals, ticks: Ticks) -> Peripherals
     ensures { λ r. ⌜ r ≡ sentBy p ticks ⌝ }
 {
-    let sending = p.transmitter.clock(ticks, p.control.sccr, p.control.scsr, p.serial.sent);
+    let sending = p.transmitter
+        .clock(ticks, p.control.sccr, p.control.scsr, p.serial.sent);
     let transmitter = sending.transmitter;
     let status = sending.scsr;
     p.transmitter = transmitter;
@@ -77,7 +81,13 @@ fn receive(mut p: Peripherals, ticks: Ticks, after: u32) -> Peripherals
     ensures { λ r. ⌜ r ≡ heardBy p ticks after ⌝ }
 {
     let high = words::bit32(after, 7);
-    let receiving = p.receiver.clock(ticks, p.control.sccr, p.control.scsr, p.serial.received, high);
+    let receiving = p.receiver.clock(
+        ticks,
+        p.control.sccr,
+        p.control.scsr,
+        p.serial.received,
+        high,
+    );
     let receiver = receiving.receiver;
     let status = receiving.scsr;
     let received = receiving.received;

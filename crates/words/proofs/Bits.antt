@@ -1,15 +1,14 @@
 -- Laws of single bits.
-use mathlib.Core.Path.{_≡_, refl, ap, _∙_, subst}
-use mathlib.Core.Bool.{Bool, true, false, _&&_, _||_, not, cond, Bool·beq}
+use mathlib.Core.Path.{_≡_, refl, ap, _∙_, sym, subst}
+use mathlib.Core.Bool.{Bool, true, false, not, cond}
 use Prim.Native.Nat.{ℕ, suc, _+_, _-_, _*_, _/_, _%_, _^_, _≤_, _<_}
-use native.Mathlib.Nat.{one-mul, mod-eq-of-lt, add-mul, mul-comm, pow-suc, mod-lt, mul-le-mul-right, div-add-mod', div-lt-iff-lt-mul}
+use native.Mathlib.Nat.{add-zero, div-eq-of-lt, add-mul-div-right, add-mul-mod-self-right, one-mul, mod-eq-of-lt, add-mul, mul-comm, pow-suc, mod-lt, mul-le-mul-right, div-add-mod', div-lt-iff-lt-mul}
 use native.Mathlib.Omega.{arith}
-use lib.Pow.{pow-lt, pow-pos, pow-add}
-use lib.Dec.{T, eqb}
-use Rattle.words.specs.Bits.{bit, withBit}
-use Rattle.words.specs.Lists.{allOf, tabulate}
-use Rattle.words.proofs.Cond.{both-left, both-right, equal}
-use Rattle.words.proofs.Tables.{upTo, below2}
+use lib.Pow.{pow-lt, pow-pos, pow-add, shr-shr, field, mod-mod-pow}
+use lib.Dec.{eqb}
+use borrow.Author.Tests.{eq-eqb, ne-eqb}
+use Rattle.words.specs.Bits.{bit, digit, withBit}
+use Rattle.words.proofs.Cond.{digit-le}
 
 -- a number taken apart at bit k: what is above it, the bit, what is below it
 parts : (k x : ℕ) → x ≡ x / 2 ^ k / 2 * 2 ^ k + x / 2 ^ k / 2 * 2 ^ k + x / 2 ^ k % 2 * 2 ^ k + x % 2 ^ k
@@ -40,23 +39,53 @@ bit-room n k x h l =
     let s : (m + m) * w ≡ m * w + m * w = add-mul m m w in
     omega (arith, parts k x, one-mul w)
 
--- what is put at bit k of a byte stands there
-pub putAt : Bool → ℕ → ℕ → Bool
-putAt on k x = Bool·beq (bit k (withBit k on x)) on
+-- x with bit k as told, taken apart: what is above bit k, the bit, what is below it
+put-parts : (k x : ℕ) (on : Bool) → withBit k on x ≡ x % 2 ^ k + (x / 2 ^ k / 2 + x / 2 ^ k / 2 + digit on) * 2 ^ k
+unfolding withBit
+put-parts k x true =
+    let h = x / 2 ^ k / 2 in
+    let m : (h + h + 1) * 2 ^ k ≡ h * 2 ^ k + h * 2 ^ k + 1 * 2 ^ k = add-mul (h + h) 1 (2 ^ k) ∙ ap (λ n. n + 1 * 2 ^ k) (add-mul h h (2 ^ k)) in
+    omega (arith, parts k x, one-mul (2 ^ k))
+put-parts k x false =
+    let h = x / 2 ^ k / 2 in
+    let m : (h + h + 0) * 2 ^ k ≡ h * 2 ^ k + h * 2 ^ k = ap (λ n. n * 2 ^ k) (add-zero (h + h)) ∙ add-mul h h (2 ^ k) in
+    omega (arith, parts k x)
 
-pub bit-put : (on : Bool) (k x : ℕ) → k < 8 → x < 256 → bit k (withBit k on x) ≡ on
-unfolding putAt withBit
-bit-put true k x h l = equal (bit k (withBit k true x)) true (below2 (putAt true) 8 256 tt k x h l)
-bit-put false k x h l = equal (bit k (withBit k false x)) false (below2 (putAt false) 8 256 tt k x h l)
+-- from bit k on, it is what is above the bit, and the bit
+put-high : (k x : ℕ) (on : Bool) → withBit k on x / 2 ^ k ≡ x / 2 ^ k / 2 + x / 2 ^ k / 2 + digit on
+put-high k x on =
+    let r : x % 2 ^ k / 2 ^ k ≡ 0 = div-eq-of-lt (mod-lt x (pow-pos k)) in
+    rw (put-parts k x on) (add-mul-div-right (x % 2 ^ k) (x / 2 ^ k / 2 + x / 2 ^ k / 2 + digit on) (pow-pos k) ∙ omega (arith, r))
 
--- and every other bit is kept
-pub keptAt : Bool → ℕ → ℕ → Bool
-keptAt on k x = allOf (λ j. eqb j k || Bool·beq (bit j (withBit k on x)) (bit j x)) (upTo 8)
+-- what is put at bit k stands there
+pub bit-put : (k x : ℕ) (on : Bool) → bit k (withBit k on x) ≡ on
+bit-put k x true = let h = put-high k x true in eq-eqb (withBit k true x / 2 ^ k % 2) 1 (omega arith)
+bit-put k x false = let h = put-high k x false in ne-eqb (withBit k false x / 2 ^ k % 2) 1 (λ e. omega arith)
 
-pub bit-kept : (on : Bool) (k x : ℕ) → k < 8 → x < 256 → T (keptAt on k x)
-unfolding keptAt withBit
-bit-kept true = below2 (keptAt true) 8 256 tt
-bit-kept false = below2 (keptAt false) 8 256 tt
+-- every bit above is kept
+pub bit-above : (k j x : ℕ) (on : Bool) → bit (k + 1 + j) (withBit k on x) ≡ bit (k + 1 + j) x
+bit-above k j x on = ap (λ n. eqb (n % 2) 1) (at (withBit k on x) ∙ ap (λ n. n / 2 ^ j) same ∙ sym (at x))
+  where
+    at : (y : ℕ) → y / 2 ^ (k + 1 + j) ≡ y / 2 ^ k / 2 ^ 1 / 2 ^ j
+    at y = sym (ap (λ n. n / 2 ^ j) (shr-shr y k 1) ∙ shr-shr y (k + 1) j)
+
+    same : withBit k on x / 2 ^ k / 2 ^ 1 ≡ x / 2 ^ k / 2 ^ 1
+    same = let h = put-high k x on in omega (arith, digit-le on)
+
+-- every bit below is kept
+pub bit-below : (m j x : ℕ) (on : Bool) → bit j (withBit (m + (1 + j)) on x) ≡ bit j x
+bit-below m j x on = ap (λ n. eqb n 1) (sym (field (withBit k on x) 1 j) ∙ ap (λ n. n / 2 ^ j) same ∙ field x 1 j)
+  where
+    k : ℕ
+    k = m + (1 + j)
+
+    rest : withBit k on x % 2 ^ k ≡ x % 2 ^ k
+    rest =
+        ap (λ n. n % 2 ^ k) (put-parts k x on) ∙ add-mul-mod-self-right (x % 2 ^ k) _ (2 ^ k)
+        ∙ mod-eq-of-lt (mod-lt x (pow-pos k))
+
+    same : withBit k on x % 2 ^ (1 + j) ≡ x % 2 ^ (1 + j)
+    same = sym (mod-mod-pow (withBit k on x) m (1 + j)) ∙ ap (λ n. n % 2 ^ (1 + j)) rest ∙ mod-mod-pow x m (1 + j)
 
 -- the weight of a bit, as a shift within n bits gives it
 pub weight : (n k : ℕ) → k < n → 1 * 2 ^ k % 2 ^ n ≡ 2 ^ k
