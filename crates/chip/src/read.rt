@@ -28,7 +28,7 @@ pub struct Reading {
 }
 
 // A port's byte of the pins' levels.
-fn level_byte(levels: u32, address: u8) -> u8
+fn level_byte(levels: u32, address: u16) -> u8
     ensures { λ r. ⌜ r ≡ levelByte levels address ⌝ }
 {
     if address == 0 {
@@ -45,7 +45,7 @@ fn level_byte(levels: u32, address: u8) -> u8
 
 impl Ports {
     // A port's latch.
-    fn latch(self, address: u8) -> u8
+    fn latch(self, address: u16) -> u8
         ensures { λ r. ⌜ r ≡ portLatch self address ⌝ }
     {
         if address == 0 {
@@ -61,7 +61,7 @@ impl Ports {
     }
 
     // What a port reads as: its latch for a read-modify-write instruction, else its pins.
-    fn value(self, levels: u32, latch: bool, address: u8) -> u8
+    fn value(self, levels: u32, latch: bool, address: u16) -> u8
         ensures { λ r. ⌜ r ≡ portValue self levels latch address ⌝ }
     {
         if latch {
@@ -101,7 +101,7 @@ impl Control {
 
 impl Peripherals {
     // The control and serial registers, 10h to 17h; FFh elsewhere.
-    fn control_value(self, address: u8) -> u8
+    fn control_value(self, address: u16) -> u8
         ensures { λ r. ⌜ r ≡ controlValue self address ⌝ }
     {
         if address == 0x11 {
@@ -126,7 +126,7 @@ impl Peripherals {
     }
 
     // The counters, 18h to 1Eh; FFh elsewhere.
-    fn counter_value(self, address: u8) -> u8
+    fn counter_value(self, address: u16) -> u8
         ensures { λ r. ⌜ r ≡ counterValue self address ⌝ }
     {
         let lower_a = (address == 0x18) | (address == 0x1A);
@@ -147,7 +147,7 @@ impl Peripherals {
     }
 
     // What a register reads as.
-    fn value(self, levels: u32, latch: bool, address: u8) -> u8
+    fn value(self, levels: u32, latch: bool, address: u16) -> u8
         ensures { λ r. ⌜ r ≡ registerValue self levels latch address ⌝ }
     {
         if address < 0x04 {
@@ -160,7 +160,7 @@ impl Peripherals {
     }
 
     // The effect of a read: flags cleared.
-    fn after_read(mut self, address: u8) -> Peripherals
+    fn after_read(mut self, address: u16) -> Peripherals
         ensures { λ r. ⌜ r ≡ afterRead self address ⌝ }
     {
         if address == 0x17 {
@@ -182,7 +182,7 @@ impl Peripherals {
     }
 
     // A read of a register, given step 1's levels; `latch` for the read of a read-modify-write instruction.
-    pub fn read(self, levels: u32, latch: bool, address: u8) -> Reading
+    pub fn read(self, levels: u32, latch: bool, address: u16) -> Reading
         ensures { λ r. ⌜ r ≡ readOf self levels latch address ⌝ }
     {
         Reading {

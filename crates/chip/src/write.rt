@@ -10,7 +10,7 @@ use serial::format::holds_counter;
 
 impl Ports {
     // A port's latch written.
-    fn written(mut self, address: u8, value: u8) -> Ports
+    fn written(mut self, address: u16, value: u8) -> Ports
         ensures { λ r. ⌜ r ≡ writePort self address value ⌝ }
     {
         if address == 0 {
@@ -108,7 +108,7 @@ impl Peripherals {
     }
 
     // The control and serial registers, 10h to 17h.
-    fn write_control(mut self, address: u8, value: u8) -> Peripherals
+    fn write_control(mut self, address: u16, value: u8) -> Peripherals
         ensures { λ r. ⌜ r ≡ writeControl self address value ⌝ }
     {
         if address == 0x10 {
@@ -150,7 +150,7 @@ impl Peripherals {
     }
 
     // Counter A, 18h to 1Ah.
-    fn write_counter_a(mut self, address: u8, value: u8) -> Peripherals
+    fn write_counter_a(mut self, address: u16, value: u8) -> Peripherals
         ensures { λ r. ⌜ r ≡ writeCounterA self address value ⌝ }
     {
         if address == 0x18 {
@@ -189,7 +189,7 @@ impl Peripherals {
     }
 
     // Counter B, 1Ch to 1Eh.
-    fn write_counter_b(mut self, address: u8, value: u8) -> Peripherals
+    fn write_counter_b(mut self, address: u16, value: u8) -> Peripherals
         ensures { λ r. ⌜ r ≡ writeCounterB self address value ⌝ }
     {
         if address == 0x1C {
@@ -209,7 +209,7 @@ impl Peripherals {
     }
 
     // A write of a register.
-    pub fn write(mut self, address: u8, value: u8) -> Peripherals
+    pub fn write(mut self, address: u16, value: u8) -> Peripherals
         ensures { λ r. ⌜ r ≡ writeOf self address value ⌝ }
     {
         if address < 0x04 {

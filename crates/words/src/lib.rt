@@ -42,8 +42,8 @@ pub fn with_bit32(x: u32, k: u32, on: bool) -> u32
     ensures { λ r. ⌜ r ≡ withBit k on x ⌝ }
 {
     let weight: u32 = 1 << k;
-    let cleared = x - (x >> k) % 2 * weight;
-    if on { cleared + weight } else { cleared }
+    let kept = x - (x >> k) % 2 * weight;
+    if on { kept + weight } else { kept }
 }
 
 // A byte with bit k set where told.

@@ -15,16 +15,16 @@ shl-weight : tie.Need-shl-weight
 shl-weight c = search needs
 
 -- src/lib.rt:27:24
-shr-cleared : tie.Need-shr-cleared
-shr-cleared c = search needs
+shr-kept : tie.Need-shr-kept
+shr-kept c = search needs
 
 -- src/lib.rt:27:23
-mul-cleared : tie.Need-mul-cleared
-mul-cleared c = rw (weight 32 _ (c .pre)) (omega (arith, bit-within (c .args .k) (c .args .x)))
+mul-kept : tie.Need-mul-kept
+mul-kept c = rw (weight 32 _ (c .pre)) (omega (arith, bit-within (c .args .k) (c .args .x)))
 
 -- src/lib.rt:27:19
-sub-cleared : tie.Need-sub-cleared
-sub-cleared c = rw (weight 32 _ (c .pre)) (bit-within _ _)
+sub-kept : tie.Need-sub-kept
+sub-kept c = rw (weight 32 _ (c .pre)) (bit-within _ _)
 
 -- src/lib.rt:28:13
 add-result : tie.Need-add-result
@@ -43,4 +43,4 @@ returns-2 c = rw (weight 32 _ (c .before .pre), c .if1 .left, add-zero)
 pub with-bit32-spec : {M : Type 1} → statement M
 with-bit32-spec =
     tie.close
-    (tie.spec shl-weight shr-cleared mul-cleared sub-cleared add-result returns returns-2)
+    (tie.spec shl-weight shr-kept mul-kept sub-kept add-result returns returns-2)
