@@ -10,7 +10,8 @@ use Rattle.tape.specs.declared.Loaded.{Loaded}
 use Rattle.tape.specs.Digits.{bytesOf}
 use Rattle.tape.specs.Records.{mark, countOf, addressOf, faultOf, dataOf}
 
--- a number of "What is handed back", and a place: the index of a record's `;`, the tape's length, or the place past it
+-- a number of "What is handed back", and a place: the index of a record's `;`, the tape's length for a missing last record, the
+-- place past the last record of an accepted tape, or 0 with number 1
 abbrev pub told : ℕ → ℕ → Loaded
 told n p = record { number = n; place = p }
 

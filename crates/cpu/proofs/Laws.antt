@@ -1,0 +1,194 @@
+-- What holds of every instruction: at most three writes; 2 to 7 clocks; only registers are asked for, at most five times.
+use mathlib.Core.Path.{_≡_, refl}
+use mathlib.Core.Bool.{Bool, true, false, cond, _&&_, false≢true}
+use mathlib.Core.List.{List}
+use Prim.Native.Nat.{ℕ, suc, _+_, _≤_, _<_}
+use native.Mathlib.Omega.{arith}
+use lib.Dec.{T, leb, leb→le, lit≤}
+use lib.ListN.{length}
+use Rattle.words.proofs.Cond.{cond-both, both-left, both-right}
+use Rattle.opcodes.specs.Rows.{rows}
+use Rattle.opcodes.specs.Decode.{decodeOf}
+use Rattle.opcodes.specs.declared.Decoded.{Decoded}
+use Rattle.opcodes.specs.declared.Decoded.the-variants as decoded
+use Rattle.opcodes.specs.declared.Entry.{Entry}
+use Rattle.opcodes.proofs.Laws.{passes, looked-up}
+use Rattle.bus.specs.declared.Bus.{Bus}
+use Rattle.bus.specs.declared.Registers.{Registers}
+use Rattle.bus.specs.declared.modes.Place.{Place}
+use Rattle.bus.specs.declared.stack.Writes.{Writes}
+use Rattle.bus.specs.Bus.{isRegister, idle, got, askOf, readOf, fetchOf}
+use Rattle.bus.specs.Stack.{noWrites, pushWord, readAfter}
+use Rattle.bus.specs.Modes.{locateOf}
+use Rattle.bus.proofs.Accesses.{readsOfMode, read-keeps, fetch-keeps, read-after-keeps, locate-keeps}
+use Rattle.bus.proofs.Asks.{AsksRegister, idle-asks-register, register-more, register-asks, Answered, Within, idle-answered, answered-more, answered-asks}
+use Rattle.cpu.specs.declared.Ask.{Ask}
+use Rattle.operations.specs.declared.Worked.{Worked}
+use Rattle.cpu.specs.declared.Outcome.{Outcome}
+use Rattle.cpu.specs.declared.Outcome.the-variants.{Undefined, Asked, Done}
+use Rattle.operations.specs.declared.Ended.{Ended}
+use Rattle.operations.specs.declared.Access.{Access}
+use Rattle.operations.specs.declared.Access.the-variants.{Nothing, Read, Modify, Call}
+use Rattle.operations.specs.Effects.{withPc}
+use Rattle.operations.specs.Operations.{accessOf, calls}
+use Rattle.cpu.specs.Instruction.{askWith, outcomeOf, operandByte, operandOf, carriedOut, writesAsked, callTo, callOf, executeOf, decodedTo, instructionOf}
+use Rattle.operations.proofs.Sound.{Cost, costOf, Sound, work-sound}
+
+-- an instruction that is done
+pub record Fits (w : Worked) : Type 0 where
+  pub writes : w .writes .count ≤ 3
+  pub least : 2 ≤ w .length
+  pub most : w .length ≤ 7
+
+-- a question: it is that of a bus of which P holds after at most five reads
+pub record AskedBy (P : ℕ → Bus → Type 0) (q : Ask) : Type 0 where
+  pub reads : ℕ
+  pub most : reads ≤ 5
+  pub bus : Bus
+  pub known : P reads bus
+  pub missing : bus .missing ≡ true
+  pub address : q .address ≡ bus .address
+  pub writes : q .writes .count ≤ 3
+
+abbrev pub Lawful : (ℕ → Bus → Type 0) → Outcome → Type 0
+Lawful P Undefined = Unit
+Lawful P (Asked q) = AskedBy P q
+Lawful P (Done w) = Fits w
+
+abbrev pub readsOfAccess : Access → ℕ → ℕ
+readsOfAccess Nothing k = k
+readsOfAccess Read k = suc k
+readsOfAccess Modify k = suc k
+readsOfAccess Call k = k
+
+-- the reads of an entry, the opcode's included
+abbrev readsOf : Entry → ℕ
+readsOf e = costOf (e .operation) .reads (readsOfAccess (accessOf (e .operation)) (readsOfMode (e .mode) 1))
+
+-- one test over the table: no instruction reads more than five bytes that can be asked for, nor takes more than 7 clocks
+costFits : Entry → Bool
+costFits e = leb (readsOf e) 5 && (leb 2 (e .length) && leb (e .length + costOf (e .operation) .extra) 7)
+
+pub record CostFits (e : Entry) : Type 0 where
+  pub reads : readsOf e ≤ 5
+  pub least : 2 ≤ e .length
+  pub most : e .length + costOf (e .operation) .extra ≤ 7
+
+cost-fits : (e : Entry) → T (costFits e) → CostFits e
+unfolding costFits
+cost-fits e t =
+    let s = both-right (leb (readsOf e) 5) (leb 2 (e .length) && leb (e .length + costOf (e .operation) .extra) 7) t in
+    record {
+      reads = leb→le (readsOf e) 5 (both-left (leb (readsOf e) 5) (leb 2 (e .length) && leb (e .length + costOf (e .operation) .extra) 7) t);
+      least = leb→le 2 (e .length) (both-left (leb 2 (e .length)) (leb (e .length + costOf (e .operation) .extra) 7) s);
+      most = leb→le (e .length + costOf (e .operation) .extra) 7 (both-right (leb 2 (e .length)) (leb (e .length + costOf (e .operation) .extra) 7) s);
+    }
+
+table-fits : (o : ℕ) → T (passes costFits (decodeOf o))
+unfolding decodeOf costFits
+table-fits o = looked-up costFits o rows tt
+
+pushed-writes : (sp pc : ℕ) → pushWord sp pc .count ≤ 3
+unfolding pushWord
+pushed-writes sp pc = lit≤ tt
+
+asking-writes : (b : Bus) (sp pc : ℕ) → writesAsked b (pushWord sp pc) .count ≤ 3
+unfolding writesAsked
+asking-writes b sp pc = cond-both (λ w. w .count ≤ 3) (b .missing) noWrites (pushWord sp pc) (λ t. lit≤ tt) (λ t. pushed-writes sp pc)
+
+module _ (P : ℕ → Bus → Type 0) (answers memory : List ℕ)
+    (more : (k : ℕ) (b : Bus) → P k b → P (suc k) b)
+    (asks : (k a : ℕ) (latch : Bool) (b : Bus) → isRegister a ≡ true → P k b → P (suc k) (askOf answers a latch b .bus)) where
+  operand-keeps : (access : Access) (k a : ℕ) (p : Place) → P k (p .bus) → P (readsOfAccess access k) (operandByte answers memory access a p .bus)
+  unfolding operandByte
+  operand-keeps Nothing k a p h = h
+  operand-keeps Read k a p h = read-keeps P answers memory more asks k (p .address) false (p .bus) h
+  operand-keeps Modify k a p h =
+      cond-both (λ g. P (suc k) (g .bus)) (p .accumulator) (got a (p .bus)) (readOf answers memory (p .address) true (p .bus))
+      (λ t. more k (p .bus) h)
+      (λ t. read-keeps P answers memory more asks k (p .address) true (p .bus) h)
+  operand-keeps Call k a p h = h
+
+  asked-lawful : (k : ℕ) (w : Writes) (b : Bus) → k ≤ 5 → P k b → b .missing ≡ true → w .count ≤ 3 → Lawful P (Asked (askWith w b))
+  asked-lawful k w b m h t l =
+      record { reads = k; most = m; bus = b; known = h; missing = t; address = refl; writes = l }
+
+  outcome-lawful : (k : ℕ) (w : Writes) (e : Ended) → k ≤ 5 → P k (e .bus) → w .count ≤ 3 → Fits (e .worked) → Lawful P (outcomeOf w e)
+  unfolding outcomeOf
+  outcome-lawful k w e m h l f =
+      cond-both (Lawful P) (e .bus .missing) (Asked (askWith w (e .bus))) (Done (e .worked))
+      (λ t. asked-lawful k w (e .bus) m h t l)
+      (λ t. f)
+
+  carried-lawful : (e : Entry) (r : Registers) (b : Bus) → CostFits e → P 1 b → Lawful P (outcomeOf noWrites (carriedOut answers memory e r b))
+  unfolding carriedOut
+  carried-lawful e r b c h =
+      let p = locateOf answers memory (e .mode) r b in
+      let j = readsOfMode (e .mode) 1 in
+      let i = readsOfAccess (accessOf (e .operation)) j in
+      let g = operandByte answers memory (accessOf (e .operation)) (r .a) p in
+      let q = operand-keeps (accessOf (e .operation)) j (r .a) p (locate-keeps P answers memory more asks (e .mode) 1 r b h) in
+      let s = work-sound P answers memory more asks (e .operation) i (withPc (p .pc) r) (operandOf (e .length) p g) q in
+      outcome-lawful (readsOf e) noWrites _ (c .reads) (s .bus) (lit≤ tt)
+      (record { writes = s .writes; least = s .least (c .least); most = s .most (c .most) })
+
+  call-lawful : (r : Registers) (n : ℕ) (b : Bus) → 2 ≤ n → n ≤ 7 → P 1 b → Lawful P (callOf answers memory r n b)
+  unfolding callOf
+  call-lawful r n b l m h =
+      let f = fetchOf answers memory (r .pc) b in
+      let w = pushWord (r .sp) (f .pc) in
+      let g = readAfter answers memory w (f .pc) (f .bus) in
+      let q = read-after-keeps P answers memory more asks 2 w (f .pc) (f .bus) (fetch-keeps P answers memory more asks 1 (r .pc) b h) in
+      outcome-lawful 3 (writesAsked (f .bus) w) (callTo r n f w g) (lit≤ tt) q (asking-writes (f .bus) (r .sp) (f .pc))
+      (record { writes = pushed-writes (r .sp) (f .pc); least = l; most = m })
+
+  execute-lawful : (e : Entry) (r : Registers) (b : Bus) → CostFits e → P 1 b → Lawful P (executeOf answers memory e r b)
+  unfolding executeOf
+  execute-lawful e r b c h =
+      cond-both (Lawful P) (calls (accessOf (e .operation))) (callOf answers memory r (e .length) b) (outcomeOf noWrites (carriedOut answers memory e r b))
+      (λ t. call-lawful r (e .length) b (c .least) (let m = c .most in omega arith) h)
+      (λ t. carried-lawful e r b c h)
+
+  decoded-lawful : (d : Decoded) (r : Registers) (b : Bus) → T (passes costFits d) → P 1 b → Lawful P (decodedTo answers memory r b d)
+  decoded-lawful decoded.Undefined r b t h = tt
+  decoded-lawful (decoded.Defined e) r b t h = execute-lawful e r b (cost-fits e t) h
+
+  pub lawful : (r : Registers) → P 0 idle → Lawful P (instructionOf r answers memory)
+  unfolding instructionOf
+  lawful r h =
+      let f = fetchOf answers memory (r .pc) idle in
+      let q = fetch-keeps P answers memory more asks 0 (r .pc) idle h in
+      cond-both (Lawful P) (f .bus .missing) (Asked (askWith noWrites (f .bus))) (decodedTo answers memory (withPc (f .pc) r) (f .bus) (decodeOf (f .value)))
+      (λ t. asked-lawful 1 noWrites (f .bus) (lit≤ tt) q t (lit≤ tt))
+      (λ t. decoded-lawful (decodeOf (f .value)) (withPc (f .pc) r) (f .bus) (table-fits (f .value)) q)
+
+module _ (r : Registers) (answers memory : List ℕ) where
+  by-register : Lawful AsksRegister (instructionOf r answers memory)
+  by-register = lawful AsksRegister answers memory register-more (register-asks answers) r (idle-asks-register 0)
+
+  by-answers : Lawful (Answered answers) (instructionOf r answers memory)
+  by-answers = lawful (Answered answers) answers memory (answered-more answers) (answered-asks answers) r (idle-answered answers)
+
+  -- an instruction that is done made at most three writes and takes 2 to 7 clocks
+  pub done-fits : (w : Worked) → instructionOf r answers memory ≡ Done w → Fits w
+  done-fits w e = rw e at by-register
+
+  -- what is asked for is a register
+  pub asked-address : (q : Ask) → instructionOf r answers memory ≡ Asked q → q .address < 0x40
+  unfolding AsksRegister
+  asked-address q e =
+      let l : AskedBy AsksRegister q = rw e at by-register in
+      rw (l .address) (l .known (l .missing))
+
+  -- the writes that go with a question are at most three
+  pub asked-writes : (q : Ask) → instructionOf r answers memory ≡ Asked q → q .writes .count ≤ 3
+  asked-writes q e = let l : AskedBy AsksRegister q = rw e at by-register in l .writes
+
+  -- with five answers nothing is asked any more
+  pub asks-end : 5 ≤ length answers → (q : Ask) → instructionOf r answers memory ≡ Asked q → ⊥
+  unfolding Answered
+  asks-end n q e =
+      let l : AskedBy (Answered answers) q = rw e at by-answers in
+      let m = l .most in
+      let w : Within (l .reads) (l .bus) = l .known (omega arith) in
+      false≢true (cc (w .given, l .missing))

@@ -1,0 +1,559 @@
+-- Ranges kept: from registers, memory and answers within their ranges an instruction leaves registers and writes within theirs
+-- (01, Machine state: "Well-formed: every field is within its range here").
+use mathlib.Core.Path.{_≡_, refl}
+use mathlib.Core.Bool.{Bool, true, false, not, _&&_, cond}
+use mathlib.Core.List.{List}
+use Prim.Native.Nat.{ℕ, _+_, _-_, _*_, _/_, _%_, _^_, _≤_, _<_}
+use native.Mathlib.Omega.{arith}
+use lib.Bits.{and-lt, or-lt, xor-lt}
+use lib.Dec.{ltb, leb, eqb}
+use lib.IntN.{ℤ, pos, negsuc}
+use lib.ListN.{getD, length}
+use Rattle.words.specs.Bits.{bit, digit, withBit, word, wrapping8, wrapping16}
+use Rattle.words.proofs.Bits.{bit-room}
+use Rattle.words.proofs.Cond.{cond-both, digit-le}
+use Rattle.opcodes.specs.Decode.{decodeOf}
+use Rattle.opcodes.specs.declared.Decoded.{Decoded}
+use Rattle.opcodes.specs.declared.Decoded.the-variants as decoded
+use Rattle.opcodes.specs.declared.Entry.{Entry}
+use Rattle.opcodes.specs.declared.Mode.{Mode}
+use Rattle.opcodes.specs.declared.Mode.the-variants.{Implied, Accumulator, Immediate, ZeroPage, ZeroPageX, ZeroPageY, Absolute, AbsoluteX, AbsoluteY, IndexedIndirect, IndirectIndexed, Indirect, Relative, ZeroPageRelative}
+use Rattle.opcodes.specs.declared.Operation.{Operation}
+use Rattle.opcodes.specs.declared.Operation.the-variants.{Adc, And, Asl, Bcc, Bcs, Beq, Bit, Bmi, Bne, Bpl, Brk, Bvc, Bvs, Clc, Cld, Cli, Clv, Cmp, Cpx, Cpy, Dec, Dex, Dey, Eor, Inc, Inx, Iny, Jmp, Jsr, Lda, Ldx, Ldy, Lsr, Nop, Ora, Pha, Php, Pla, Plp, Rol, Ror, Rti, Rts, Sbc, Sec, Sed, Sei, Sta, Stx, Sty, Tax, Tay, Tsx, Txa, Txs, Tya, Rmb, Smb, Bbr, Bbs}
+use Rattle.alu.specs.Status.{packed, pushed}
+use Rattle.alu.specs.Arithmetic.{modulo, lowered, digitDifference, decimalDifference, subtractBinary, addBinary, addDecimal, adcOf, sbcOf}
+use Rattle.alu.specs.Logic.{andOf, oraOf, eorOf}
+use Rattle.alu.specs.Shift.{aslOf, lsrOf, rolOf, rorOf, incrementOf, decrementOf, resetBitOf, setBitOf}
+use Rattle.alu.specs.declared.Status.{Status}
+use Rattle.alu.specs.declared.Computed.{Computed}
+use Rattle.alu.proofs.Bounds.{packed-le}
+use Rattle.bus.specs.declared.Bus.{Bus}
+use Rattle.bus.specs.declared.Fetched.{Fetched}
+use Rattle.bus.specs.declared.Registers.{Registers}
+use Rattle.bus.specs.declared.modes.Place.{Place}
+use Rattle.bus.specs.declared.stack.Write.{Write}
+use Rattle.bus.specs.declared.stack.Writes.{Writes}
+use Rattle.bus.specs.Bus.{isRegister, nextAddress, memoryByte, vectorOf, idle, got, answered, asking, askOf, readOf, readWord, fetchOf, fetchWord}
+use Rattle.bus.specs.Stack.{noWrites, up, pushWord, pushInterrupt, pullOf, pullWord, writtenOver, readAfter}
+use Rattle.bus.specs.Modes.{zeroPageIndexed, zeroPagePointer, secondAddress, indexedBy, relativeTo, locateOf}
+use Rattle.operations.specs.declared.Access.{Access}
+use Rattle.operations.specs.declared.Access.the-variants.{Nothing, Read, Modify, Call}
+use Rattle.operations.specs.declared.Worked.{Worked}
+use Rattle.operations.specs.declared.Operand.{Operand}
+use Rattle.operations.specs.declared.Ended.{Ended}
+use Rattle.operations.specs.Effects.{withPc, withSp, withStatus, intoA, intoX, intoY, loadA, loadX, loadY, quiet, settled, stored, modified, branched, branchOperand, bitBranched, jumped, pushedByte, pulledAccumulator, pulledStatus, returned, resumed, interrupted, broken}
+use Rattle.operations.specs.Operations.{accessOf, calls, unflagged, workOf}
+use Rattle.cpu.specs.declared.Outcome.{Outcome}
+use Rattle.cpu.specs.declared.Outcome.the-variants.{Undefined, Asked, Done}
+use Rattle.cpu.specs.Entries.{resetVector, resetEntry, interruptEntry}
+use Rattle.cpu.specs.Instruction.{askWith, outcomeOf, operandByte, operandOf, carriedOut, writesAsked, callTo, callOf, executeOf, decodedTo, instructionOf}
+
+-- each element of a list is a byte
+abbrev pub Bytes : List ℕ → Type 0
+Bytes l = (k : ℕ) → getD l k 0 < 256
+
+pub record InRange (r : Registers) : Type 0 where
+  pub a : r .a < 256
+  pub x : r .x < 256
+  pub y : r .y < 256
+  pub sp : r .sp < 256
+  pub pc : r .pc < 65536
+
+pub record WriteFits (w : Write) : Type 0 where
+  pub address : w .address < 65536
+  pub value : w .value < 256
+
+pub record WritesFit (w : Writes) : Type 0 where
+  pub first : WriteFits (w .first)
+  pub second : WriteFits (w .second)
+  pub third : WriteFits (w .third)
+
+pub record WorkedFits (w : Worked) : Type 0 where
+  pub registers : InRange (w .registers)
+  pub writes : WritesFit (w .writes)
+
+record PlaceFits (p : Place) : Type 0 where
+  address : p .address < 65536
+  pc : p .pc < 65536
+
+record OperandFits (o : Operand) : Type 0 where
+  address : o .address < 65536
+  value : o .value < 256
+
+word-lt : (h l : ℕ) → h < 256 → l < 256 → word h l < 65536
+word-lt h l p q = omega arith
+
+byte-wraps : (a b : ℕ) → wrapping8 a b < 256
+byte-wraps a b = omega arith
+
+address-wraps : (a b : ℕ) → wrapping16 a b < 65536
+address-wraps a b = omega arith
+
+byte-fits : (v : ℕ) → v < 256 → v < 65536
+byte-fits v h = omega arith
+
+-- the registers
+pc-in : (v : ℕ) (r : Registers) → v < 65536 → InRange r → InRange (withPc v r)
+pc-in v r h i = record { a = i .a; x = i .x; y = i .y; sp = i .sp; pc = h }
+
+sp-in : (v : ℕ) (r : Registers) → v < 256 → InRange r → InRange (withSp v r)
+sp-in v r h i = record { a = i .a; x = i .x; y = i .y; sp = h; pc = i .pc }
+
+status-in : (s : Status) (r : Registers) → InRange r → InRange (withStatus s r)
+status-in s r i = record { a = i .a; x = i .x; y = i .y; sp = i .sp; pc = i .pc }
+
+a-in : (k : Computed) (r : Registers) → k .value < 256 → InRange r → InRange (intoA k r)
+a-in k r h i = record { a = h; x = i .x; y = i .y; sp = i .sp; pc = i .pc }
+
+x-in : (k : Computed) (r : Registers) → k .value < 256 → InRange r → InRange (intoX k r)
+x-in k r h i = record { a = i .a; x = h; y = i .y; sp = i .sp; pc = i .pc }
+
+y-in : (k : Computed) (r : Registers) → k .value < 256 → InRange r → InRange (intoY k r)
+y-in k r h i = record { a = i .a; x = i .x; y = h; sp = i .sp; pc = i .pc }
+
+load-a-in : (v : ℕ) (r : Registers) → v < 256 → InRange r → InRange (loadA v r)
+load-a-in v r h i = record { a = h; x = i .x; y = i .y; sp = i .sp; pc = i .pc }
+
+load-x-in : (v : ℕ) (r : Registers) → v < 256 → InRange r → InRange (loadX v r)
+load-x-in v r h i = record { a = i .a; x = h; y = i .y; sp = i .sp; pc = i .pc }
+
+load-y-in : (v : ℕ) (r : Registers) → v < 256 → InRange r → InRange (loadY v r)
+load-y-in v r h i = record { a = i .a; x = i .x; y = h; sp = i .sp; pc = i .pc }
+
+-- what is computed is a byte
+modulo-lt : (z : ℤ) → modulo z 256 < 256
+modulo-lt (pos k) = omega arith
+modulo-lt (negsuc k) = omega arith
+
+binary-lt : (a m : ℕ) (s : Status) → addBinary a m s .value < 256
+unfolding addBinary
+binary-lt a m s = omega arith
+
+decimal-lt : (a m : ℕ) (s : Status) → addDecimal a m s .value < 256
+unfolding addDecimal
+decimal-lt a m s = omega arith
+
+adc-lt : (a m : ℕ) (s : Status) → adcOf a m s .value < 256
+unfolding adcOf
+adc-lt a m s = cond-both (λ k. k .value < 256) (s .d) (addDecimal a m s) (addBinary a m s) (λ t. decimal-lt a m s) (λ t. binary-lt a m s)
+
+difference-lt : (a m : ℕ) (c : Bool) → decimalDifference a m c < 256
+unfolding decimalDifference
+difference-lt a m c = modulo-lt (lowered (digitDifference a m c))
+
+sbc-lt : (a m : ℕ) (s : Status) → sbcOf a m s .value < 256
+unfolding sbcOf
+sbc-lt a m s =
+    cond-both (λ k. k .value < 256) (s .d) (record { value = decimalDifference a m (s .c); status = subtractBinary a m s .status }) (subtractBinary a m s)
+    (λ t. difference-lt a m (s .c))
+    (λ t. binary-lt a (255 - m) s)
+
+and-of-lt : (a m : ℕ) (s : Status) → a < 256 → m < 256 → andOf a m s .value < 256
+unfolding andOf
+and-of-lt a m s p q = and-lt 8 a m p q
+
+ora-of-lt : (a m : ℕ) (s : Status) → a < 256 → m < 256 → oraOf a m s .value < 256
+unfolding oraOf
+ora-of-lt a m s p q = or-lt 8 a m p q
+
+eor-of-lt : (a m : ℕ) (s : Status) → a < 256 → m < 256 → eorOf a m s .value < 256
+unfolding eorOf
+eor-of-lt a m s p q = xor-lt 8 a m p q
+
+asl-lt : (x : ℕ) (s : Status) → aslOf x s .value < 256
+unfolding aslOf
+asl-lt x s = omega arith
+
+lsr-lt : (x : ℕ) (s : Status) → x < 256 → lsrOf x s .value < 256
+unfolding lsrOf
+lsr-lt x s h = omega arith
+
+rol-lt : (x : ℕ) (s : Status) → rolOf x s .value < 256
+unfolding rolOf
+rol-lt x s = let d = digit-le (s .c) in omega arith
+
+ror-lt : (x : ℕ) (s : Status) → x < 256 → rorOf x s .value < 256
+unfolding rorOf
+ror-lt x s h = let d = digit-le (s .c) in omega arith
+
+increment-lt : (x : ℕ) (s : Status) → incrementOf x s .value < 256
+unfolding incrementOf
+increment-lt x s = omega arith
+
+decrement-lt : (x : ℕ) (s : Status) → decrementOf x s .value < 256
+unfolding decrementOf
+decrement-lt x s = omega arith
+
+reset-bit-lt : (x m : ℕ) → x < 256 → resetBitOf x m < 256
+unfolding resetBitOf withBit
+reset-bit-lt x m h = omega arith
+
+set-bit-lt : (x m : ℕ) → x < 256 → setBitOf x m < 256
+unfolding setBitOf withBit
+set-bit-lt x m h = bit-room 8 (m % 8) x (omega arith) h
+
+pushed-lt : (s : Status) (brk : Bool) → pushed s brk < 256
+unfolding pushed
+pushed-lt s brk = omega (arith, packed-le s, digit-le brk)
+
+-- the writes
+no-write : WriteFits (noWrites .first)
+no-write = record { address = omega arith; value = omega arith }
+
+no-writes : WritesFit noWrites
+no-writes = record { first = no-write; second = no-write; third = no-write }
+
+word-writes : (sp pc : ℕ) → sp < 256 → WritesFit (pushWord sp pc)
+unfolding pushWord
+word-writes sp pc h = record {
+  first = record { address = omega arith; value = omega arith };
+  second = record { address = omega arith; value = omega arith };
+  third = no-write;
+}
+
+interrupt-writes : (sp pc p : ℕ) → sp < 256 → p < 256 → WritesFit (pushInterrupt sp pc p)
+unfolding pushInterrupt
+interrupt-writes sp pc p h q = record {
+  first = record { address = omega arith; value = omega arith };
+  second = record { address = omega arith; value = omega arith };
+  third = record { address = omega arith; value = q };
+}
+
+quiet-fits : (r : Registers) (n : ℕ) (b : Bus) → InRange r → WorkedFits (quiet r n b .worked)
+quiet-fits r n b i = record { registers = i; writes = no-writes }
+
+settled-fits : (o : Operand) (r : Registers) → InRange r → WorkedFits (settled o r .worked)
+unfolding settled
+settled-fits o r i = record { registers = i; writes = no-writes }
+
+stored-fits : (o : Operand) (r : Registers) (v : ℕ) → OperandFits o → v < 256 → InRange r → WorkedFits (stored o r v .worked)
+unfolding stored
+stored-fits o r v f h i = record {
+  registers = i;
+  writes = record { first = record { address = f .address; value = h }; second = no-write; third = no-write };
+}
+
+modified-fits : (o : Operand) (r : Registers) (k : Computed) → OperandFits o → k .value < 256 → InRange r → WorkedFits (modified o r k .worked)
+unfolding modified
+modified-fits o r k f h i =
+    cond-both (λ e. WorkedFits (e .worked)) (o .accumulator) (quiet (intoA k r) (o .length) (o .bus)) (stored o (withStatus (k .status) r) (k .value))
+    (λ t. quiet-fits (intoA k r) (o .length) (o .bus) (a-in k r h i))
+    (λ t. stored-fits o (withStatus (k .status) r) (k .value) f h (status-in (k .status) r i))
+
+branched-fits : (o : Operand) (r : Registers) (taken : Bool) → o .address < 65536 → InRange r → WorkedFits (branched o r taken .worked)
+unfolding branched
+branched-fits o r taken h i =
+    cond-both (λ e. WorkedFits (e .worked)) taken (quiet (withPc (o .address) r) (o .length + 1 + digit (o .crossed)) (o .bus)) (quiet r (o .length) (o .bus))
+    (λ t. quiet-fits (withPc (o .address) r) (o .length + 1 + digit (o .crossed)) (o .bus) (pc-in (o .address) r h i))
+    (λ t. quiet-fits r (o .length) (o .bus) i)
+
+jumped-fits : (o : Operand) (r : Registers) → OperandFits o → InRange r → WorkedFits (jumped o r .worked)
+unfolding jumped
+jumped-fits o r f i = quiet-fits (withPc (o .address) r) (o .length) (o .bus) (pc-in (o .address) r (f .address) i)
+
+pushed-fits : (o : Operand) (r : Registers) (v : ℕ) → v < 256 → InRange r → WorkedFits (pushedByte o r v .worked)
+unfolding pushedByte
+pushed-fits o r v h i =
+    let s = i .sp in
+    record {
+      registers = sp-in _ r (byte-wraps (r .sp) 255) i;
+      writes = record { first = record { address = omega arith; value = h }; second = no-write; third = no-write };
+    }
+
+-- what is done is in range; a question says nothing of registers
+abbrev pub DoneFits : Outcome → Type 0
+DoneFits Undefined = Unit
+DoneFits (Asked q) = Unit
+DoneFits (Done w) = WorkedFits w
+
+module _ (answers memory : List ℕ) (given : Bytes answers) (bytes : Bytes memory) where
+  memory-lt : (a : ℕ) → memoryByte memory a < 256
+  unfolding memoryByte
+  memory-lt a = bytes a
+
+  vector-lt : (a : ℕ) → vectorOf memory a < 65536
+  unfolding vectorOf
+  vector-lt a = word-lt (memoryByte memory (nextAddress a)) (memoryByte memory a) (memory-lt (nextAddress a)) (memory-lt a)
+
+  ask-lt : (a : ℕ) (latch : Bool) (b : Bus) → askOf answers a latch b .value < 256
+  unfolding askOf
+  ask-lt a latch b =
+      cond-both (λ g. g .value < 256) (ltb (b .used) (length answers)) (answered answers b) (got 0 (asking a latch b)) (λ t. given (b .used)) (λ t. omega arith)
+
+  read-lt : (a : ℕ) (latch : Bool) (b : Bus) → readOf answers memory a latch b .value < 256
+  unfolding readOf
+  read-lt a latch b =
+      cond-both (λ g. g .value < 256) (isRegister a) (askOf answers a latch b) (got (memoryByte memory a) b) (λ t. ask-lt a latch b) (λ t. memory-lt a)
+
+  read-word-lt : (a c : ℕ) (b : Bus) → readWord answers memory a c b .value < 65536
+  unfolding readWord
+  read-word-lt a c b =
+      let g = readOf answers memory a false b in
+      word-lt (readOf answers memory c false (g .bus) .value) (g .value) (read-lt c false (g .bus)) (read-lt a false b)
+
+  fetch-lt : (pc : ℕ) (b : Bus) → fetchOf answers memory pc b .value < 256
+  unfolding fetchOf
+  fetch-lt pc b = read-lt pc false b
+
+  fetch-pc : (pc : ℕ) (b : Bus) → fetchOf answers memory pc b .pc < 65536
+  unfolding fetchOf
+  fetch-pc pc b = address-wraps pc 1
+
+  fetch-word-lt : (pc : ℕ) (b : Bus) → fetchWord answers memory pc b .value < 65536
+  unfolding fetchWord
+  fetch-word-lt pc b =
+      let f = fetchOf answers memory pc b in
+      word-lt (fetchOf answers memory (f .pc) (f .bus) .value) (f .value) (fetch-lt (f .pc) (f .bus)) (fetch-lt pc b)
+
+  fetch-word-pc : (pc : ℕ) (b : Bus) → fetchWord answers memory pc b .pc < 65536
+  unfolding fetchWord
+  fetch-word-pc pc b = let f = fetchOf answers memory pc b in fetch-pc (f .pc) (f .bus)
+
+  pull-lt : (sp : ℕ) (b : Bus) → pullOf answers memory sp b .value < 256
+  unfolding pullOf
+  pull-lt sp b = read-lt (up sp) false b
+
+  pull-sp : (sp : ℕ) (b : Bus) → pullOf answers memory sp b .sp < 256
+  unfolding pullOf
+  pull-sp sp b = byte-wraps sp 1
+
+  pull-word-lt : (sp : ℕ) (b : Bus) → pullWord answers memory sp b .value < 65536
+  unfolding pullWord
+  pull-word-lt sp b =
+      let p = pullOf answers memory sp b in
+      word-lt (pullOf answers memory (p .sp) (p .bus) .value) (p .value) (pull-lt (p .sp) (p .bus)) (pull-lt sp b)
+
+  pull-word-sp : (sp : ℕ) (b : Bus) → pullWord answers memory sp b .sp < 256
+  unfolding pullWord
+  pull-word-sp sp b = let p = pullOf answers memory sp b in pull-sp (p .sp) (p .bus)
+
+  written-lt : (w : Writes) (a v : ℕ) → WritesFit w → v < 256 → writtenOver w a v < 256
+  unfolding writtenOver
+  written-lt w a v f h =
+      let s = cond (ltb 0 (w .count) && eqb (w .first .address) a) (w .first .value) v in
+      let t = cond (ltb 1 (w .count) && eqb (w .second .address) a) (w .second .value) s in
+      cond-both (λ n. n < 256) (ltb 2 (w .count) && eqb (w .third .address) a) (w .third .value) t (λ e. f .third .value)
+      (λ e. cond-both (λ n. n < 256) (ltb 1 (w .count) && eqb (w .second .address) a) (w .second .value) s (λ e. f .second .value)
+      (λ e. cond-both (λ n. n < 256) (ltb 0 (w .count) && eqb (w .first .address) a) (w .first .value) v (λ e. f .first .value) (λ e. h)))
+
+  read-after-lt : (w : Writes) (a : ℕ) (b : Bus) → WritesFit w → readAfter answers memory w a b .value < 256
+  unfolding readAfter
+  read-after-lt w a b f =
+      cond-both (λ g. g .value < 256) (isRegister a) (askOf answers a false b) (got (writtenOver w a (memoryByte memory a)) b)
+      (λ t. ask-lt a false b)
+      (λ t. written-lt w a (memoryByte memory a) f (memory-lt a))
+
+  relative-fits : (f : Fetched) → f .pc < 65536 → PlaceFits (relativeTo f)
+  unfolding relativeTo
+  relative-fits f h = record { address = address-wraps _ _; pc = h }
+
+  indexed-fits : (i base pc : ℕ) (b : Bus) → pc < 65536 → PlaceFits (indexedBy i base pc b)
+  unfolding indexedBy
+  indexed-fits i base pc b h = record { address = address-wraps base i; pc = h }
+
+  pointer-lt : (z : ℕ) (b : Bus) → zeroPagePointer answers memory z b .value < 65536
+  unfolding zeroPagePointer
+  pointer-lt z b = read-word-lt z (wrapping8 z 1) b
+
+  locate-fits : (mode : Mode) (r : Registers) (b : Bus) → InRange r → PlaceFits (locateOf answers memory mode r b)
+  unfolding locateOf
+  locate-fits Implied r b i = record { address = omega arith; pc = i .pc }
+  locate-fits Accumulator r b i = record { address = omega arith; pc = i .pc }
+  locate-fits Immediate r b i = record { address = i .pc; pc = address-wraps (r .pc) 1 }
+  locate-fits ZeroPage r b i = record { address = byte-fits _ (fetch-lt (r .pc) b); pc = fetch-pc (r .pc) b }
+  locate-fits ZeroPageX r b i = record { address = byte-fits _ (byte-wraps (fetchOf answers memory (r .pc) b .value) (r .x)); pc = fetch-pc (r .pc) b }
+  locate-fits ZeroPageY r b i = record { address = byte-fits _ (byte-wraps (fetchOf answers memory (r .pc) b .value) (r .y)); pc = fetch-pc (r .pc) b }
+  locate-fits Absolute r b i = record { address = fetch-word-lt (r .pc) b; pc = fetch-word-pc (r .pc) b }
+  locate-fits AbsoluteX r b i =
+      let f = fetchWord answers memory (r .pc) b in
+      indexed-fits (r .x) (f .value) (f .pc) (f .bus) (fetch-word-pc (r .pc) b)
+  locate-fits AbsoluteY r b i =
+      let f = fetchWord answers memory (r .pc) b in
+      indexed-fits (r .y) (f .value) (f .pc) (f .bus) (fetch-word-pc (r .pc) b)
+  locate-fits IndexedIndirect r b i =
+      let f = fetchOf answers memory (r .pc) b in
+      record { address = pointer-lt (zeroPageIndexed (f .value) (r .x)) (f .bus); pc = fetch-pc (r .pc) b }
+  locate-fits IndirectIndexed r b i =
+      let f = fetchOf answers memory (r .pc) b in
+      let w = zeroPagePointer answers memory (f .value) (f .bus) in
+      indexed-fits (r .y) (w .value) (f .pc) (w .bus) (fetch-pc (r .pc) b)
+  locate-fits Indirect r b i =
+      let f = fetchWord answers memory (r .pc) b in
+      record { address = read-word-lt (f .value) (secondAddress (f .value)) (f .bus); pc = fetch-word-pc (r .pc) b }
+  locate-fits Relative r b i = relative-fits (fetchOf answers memory (r .pc) b) (fetch-pc (r .pc) b)
+  locate-fits ZeroPageRelative r b i = record { address = byte-fits _ (fetch-lt (r .pc) b); pc = fetch-pc (r .pc) b }
+
+  bit-branched-fits : (o : Operand) (r : Registers) (taken : Bool) → InRange r → WorkedFits (bitBranched answers memory o r taken .worked)
+  unfolding bitBranched
+  bit-branched-fits o r taken i =
+      let f = fetchOf answers memory (r .pc) (o .bus) in
+      let p : Place = relativeTo f in
+      let q = relative-fits f (fetch-pc (r .pc) (o .bus)) in
+      branched-fits (branchOperand o p) (withPc (p .pc) r) taken (q .address) (pc-in (p .pc) r (q .pc) i)
+
+  accumulator-fits : (o : Operand) (r : Registers) → InRange r → WorkedFits (pulledAccumulator answers memory o r .worked)
+  unfolding pulledAccumulator
+  accumulator-fits o r i =
+      let p = pullOf answers memory (r .sp) (o .bus) in
+      quiet-fits (loadA (p .value) (withSp (p .sp) r)) (o .length) (p .bus)
+      (load-a-in (p .value) (withSp (p .sp) r) (pull-lt (r .sp) (o .bus)) (sp-in (p .sp) r (pull-sp (r .sp) (o .bus)) i))
+
+  status-fits : (o : Operand) (r : Registers) → InRange r → WorkedFits (pulledStatus answers memory o r .worked)
+  unfolding pulledStatus
+  status-fits o r i =
+      let p = pullOf answers memory (r .sp) (o .bus) in
+      quiet-fits _ (o .length) (p .bus) (status-in _ (withSp (p .sp) r) (sp-in (p .sp) r (pull-sp (r .sp) (o .bus)) i))
+
+  returned-fits : (o : Operand) (r : Registers) → InRange r → WorkedFits (returned answers memory o r .worked)
+  unfolding returned
+  returned-fits o r i =
+      let w = pullWord answers memory (r .sp) (o .bus) in
+      quiet-fits _ (o .length) (w .bus) (pc-in (nextAddress (w .value)) (withSp (w .sp) r) (address-wraps (w .value) 1) (sp-in (w .sp) r (pull-word-sp (r .sp) (o .bus)) i))
+
+  resumed-fits : (o : Operand) (r : Registers) → InRange r → WorkedFits (resumed answers memory o r .worked)
+  unfolding resumed
+  resumed-fits o r i =
+      let p = pullOf answers memory (r .sp) (o .bus) in
+      let w = pullWord answers memory (p .sp) (p .bus) in
+      quiet-fits _ (o .length) (w .bus)
+      (pc-in (w .value) _ (pull-word-lt (p .sp) (p .bus)) (status-in _ (withSp (w .sp) r) (sp-in (w .sp) r (pull-word-sp (p .sp) (p .bus)) i)))
+
+  interrupted-fits : (vector p : ℕ) (r : Registers) → p < 256 → InRange r → WorkedFits (interrupted memory vector p r)
+  unfolding interrupted
+  interrupted-fits vector p r h i = record {
+    registers = record { a = i .a; x = i .x; y = i .y; sp = byte-wraps _ 255; pc = vector-lt vector };
+    writes = interrupt-writes (r .sp) (r .pc) p (i .sp) h;
+  }
+
+  broken-fits : (o : Operand) (r : Registers) → InRange r → WorkedFits (broken memory o r .worked)
+  unfolding broken
+  broken-fits o r i = interrupted-fits 0xFFFE (pushed (r .status) true) (withPc (nextAddress (r .pc)) r) (pushed-lt (r .status) true) (pc-in (nextAddress (r .pc)) r (address-wraps (r .pc) 1) i)
+
+  work-fits : (op : Operation) (r : Registers) (o : Operand) → OperandFits o → InRange r → WorkedFits (workOf answers memory op r o .worked)
+  unfolding workOf
+  work-fits Adc r o f i = settled-fits o _ (a-in _ r (adc-lt (r .a) (o .value) (r .status)) i)
+  work-fits And r o f i = settled-fits o _ (a-in _ r (and-of-lt (r .a) (o .value) (r .status) (i .a) (f .value)) i)
+  work-fits Asl r o f i = modified-fits o r _ f (asl-lt (o .value) (r .status)) i
+  work-fits Bcc r o f i = branched-fits o r _ (f .address) i
+  work-fits Bcs r o f i = branched-fits o r _ (f .address) i
+  work-fits Beq r o f i = branched-fits o r _ (f .address) i
+  work-fits Bit r o f i = settled-fits o _ (status-in _ r i)
+  work-fits Bmi r o f i = branched-fits o r _ (f .address) i
+  work-fits Bne r o f i = branched-fits o r _ (f .address) i
+  work-fits Bpl r o f i = branched-fits o r _ (f .address) i
+  work-fits Brk r o f i = broken-fits o r i
+  work-fits Bvc r o f i = branched-fits o r _ (f .address) i
+  work-fits Bvs r o f i = branched-fits o r _ (f .address) i
+  work-fits Clc r o f i = settled-fits o _ (status-in _ r i)
+  work-fits Cld r o f i = settled-fits o _ (status-in _ r i)
+  work-fits Cli r o f i = settled-fits o _ (status-in _ r i)
+  work-fits Clv r o f i = settled-fits o _ (status-in _ r i)
+  work-fits Cmp r o f i = settled-fits o _ (status-in _ r i)
+  work-fits Cpx r o f i = settled-fits o _ (status-in _ r i)
+  work-fits Cpy r o f i = settled-fits o _ (status-in _ r i)
+  work-fits Dec r o f i = modified-fits o r _ f (decrement-lt (o .value) (r .status)) i
+  work-fits Dex r o f i = settled-fits o _ (x-in _ r (decrement-lt (r .x) (r .status)) i)
+  work-fits Dey r o f i = settled-fits o _ (y-in _ r (decrement-lt (r .y) (r .status)) i)
+  work-fits Eor r o f i = settled-fits o _ (a-in _ r (eor-of-lt (r .a) (o .value) (r .status) (i .a) (f .value)) i)
+  work-fits Inc r o f i = modified-fits o r _ f (increment-lt (o .value) (r .status)) i
+  work-fits Inx r o f i = settled-fits o _ (x-in _ r (increment-lt (r .x) (r .status)) i)
+  work-fits Iny r o f i = settled-fits o _ (y-in _ r (increment-lt (r .y) (r .status)) i)
+  work-fits Jmp r o f i = jumped-fits o r f i
+  work-fits Jsr r o f i = settled-fits o r i
+  work-fits Lda r o f i = settled-fits o _ (load-a-in _ r (f .value) i)
+  work-fits Ldx r o f i = settled-fits o _ (load-x-in _ r (f .value) i)
+  work-fits Ldy r o f i = settled-fits o _ (load-y-in _ r (f .value) i)
+  work-fits Lsr r o f i = modified-fits o r _ f (lsr-lt (o .value) (r .status) (f .value)) i
+  work-fits Nop r o f i = settled-fits o r i
+  work-fits Ora r o f i = settled-fits o _ (a-in _ r (ora-of-lt (r .a) (o .value) (r .status) (i .a) (f .value)) i)
+  work-fits Pha r o f i = pushed-fits o r _ (i .a) i
+  work-fits Php r o f i = pushed-fits o r _ (pushed-lt (r .status) true) i
+  work-fits Pla r o f i = accumulator-fits o r i
+  work-fits Plp r o f i = status-fits o r i
+  work-fits Rol r o f i = modified-fits o r _ f (rol-lt (o .value) (r .status)) i
+  work-fits Ror r o f i = modified-fits o r _ f (ror-lt (o .value) (r .status) (f .value)) i
+  work-fits Rti r o f i = resumed-fits o r i
+  work-fits Rts r o f i = returned-fits o r i
+  work-fits Sbc r o f i = settled-fits o _ (a-in _ r (sbc-lt (r .a) (o .value) (r .status)) i)
+  work-fits Sec r o f i = settled-fits o _ (status-in _ r i)
+  work-fits Sed r o f i = settled-fits o _ (status-in _ r i)
+  work-fits Sei r o f i = settled-fits o _ (status-in _ r i)
+  work-fits Sta r o f i = stored-fits o r _ f (i .a) i
+  work-fits Stx r o f i = stored-fits o r _ f (i .x) i
+  work-fits Sty r o f i = stored-fits o r _ f (i .y) i
+  work-fits Tax r o f i = settled-fits o _ (load-x-in _ r (i .a) i)
+  work-fits Tay r o f i = settled-fits o _ (load-y-in _ r (i .a) i)
+  work-fits Tsx r o f i = settled-fits o _ (load-x-in _ r (i .sp) i)
+  work-fits Txa r o f i = settled-fits o _ (load-a-in _ r (i .x) i)
+  work-fits Txs r o f i = settled-fits o _ (sp-in _ r (i .x) i)
+  work-fits Tya r o f i = settled-fits o _ (load-a-in _ r (i .y) i)
+  work-fits (Rmb m) r o f i = modified-fits o r _ f (reset-bit-lt (o .value) m (f .value)) i
+  work-fits (Smb m) r o f i = modified-fits o r _ f (set-bit-lt (o .value) m (f .value)) i
+  work-fits (Bbr m) r o f i = bit-branched-fits o r _ i
+  work-fits (Bbs m) r o f i = bit-branched-fits o r _ i
+
+  operand-lt : (access : Access) (a : ℕ) (p : Place) → a < 256 → operandByte answers memory access a p .value < 256
+  unfolding operandByte
+  operand-lt Nothing a p h = omega arith
+  operand-lt Read a p h = read-lt (p .address) false (p .bus)
+  operand-lt Modify a p h =
+      cond-both (λ g. g .value < 256) (p .accumulator) (got a (p .bus)) (readOf answers memory (p .address) true (p .bus)) (λ t. h) (λ t. read-lt (p .address) true (p .bus))
+  operand-lt Call a p h = omega arith
+
+  carried-fits : (e : Entry) (r : Registers) (b : Bus) → InRange r → WorkedFits (carriedOut answers memory e r b .worked)
+  unfolding carriedOut
+  carried-fits e r b i =
+      let p = locateOf answers memory (e .mode) r b in
+      let q = locate-fits (e .mode) r b i in
+      let g = operandByte answers memory (accessOf (e .operation)) (r .a) p in
+      work-fits (e .operation) (withPc (p .pc) r) (operandOf (e .length) p g)
+      (record { address = q .address; value = operand-lt (accessOf (e .operation)) (r .a) p (i .a) })
+      (pc-in (p .pc) r (q .pc) i)
+
+  outcome-fits : (w : Writes) (e : Ended) → WorkedFits (e .worked) → DoneFits (outcomeOf w e)
+  unfolding outcomeOf
+  outcome-fits w e f = cond-both DoneFits (e .bus .missing) (Asked (askWith w (e .bus))) (Done (e .worked)) (λ t. tt) (λ t. f)
+
+  call-fits : (r : Registers) (n : ℕ) (b : Bus) → InRange r → DoneFits (callOf answers memory r n b)
+  unfolding callOf
+  call-fits r n b i =
+      let l = fetchOf answers memory (r .pc) b in
+      let w = pushWord (r .sp) (l .pc) in
+      let f = word-writes (r .sp) (l .pc) (i .sp) in
+      let h = readAfter answers memory w (l .pc) (l .bus) in
+      outcome-fits (writesAsked (l .bus) w) (callTo r n l w h) (record {
+        registers = pc-in (word (h .value) (l .value)) _ (word-lt (h .value) (l .value) (read-after-lt w (l .pc) (l .bus) f) (fetch-lt (r .pc) b)) (sp-in _ r (byte-wraps _ 255) i);
+        writes = f;
+      })
+
+  execute-fits : (e : Entry) (r : Registers) (b : Bus) → InRange r → DoneFits (executeOf answers memory e r b)
+  unfolding executeOf
+  execute-fits e r b i =
+      cond-both DoneFits (calls (accessOf (e .operation))) (callOf answers memory r (e .length) b) (outcomeOf noWrites (carriedOut answers memory e r b))
+      (λ t. call-fits r (e .length) b i)
+      (λ t. outcome-fits noWrites (carriedOut answers memory e r b) (carried-fits e r b i))
+
+  decoded-fits : (d : Decoded) (r : Registers) (b : Bus) → InRange r → DoneFits (decodedTo answers memory r b d)
+  decoded-fits decoded.Undefined r b i = tt
+  decoded-fits (decoded.Defined e) r b i = execute-fits e r b i
+
+  in-range : (r : Registers) → InRange r → DoneFits (instructionOf r answers memory)
+  unfolding instructionOf
+  in-range r i =
+      let f = fetchOf answers memory (r .pc) idle in
+      cond-both DoneFits (f .bus .missing) (Asked (askWith noWrites (f .bus))) (decodedTo answers memory (withPc (f .pc) r) (f .bus) (decodeOf (f .value)))
+      (λ t. tt)
+      (λ t. decoded-fits (decodeOf (f .value)) (withPc (f .pc) r) (f .bus) (pc-in (f .pc) r (fetch-pc (r .pc) idle) i))
+
+  -- an instruction that is done leaves registers and writes in range
+  pub done-in-range : (r : Registers) (w : Worked) → InRange r → instructionOf r answers memory ≡ Done w → WorkedFits w
+  done-in-range r w i e = rw e at (in-range r i)
+
+  -- and so do the entries
+  pub reset-in-range : (r : Registers) → InRange r → WorkedFits (resetEntry memory r)
+  unfolding resetEntry
+  reset-in-range r i = record { registers = pc-in _ _ (vector-lt resetVector) (status-in _ r i); writes = no-writes }
+
+  pub interrupt-in-range : (vector : ℕ) (r : Registers) → InRange r → WorkedFits (interruptEntry memory vector r)
+  unfolding interruptEntry
+  interrupt-in-range vector r i = interrupted-fits vector (pushed (r .status) false) r (pushed-lt (r .status) false) i

@@ -1,0 +1,62 @@
+use mathlib.Core.Path.{sym, _∙_}
+use Rattle.opcodes.proofs.Laws.{length-fits}
+use Rattle.cpu.specs.Instruction.{instructionOf}
+use borrow.Author.Needs.{needs}
+use Rattle.cpu.proofs.instruction.Statement.{statement}
+use Rattle.cpu.proofs.instruction.Tie as tie
+
+idle-requires : tie.Need-idle-requires
+idle-requires c κs = search needs
+
+fetch-requires : tie.Need-fetch-requires
+fetch-requires c κs = search needs
+
+no-writes-requires : tie.Need-no-writes-requires
+no-writes-requires c κs = search needs
+
+ask-with-requires : tie.Need-ask-with-requires
+ask-with-requires c κs = search needs
+
+returns : tie.Need-returns
+unfolding instructionOf
+returns c = rw (← (c .before .before .before .before .before .idle .ensures), ← (c .before .before .before .before .fetch .ensures), ← (c .before .no-writes .ensures), ← (c .ask-with .ensures), c .before .before .if1 .taken)
+
+decode-in-requires : tie.Need-decode-in-requires
+decode-in-requires c κs = search needs
+
+enum-known-decoded : tie.Need-enum-known-decoded
+enum-known-decoded c = search needs
+
+enum-told : tie.Need-enum-told
+enum-told c = search needs
+
+returns-2 : tie.Need-returns-2
+unfolding instructionOf
+returns-2 c = rw (← (c .before .before .before .before .before .before .idle .ensures), ← (c .before .before .before .before .before .fetch .ensures), c .before .before .before .if1 .left, ← (c .before .before .decode-in .ensures), c .enum-told .given .1)
+
+with-pc-requires : tie.Need-with-pc-requires
+with-pc-requires c κs = search needs
+
+execute-requires : tie.Need-execute-requires
+execute-requires c κs = length-fits _ _ (sym (c .before .before .before .before .decode-in .ensures) ∙ c .before .before .decoded .given .1) .most
+
+returns-3 : tie.Need-returns-3
+unfolding instructionOf
+returns-3 c = rw (c .execute .ensures, c .before .with-pc .ensures, ← (c .before .before .before .before .before .before .before .before .before .idle .ensures), ← (c .before .before .before .before .before .before .before .before .fetch .ensures), c .before .before .before .before .before .before .if1 .left, ← (c .before .before .before .before .before .decode-in .ensures), c .before .before .before .decoded .given .1)
+
+pub instruction-spec : {M : Type 1} → statement M
+instruction-spec =
+    tie.close
+    (tie.spec
+    idle-requires
+    fetch-requires
+    no-writes-requires
+    ask-with-requires
+    returns
+    decode-in-requires
+    enum-known-decoded
+    enum-told
+    returns-2
+    with-pc-requires
+    execute-requires
+    returns-3)

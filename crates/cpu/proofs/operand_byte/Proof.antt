@@ -1,0 +1,58 @@
+use Rattle.cpu.specs.Instruction.{operandByte}
+use borrow.Author.Needs.{needs}
+use Rattle.cpu.proofs.operand_byte.Statement.{statement}
+use Rattle.cpu.proofs.operand_byte.Tie as tie
+
+enum-told : tie.Need-enum-told
+enum-told c = search needs
+
+enum-told-2 : tie.Need-enum-told-2
+enum-told-2 c = search needs
+
+read-requires : tie.Need-read-requires
+read-requires c κs = search needs
+
+enum-told-3 : tie.Need-enum-told-3
+enum-told-3 c = search needs
+
+returns : tie.Need-returns
+unfolding operandByte
+returns c = rw (c .before .enum-told3 .given .1, c .if1 .taken)
+
+read-requires-2 : tie.Need-read-requires-2
+read-requires-2 c κs = search needs
+
+enum-told-4 : tie.Need-enum-told-4
+enum-told-4 c = search needs
+
+returns-2 : tie.Need-returns-2
+unfolding operandByte
+returns-2 c = rw (c .enum-told .given .1)
+
+returns-3 : tie.Need-returns-3
+unfolding operandByte
+returns-3 c = rw (c .before .enum-told2 .given .1, ← (c .read .ensures))
+
+returns-4 : tie.Need-returns-4
+unfolding operandByte
+returns-4 c = rw (c .before .before .enum-told3 .given .1, ← (c .read2 .ensures), c .before .if1 .left)
+
+returns-5 : tie.Need-returns-5
+unfolding operandByte
+returns-5 c = rw (c .enum-told4 .given .1)
+
+pub operand-byte-spec : {M : Type 1} → statement M
+operand-byte-spec =
+    tie.close
+    (tie.spec
+    enum-told
+    enum-told-2
+    read-requires
+    enum-told-3
+    returns
+    read-requires-2
+    enum-told-4
+    returns-2
+    returns-3
+    returns-4
+    returns-5)

@@ -1,0 +1,170 @@
+// One whole instruction, over the registers, the answers to what it asks, and the lent memory. It knows no chip: a register
+// of the chip is asked for, and the instruction is worked again once the answer is there.
+ghost use mathlib.Core.Path.{_≡_};
+ghost use Prim.Native.Nat.{_≤_};
+ghost use Rattle.opcodes.specs.Table.{opcodeTable};
+ghost use Rattle.cpu.specs.Instruction.{askWith, outcomeOf, operandByte, operandOf, carriedOut, writesAsked, callOf, executeOf, instructionOf};
+use bus::Bus;
+use bus::Got;
+use bus::Registers;
+use bus::modes::Place;
+use bus::stack::Writes;
+use bus::stack::down;
+use bus::stack::no_writes;
+use opcodes::Decoded;
+use opcodes::Entry;
+use operations::Access;
+use operations::Ended;
+use operations::Operand;
+use operations::Worked;
+use operations::effects;
+use operations::registers;
+
+pub mod entries; // entries.rt: reset, NMI and IRQ
+
+// The register that an instruction has to read next; a read-modify-write instruction takes a port's latch. The answer is
+// what is there after the writes, which only JSR has.
+pub struct Ask {
+    pub address: u16,
+    pub latch: bool,
+    pub writes: Writes,
+}
+
+pub enum Outcome {
+    Undefined,
+    Asked(Ask),
+    Done(Worked),
+}
+
+fn ask_with(writes: Writes, bus: Bus) -> Ask
+    ensures { λ r. ⌜ r ≡ askWith writes bus ⌝ }
+{
+    Ask {
+        address: bus.address,
+        latch: bus.latch,
+        writes: writes,
+    }
+}
+
+// An instruction that still asks is not done.
+fn outcome_of(writes: Writes, ended: Ended) -> Outcome
+    ensures { λ r. ⌜ r ≡ outcomeOf writes ended ⌝ }
+{
+    let bus = ended.bus;
+    if bus.missing {
+        return Outcome::Asked(ask_with(writes, bus));
+    }
+    let worked = ended.worked;
+    Outcome::Done(worked)
+}
+
+// The operand's byte, read once.
+fn operand_byte(answers: &[u8], memory: &[u8], access: Access, a: u8, place: Place) -> Got
+    ensures { λ r. ⌜ r ≡ operandByte (now (answers .entry)) (now (memory .entry)) access a place ⌝ }
+{
+    let bus = place.bus;
+    match access {
+        Access::Nothing => Got { value: 0, bus: bus },
+        Access::Read => bus.read(answers, memory, place.address, false),
+        Access::Modify => {
+            if place.accumulator {
+                return Got { value: a, bus: bus };
+            }
+            bus.read(answers, memory, place.address, true)
+        }
+        Access::Call => Got { value: 0, bus: bus },
+    }
+}
+
+fn operand_of(length: u8, place: Place, got: Got) -> Operand
+    ensures { λ r. ⌜ r ≡ operandOf length place got ⌝ }
+{
+    let bus = got.bus;
+    Operand {
+        address: place.address,
+        value: got.value,
+        crossed: place.crossed,
+        accumulator: place.accumulator,
+        length: length,
+        bus: bus,
+    }
+}
+
+// The operand's place, its byte, and the operation.
+fn carried_out(answers: &[u8], memory: &[u8], entry: Entry, registers: Registers, bus: Bus) -> Ended
+    requires { ⌜ entry .length ≤ 7 ⌝ }
+    ensures { λ r. ⌜ r ≡ carriedOut (now (answers .entry)) (now (memory .entry)) entry registers bus ⌝ }
+{
+    let operation = entry.operation;
+    let mode = entry.mode;
+    let place = bus::modes::locate(answers, memory, mode, registers, bus);
+    let access = operations::access_of(operation);
+    let got = operand_byte(answers, memory, access, registers.a, place);
+    let operand = operand_of(entry.length, place, got);
+    let moved = registers::with_pc(registers, place.pc);
+    operations::work(answers, memory, operation, moved, operand)
+}
+
+// The writes that go with JSR's question: none where it is about the low byte, which is read before the pushes.
+fn writes_asked(bus: Bus, writes: Writes) -> Writes
+    ensures { λ r. ⌜ r ≡ writesAsked bus writes ⌝ }
+{
+    if bus.missing {
+        return no_writes();
+    }
+    writes
+}
+
+// JSR: the low byte of the target, the pushes, and only then the high byte.
+fn call(answers: &[u8], memory: &[u8], registers: Registers, length: u8, bus: Bus) -> Outcome
+    ensures { λ r. ⌜ r ≡ callOf (now (answers .entry)) (now (memory .entry)) registers length bus ⌝ }
+{
+    let sp = registers.sp;
+    let lower = bus.fetch(answers, memory, registers.pc);
+    let between = lower.bus;
+    let writes = bus::stack::push_word(sp, lower.pc);
+    let upper = between.read_after(answers, memory, writes, lower.pc);
+    let after = upper.bus;
+    let target = words::word16(upper.value, lower.value);
+    let called = registers::with_pc(registers::with_sp(registers, down(down(sp))), target);
+    let ended = effects::ended_with(called, writes, length, after);
+    outcome_of(writes_asked(between, writes), ended)
+}
+
+// A defined opcode; PC stands behind it.
+fn execute(answers: &[u8], memory: &[u8], entry: Entry, registers: Registers, bus: Bus) -> Outcome
+    requires { ⌜ entry .length ≤ 7 ⌝ }
+    ensures { λ r. ⌜ r ≡ executeOf (now (answers .entry)) (now (memory .entry)) entry registers bus ⌝ }
+{
+    let operation = entry.operation;
+    if operations::calls(operations::access_of(operation)) {
+        return call(answers, memory, registers, entry.length, bus);
+    }
+    outcome_of(
+        no_writes(),
+        carried_out(answers, memory, entry, registers, bus),
+    )
+}
+
+// One instruction. `entries` is what `opcodes::opcode_table` gave.
+pub fn instruction(registers: Registers, answers: &[u8], memory: &[u8], entries: &[u16]) -> Outcome
+    requires { ⌜ now entries ≡ opcodeTable ⌝ }
+    ensures { λ r. ⌜ r ≡ instructionOf registers (now (answers .entry)) (now (memory .entry)) ⌝ }
+{
+    let opcode = Bus::idle().fetch(answers, memory, registers.pc);
+    let bus = opcode.bus;
+    if bus.missing {
+        return Outcome::Asked(ask_with(no_writes(), bus));
+    }
+    let decoded = opcodes::decode_in(entries, opcode.value);
+    let Decoded::Defined(entry) = decoded else {
+        return Outcome::Undefined;
+    };
+    execute(
+        answers,
+        memory,
+        entry,
+        registers::with_pc(registers, opcode.pc),
+        bus,
+    )
+}

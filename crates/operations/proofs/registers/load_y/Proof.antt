@@ -1,0 +1,12 @@
+use borrow.Author.Needs.{needs}
+use Rattle.operations.proofs.registers.load_y.Statement.{statement}
+use Rattle.operations.proofs.registers.load_y.Tie as tie
+
+loaded-requires : tie.Need-loaded-requires
+loaded-requires c κs = search needs
+
+returns : tie.Need-returns
+returns c = rw (← (c .loaded .ensures))
+
+pub load-y-spec : {M : Type 1} → statement M
+load-y-spec = tie.close (tie.spec loaded-requires returns)

@@ -1,0 +1,19 @@
+use borrow.Author.Needs.{needs}
+use Rattle.refusals.specs.PinLists.{entryRight}
+use Rattle.refusals.proofs.pins.entry_right.Statement.{statement}
+use Rattle.refusals.proofs.pins.entry_right.Tie as tie
+use Rattle.refusals.proofs.pins.entry_right.Reads as reads
+use Rattle.refusals.proofs.pins.entry_right.Lts as lts
+use Rattle.chip.proofs.inputs.is_code.Reads as is-code-reads
+
+-- src/pins.rt:13:5
+is-code-requires : tie.Need-is-code-requires
+is-code-requires c κs = search needs
+
+-- src/pins.rt:10:1
+returns : tie.Need-returns
+unfolding entryRight
+returns c = rw (← c .is-code .ensures)
+
+pub entry-right-spec : {M : Type 1} → statement M
+entry-right-spec = tie.close (tie.spec is-code-requires returns)
