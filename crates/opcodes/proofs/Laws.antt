@@ -38,11 +38,11 @@ pub rows-183 : length rows ≡ 183
 rows-183 = refl
 
 -- a test that each row's entry passes is passed by whatever is looked up
-abbrev passes : (Entry → Bool) → Decoded → Bool
+abbrev pub passes : (Entry → Bool) → Decoded → Bool
 passes p Undefined = true
 passes p (Defined e) = p e
 
-looked-up : (p : Entry → Bool) (o : ℕ) (rs : List Row) → T (allOf (λ r. p (r .entry)) rs) → T (passes p (lookUp o rs))
+pub looked-up : (p : Entry → Bool) (o : ℕ) (rs : List Row) → T (allOf (λ r. p (r .entry)) rs) → T (passes p (lookUp o rs))
 looked-up p o [] t = tt
 looked-up p o (r ∷ rs) t =
     cond-both (λ d. T (passes p d)) (eqb o (r .opcode)) (Defined (r .entry)) (lookUp o rs)
