@@ -147,7 +147,7 @@ impl Peripherals {
     }
 
     // What a register reads as.
-    fn value(self, levels: u32, latch: bool, address: u16) -> u8
+    pub fn value(self, levels: u32, latch: bool, address: u16) -> u8
         ensures { λ r. ⌜ r ≡ registerValue self levels latch address ⌝ }
     {
         if address < 0x04 {
@@ -160,7 +160,7 @@ impl Peripherals {
     }
 
     // The effect of a read: flags cleared.
-    fn after_read(mut self, address: u16) -> Peripherals
+    pub fn after_read(mut self, address: u16) -> Peripherals
         ensures { λ r. ⌜ r ≡ afterRead self address ⌝ }
     {
         if address == 0x17 {

@@ -1,0 +1,30 @@
+use Rattle.processor.specs.Processor.{answerOf}
+use borrow.Author.Needs.{needs}
+use Rattle.processor.proofs.answer.Statement.{statement}
+use Rattle.processor.proofs.answer.Tie as tie
+use Rattle.processor.proofs.answer.Reads as reads
+use Rattle.processor.proofs.answer.Lts as lts
+use Rattle.chip.proofs.state.Peripherals.after_read.Reads as after-read-reads
+use Rattle.chip.proofs.state.Peripherals.value.Reads as value-reads
+use Rattle.processor.proofs.registers_after.Reads as registers-after-reads
+
+-- src/lib.rt:102:9
+registers-after-requires : tie.Need-registers-after-requires
+registers-after-requires c κs = search needs
+
+-- src/lib.rt:104:16
+value-requires : tie.Need-value-requires
+value-requires c κs = search needs
+
+-- src/lib.rt:105:22
+after-read-requires : tie.Need-after-read-requires
+after-read-requires c κs = search needs
+
+-- src/lib.rt:99:1
+returns : tie.Need-returns
+unfolding answerOf
+returns c = rw (← (c .before .before .registers-after .ensures), ← (c .before .value .ensures), ← (c .after-read .ensures))
+
+pub answer-spec : {M : Type 1} → statement M
+answer-spec =
+    tie.close (tie.spec registers-after-requires value-requires after-read-requires returns)
