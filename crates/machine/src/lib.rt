@@ -5,6 +5,7 @@ ghost use Prim.Native.Nat.{_+_, _≤_, _<_, _^_};
 ghost use lib.ListN.{length, take, drop};
 ghost use Rattle.words.specs.Bits.{digit};
 ghost use Rattle.opcodes.specs.Table.{opcodeTable};
+ghost use Rattle.refusals.specs.PinLists.{dueCount};
 ghost use Rattle.refusals.specs.Refusals.{lastClock};
 ghost use Rattle.machine.specs.Outcome.{clockOf, committed};
 ghost use Rattle.machine.specs.World.{putRecord, plain, worldOf, progressTo, stoppedWith, Going};
@@ -53,6 +54,14 @@ fn written_after(written: usize, differs: bool) -> usize
     ensures { λ r. ⌜ r ≡ written + digit differs ⌝ }
 {
     if differs { written + 1 } else { written }
+}
+
+// How many inputs of a clock stand at the front of the part of the list that begins at its first unread entry.
+fn due_from(clocks: &[u32], from: usize, clock: u32) -> usize
+    requires { ⌜ from ≤ length (now clocks) ⌝ }
+    ensures { λ r. ⌜ r ≡ dueCount clock (drop from (now (clocks .entry))) ⌝ }
+{
+    inputs_due(clock, &clocks[from..])
 }
 
 // What the next clock comes to, of which `due` inputs are due.
@@ -129,8 +138,7 @@ pub fn advance(
     requires { ⌜ now entries ≡ opcodeTable ⌝ }
     ensures { λ r. ⌜ worldOf r (now (memory .exit)) (now (clocks .entry)) (now (codes .entry)) (now (times .exit)) (now (words .exit)) ≡ plain (worldOf p (now (memory .entry)) (now (clocks .entry)) (now (codes .entry)) (now (times .entry)) (now (words .entry))) ⌝ }
 {
-    let from = p.read;
-    let due = inputs_due(p.state.clock + 1, &clocks[from..]);
+    let due = due_from(clocks, p.read, p.state.clock + 1);
     let free = p.written < times.len();
     let clocked = outcome_from(p, due, memory, codes, free, entries);
     match clocked {
@@ -196,7 +204,15 @@ pub fn step(
 ) -> Told
     ensures { λ r. ⌜ handed r (now (memory .exit)) (now (times .exit)) (now (words .exit)) ≡ stepOf (worldOf (begin state) (now (memory .entry)) (now (clocks .entry)) (now (codes .entry)) (now (times .entry)) (now (words .entry))) ⌝ }
 {
-    let number = refusal(state, memory.len(), clocks, codes, times.len(), words.len(), 1);
+    let number = refusal(
+        state,
+        memory.len(),
+        clocks,
+        codes,
+        times.len(),
+        words.len(),
+        1,
+    );
     if number != 0 {
         return refused(number, state);
     }

@@ -9,7 +9,6 @@ use bus::Registers;
 use bus::stack::Write;
 use bus::stack::Writes;
 use bus::stack::no_writes;
-use registers::read::Reading;
 use chip::state::Cpu;
 use chip::state::Due;
 use chip::state::Peripherals;
@@ -21,6 +20,7 @@ use cpu::entries::NMI_VECTOR;
 use cpu::entries::interrupt_entry;
 use cpu::entries::reset_entry;
 use operations::Worked;
+use registers::read::Reading;
 
 // The state after the CPU's part of a clock, and its writes: those at register addresses are done, the others are not yet.
 pub struct Next {

@@ -24,11 +24,11 @@ put-record-requires-2 c κs = search needs
 
 -- src/lib.rt:99:15
 add-t17 : tie.Need-add-t17
-add-t17 c = omega arith
+add-t17 c = omega (arith, c .before .before .before .before .before .before .before .before .before .before .before .before .before .before .before .before .before .pre)
 
 -- src/lib.rt:100:18
 written-after-requires : tie.Need-written-after-requires
-written-after-requires c κs = omega arith
+written-after-requires c κs = omega (arith, c .before .before .before .before .before .before .before .before .before .before .before .before .before .before .before .before .before .pre)
 
 -- src/lib.rt:77:1
 same-length : tie.Need-same-length

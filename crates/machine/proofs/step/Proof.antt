@@ -1,3 +1,6 @@
+use mathlib.Core.Path.{sym, _∙_}
+use denote.Ref.{now}
+use Rattle.machine.proofs.Calls.{begins, steps}
 use Rattle.machine.specs.Calls.{stepOf}
 use borrow.Author.Tests.{lt-ltb, le-ltb, le-leb, lt-leb, eq-eqb, ne-eqb}
 use borrow.Author.Needs.{needs}
@@ -40,7 +43,9 @@ slice-aggregate-advance c = search needs
 
 -- src/lib.rt:160:9
 advance-requires : tie.Need-advance-requires
-advance-requires c κs = ?
+advance-requires c κs =
+    let good = sym (c .before .before .before .before .before .before .before .refusal .ensures) ∙ c .before .before .before .before .before .before .if1 .left in
+    (rw (c .before .before .before .before .begin .ensures) (begins _ (now (c .before .before .before .before .before .before .before .before .before .before .before .before .before .args .memory)) _ _ _ _ good), c .before .before .before .before .before .opcode-table .ensures)
 
 -- src/lib.rt:161:9
 leaps-from-requires : tie.Need-leaps-from-requires
@@ -64,8 +69,12 @@ same-length-3 c = search needs
 
 -- src/lib.rt:145:1
 returns-2 : tie.Need-returns-2
-unfolding stepOf
-returns-2 c = rw (← (c .before .before .before .before .before .before .before .before .before .before .before .before .before .before .before .before .refusal .ensures), ← (c .before .before .before .before .before .before .before .before .before .before .before .before .before .before .opcode-table .ensures), ← (c .before .before .before .before .before .before .before .before .before .before .before .before .before .begin .ensures), ← (c .before .before .before .before .before .before .before .before .advance .ensures), ← (c .before .leaps-from .ensures), ← (c .tell .ensures), eq-eqb _ _ (c .before .before .before .before .before .before .before .before .before .before .before .before .before .before .before .if1 .left))
+returns-2 c =
+    let root = c .before .before .before .before .before .before .before .before .before .before .before .before .before .before .before .before .before .before .before .before .before .before .args in
+    let good = sym (c .before .before .before .before .before .before .before .before .before .before .before .before .before .before .before .before .refusal .ensures) ∙ c .before .before .before .before .before .before .before .before .before .before .before .before .before .before .before .if1 .left in
+    let went = rw (c .before .before .before .before .before .before .before .before .before .before .before .before .before .begin .ensures) at (c .before .before .before .before .before .before .before .before .advance .ensures) in
+    rw (c .tell .ensures, c .before .leaps-from .ensures)
+    (steps (root .state) (now (root .memory)) (now (root .clocks)) (now (root .codes)) (now (root .times)) (now (root .words)) good _ _ _ _ went)
 
 pub step-spec : {M : Type 1} → statement M
 step-spec =
