@@ -3,9 +3,10 @@
 use mathlib.Core.Path.{_≡_, refl}
 use mathlib.Core.Bool.{Bool, true, false, not}
 use mathlib.Core.List.{List}
-use Prim.Native.Nat.{ℕ, _<_}
+use Prim.Native.Nat.{ℕ, _+_, _<_}
 use native.Mathlib.Omega.{arith}
 use Rattle.words.specs.Bits.{bit}
+use Rattle.words.proofs.Cond.{cond-both}
 use Rattle.counters.specs.declared.time.Ticks.{Ticks}
 use Rattle.counters.specs.declared.a.CountedA.{CountedA}
 use Rattle.counters.specs.declared.b.CountedB.{CountedB}
@@ -14,7 +15,7 @@ use Rattle.serial.proofs.Ranges.{transmitter-clock-fits, receiver-clock-fits}
 use Rattle.chip.specs.declared.state.Peripherals.{Peripherals}
 use Rattle.chip.specs.declared.state.State.{State}
 use Rattle.chip.specs.State.{peripheralsFit, wellFormed}
-use Rattle.chip.specs.Pins.{rose, sensed}
+use Rattle.chip.specs.Pins.{levelsOf, rose, noticed, resetOf, settled, sensed}
 use Rattle.chip.specs.Registers.{modeA, modeB}
 use Rattle.chip.proofs.Ranges.{InPeripherals, in-peripherals, fit-peripherals, set-lt, formed, formed-cpu, formed-peripherals, sensed-formed}
 use Rattle.clock.specs.Ready.{begun, countedA, countedB, sentBy, heardBy, worked, workedState, readyOf}
@@ -59,3 +60,10 @@ ready-formed s codes e =
     let t = sensed (begun s codes) in
     let f = sensed-formed (begun s codes) (formed (begun s codes) (formed-cpu s e) (formed-peripherals s e)) in
     formed (readyOf s codes) (formed-cpu t f) (worked-fits (t .peripherals) (s .last .ports) (t .last .ports) (formed-peripherals t f))
+
+-- "Clock plus 1"
+pub ready-clock : (s : State) (codes : List ℕ) → readyOf s codes .clock ≡ s .clock + 1
+unfolding readyOf sensed settled noticed resetOf
+ready-clock s codes =
+    cond-both (λ (t : State). t .clock ≡ s .clock + 1) (levelsOf (begun s codes) .res)
+    (noticed (begun s codes) (levelsOf (begun s codes))) (resetOf (noticed (begun s codes) (levelsOf (begun s codes)))) (λ _. refl) (λ _. refl)

@@ -1,3 +1,4 @@
 pub mod Outcome
 pub mod World
 pub mod Calls
+pub mod Fit
