@@ -1,4 +1,5 @@
-use Rattle.clock.specs.Ready.{countedA}
+use Rattle.clock.specs.Ready.{countedA, afterA}
+use mathlib.Core.Path.{refl}
 use borrow.Author.Needs.{needs}
 use Rattle.clock.proofs.count_a.Statement.{statement}
 use Rattle.clock.proofs.count_a.Tie as tie
@@ -48,7 +49,7 @@ ticks-of-requires c κs = search needs
 -- src/lib.rt:34:1
 returns : tie.Need-returns
 unfolding countedA
-returns c = rw (← (c .before .before .before .before .before .before .before .before .before .before .mode-a .ensures), ← (c .before .before .before .before .before .before .before .before .before .pin-rose .ensures), ← (c .before .before .before .before .before .before .before .before .bit32 .ensures), ← (c .before .before .before .before .before .before .before .clock .ensures), ← (c .before .before .before .before .before .before .set-where .ensures), ← (c .before .before .before .before .before .toggles-output .ensures), ← (c .before .before .before .before .flip-where .ensures), ← (c .ticks-of .ensures))
+returns c = rw (c .ticks-of .ensures, c .before .before .before .before .flip-where .ensures, c .before .before .before .before .before .toggles-output .ensures, c .before .before .before .before .before .before .set-where .ensures, ← (c .before .before .before .before .before .before .before .before .before .before .mode-a .ensures), ← (c .before .before .before .before .before .before .before .before .before .pin-rose .ensures), ← (c .before .before .before .before .before .before .before .before .bit32 .ensures), ← (c .before .before .before .before .before .before .before .clock .ensures)) (refl {a = afterA (c .before .before .before .before .before .before .before .before .before .before .before .args .p) (c .before .before .before .before .before .before .before .before .before .before .mode-a .result) (c .before .before .before .before .before .before .before .clock .result)})
 
 pub count-a-spec : {M : Type 1} → statement M
 count-a-spec =

@@ -1,4 +1,5 @@
 use Rattle.clock.specs.Ready.{countedB}
+use mathlib.Core.Path.{refl}
 use borrow.Author.Needs.{needs}
 use Rattle.clock.proofs.count_b.Statement.{statement}
 use Rattle.clock.proofs.count_b.Tie as tie
@@ -38,7 +39,7 @@ flip-where-requires c κs = search needs
 -- src/lib.rt:49:1
 returns : tie.Need-returns
 unfolding countedB
-returns c = rw (← (c .before .before .before .before .before .before .before .before .mode-b .ensures), ← (c .before .before .before .before .before .before .before .pin-rose .ensures), ← (c .before .before .before .before .before .before .clock .ensures), ← (c .before .before .before .before .before .set-where .ensures), ← (c .before .before .before .before .toggles-output .ensures), ← (c .before .before .before .flip-where .ensures))
+returns c = rw (c .before .before .before .flip-where .ensures, c .before .before .before .before .toggles-output .ensures, c .before .before .before .before .before .set-where .ensures, c .before .before .before .before .before .before .clock .ensures, c .before .before .before .before .before .before .before .pin-rose .ensures, c .before .before .before .before .before .before .before .before .mode-b .ensures) refl
 
 pub count-b-spec : {M : Type 1} → statement M
 count-b-spec =

@@ -1,4 +1,5 @@
 use Rattle.clock.specs.Ready.{heardBy}
+use mathlib.Core.Path.{refl}
 use borrow.Author.Needs.{needs}
 use Rattle.clock.proofs.receive.Statement.{statement}
 use Rattle.clock.proofs.receive.Tie as tie
@@ -18,7 +19,7 @@ clock-requires c κs = search needs
 -- src/lib.rt:76:1
 returns : tie.Need-returns
 unfolding heardBy
-returns c = rw (← (c .before .before .before .before .bit32 .ensures), ← (c .before .before .before .clock .ensures))
+returns c = rw (c .before .before .before .clock .ensures, c .before .before .before .before .bit32 .ensures) refl
 
 pub receive-spec : {M : Type 1} → statement M
 receive-spec = tie.close (tie.spec bit32-requires clock-requires returns)

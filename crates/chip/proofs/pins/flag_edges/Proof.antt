@@ -1,4 +1,5 @@
 use Rattle.chip.specs.Pins.{edges}
+use mathlib.Core.Path.{refl}
 use borrow.Author.Needs.{needs}
 use Rattle.chip.proofs.pins.flag_edges.Statement.{statement}
 use Rattle.chip.proofs.pins.flag_edges.Tie as tie
@@ -43,7 +44,7 @@ set-where-requires-4 c κs = search needs
 -- src/pins.rt:94:1
 returns : tie.Need-returns
 unfolding edges
-returns c = rw (← (c .before .before .before .before .before .before .before .pin-rose .ensures), ← (c .before .before .before .before .before .before .set-where .ensures), ← (c .before .before .before .before .before .pin-rose2 .ensures), ← (c .before .before .before .before .set-where2 .ensures), ← (c .before .before .before .pin-fell .ensures), ← (c .before .before .set-where3 .ensures), ← (c .before .pin-fell2 .ensures), ← (c .set-where4 .ensures))
+returns c = rw (c .set-where4 .ensures, c .before .pin-fell2 .ensures, c .before .before .set-where3 .ensures, c .before .before .before .pin-fell .ensures, c .before .before .before .before .set-where2 .ensures, c .before .before .before .before .before .pin-rose2 .ensures, c .before .before .before .before .before .before .set-where .ensures, c .before .before .before .before .before .before .before .pin-rose .ensures) refl
 
 pub flag-edges-spec : {M : Type 1} → statement M
 flag-edges-spec =

@@ -8,7 +8,7 @@ use Rattle.chip.proofs.state.well_formed.Lts as lts
 -- src/state.rt:136:1
 returns : tie.Need-returns
 unfolding wellFormed
-returns c = refl
+returns c = refl {a = wellFormed (c .before .before .before .before .before .before .before .before .before .args .s)}
 
 pub well-formed-spec : {M : Type 1} → statement M
 well-formed-spec = tie.close (tie.spec returns)

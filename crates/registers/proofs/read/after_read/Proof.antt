@@ -1,4 +1,5 @@
 use Rattle.registers.specs.Read.{afterRead}
+use mathlib.Core.Path.{refl}
 use borrow.Author.Tests.{lt-ltb, le-ltb, le-leb, lt-leb, eq-eqb, ne-eqb}
 use borrow.Author.Needs.{needs}
 use Rattle.registers.proofs.read.after_read.Statement.{statement}
@@ -14,7 +15,7 @@ mul-status c = search needs
 -- src/read.rt:121:9
 returns : tie.Need-returns
 unfolding afterRead
-returns c = rw (eq-eqb _ _ (c .before .before .if1 .taken))
+returns c = rw (eq-eqb _ _ (c .before .before .if1 .taken)) refl
 
 -- src/read.rt:124:13
 with-bit-requires : tie.Need-with-bit-requires

@@ -1,4 +1,5 @@
 use Rattle.registers.specs.Write.{entering}
+use mathlib.Core.Path.{refl}
 use borrow.Author.Needs.{needs}
 use Rattle.registers.proofs.write.entering_mode.Statement.{statement}
 use Rattle.registers.proofs.write.entering_mode.Tie as tie
@@ -22,7 +23,7 @@ set-where-requires c κs = search needs
 -- src/write.rt:29:1
 returns : tie.Need-returns
 unfolding entering
-returns c = rw (← (c .before .before .before .mode-a .ensures), ← (c .before .before .mode-a2 .ensures), ← (c .before .set-where .ensures))
+returns c = rw (c .before .set-where .ensures, c .before .before .mode-a2 .ensures, c .before .before .before .mode-a .ensures) refl
 
 pub entering-mode-spec : {M : Type 1} → statement M
 entering-mode-spec =

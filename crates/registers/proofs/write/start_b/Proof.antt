@@ -1,4 +1,5 @@
 use Rattle.registers.specs.Write.{startB}
+use mathlib.Core.Path.{refl}
 use borrow.Author.Tests.{lt-ltb, le-ltb, le-leb, lt-leb, eq-eqb, ne-eqb}
 use borrow.Author.Needs.{needs}
 use Rattle.registers.proofs.write.start_b.Statement.{statement}
@@ -38,7 +39,7 @@ with-bit-requires-2 c κs = search needs
 -- src/write.rt:163:9
 returns : tie.Need-returns
 unfolding startB
-returns c = rw (← (c .before .before .before .before .before .before .before .before .with-upper .ensures), ← (c .before .before .before .before .before .before .before .load .ensures), ← (c .before .before .before .before .before .before .mode-b .ensures), ← (c .before .before .before .before .before .with-bit .ensures), ← (c .before .before .turn-to-c .ensures), ← (c .before .with-bit2 .ensures), eq-eqb _ _ (c .before .before .before .if1 .taken))
+returns c = rw (c .before .with-bit2 .ensures, c .before .before .turn-to-c .ensures, c .before .before .before .before .before .with-bit .ensures, c .before .before .before .before .before .before .before .load .ensures, c .before .before .before .before .before .before .before .before .with-upper .ensures, ← (c .before .before .before .before .before .before .mode-b .ensures), eq-eqb _ _ (c .before .before .before .if1 .taken)) refl
 
 -- src/write.rt:151:1
 returns-2 : tie.Need-returns-2

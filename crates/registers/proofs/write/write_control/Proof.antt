@@ -1,4 +1,5 @@
 use Rattle.registers.specs.Write.{writeControl}
+use mathlib.Core.Path.{refl}
 use borrow.Author.Tests.{lt-ltb, le-ltb, le-leb, lt-leb, eq-eqb, ne-eqb}
 use borrow.Author.Needs.{needs}
 use Rattle.registers.proofs.write.write_control.Statement.{statement}
@@ -17,7 +18,7 @@ add-flags c = search needs
 -- src/write.rt:95:9
 returns : tie.Need-returns
 unfolding writeControl
-returns c = rw (eq-eqb _ _ (c .before .before .if1 .taken))
+returns c = rw (eq-eqb _ _ (c .before .before .if1 .taken)) refl
 
 -- src/write.rt:99:9
 returns-2 : tie.Need-returns-2

@@ -1,3 +1,4 @@
+use mathlib.Core.Path.{refl}
 use borrow.Author.Needs.{needs}
 use Rattle.serial.proofs.format.frame_ending.Statement.{statement}
 use Rattle.serial.proofs.format.frame_ending.Tie as tie
@@ -29,7 +30,7 @@ add-result c = search needs
 
 -- src/format.rt:98:9
 returns : tie.Need-returns
-returns c = rw (c .digit8 .ensures, c .before .parity-bit .ensures, ← (c .before .before .before .has-parity .ensures), c .before .before .if1 .taken)
+returns c = rw (c .digit8 .ensures, c .before .parity-bit .ensures, ← (c .before .before .before .has-parity .ensures), c .before .before .if1 .taken) refl
 
 -- src/format.rt:94:1
 returns-2 : tie.Need-returns-2

@@ -1,4 +1,5 @@
 use Rattle.serial.specs.Receiver.{statusAfter}
+use mathlib.Core.Path.{refl}
 use borrow.Author.Tests.{lt-ltb, le-ltb, le-leb, lt-leb, eq-eqb, ne-eqb}
 use borrow.Author.Needs.{needs}
 use Rattle.serial.proofs.receiver.status_after.Statement.{statement}
@@ -22,7 +23,7 @@ set-where-requires-3 c κs = search needs
 -- src/receiver.rt:82:9
 returns : tie.Need-returns
 unfolding statusAfter
-returns c = rw (eq-eqb _ _ (c .before .before .before .if1 .taken), ← (c .before .before .set-where .ensures), ← (c .before .set-where2 .ensures), ← (c .set-where3 .ensures))
+returns c = rw (c .set-where3 .ensures, c .before .set-where2 .ensures, c .before .before .set-where .ensures, eq-eqb _ _ (c .before .before .before .if1 .taken)) refl
 
 -- src/receiver.rt:84:9
 set-where-requires-4 : tie.Need-set-where-requires-4
@@ -39,7 +40,7 @@ set-where-requires-6 c κs = search needs
 -- src/receiver.rt:77:1
 returns-2 : tie.Need-returns-2
 unfolding statusAfter
-returns-2 c = rw (ne-eqb _ _ (c .before .before .before .if1 .left), ← (c .before .before .set-where4 .ensures), ← (c .before .set-where5 .ensures), ← (c .set-where6 .ensures))
+returns-2 c = rw (c .set-where6 .ensures, c .before .set-where5 .ensures, c .before .before .set-where4 .ensures, ne-eqb _ _ (c .before .before .before .if1 .left)) refl
 
 pub status-after-spec : {M : Type 1} → statement M
 status-after-spec =

@@ -1,4 +1,5 @@
 use Rattle.serial.specs.Transmitter.{taken}
+use mathlib.Core.Path.{refl}
 use borrow.Author.Needs.{needs}
 use Rattle.serial.proofs.transmitter.take.Statement.{statement}
 use Rattle.serial.proofs.transmitter.take.Tie as tie
@@ -22,7 +23,7 @@ begun-requires c κs = search needs
 -- src/transmitter.rt:44:1
 returns : tie.Need-returns
 unfolding taken
-returns c = rw (← (c .before .before .with-bit .ensures), ← (c .before .with-bit2 .ensures), ← (c .begun .ensures))
+returns c = rw (c .begun .ensures, c .before .with-bit2 .ensures, c .before .before .with-bit .ensures) refl
 
 pub take-spec : {M : Type 1} → statement M
 take-spec = tie.close (tie.spec with-bit-requires with-bit-requires-2 begun-requires returns)

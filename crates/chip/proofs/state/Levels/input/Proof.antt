@@ -1,4 +1,5 @@
 use Rattle.chip.specs.Inputs.{withInput}
+use mathlib.Core.Path.{refl}
 use borrow.Author.Tests.{lt-ltb, le-ltb, le-leb, lt-leb, eq-eqb, ne-eqb}
 use borrow.Author.Needs.{needs}
 use Rattle.chip.proofs.state.Levels.input.Statement.{statement}
@@ -23,7 +24,7 @@ returns c = rw (← (c .with-bit32 .ensures), lt-ltb _ _ (c .before .if1 .taken)
 -- src/inputs.rt:32:13
 returns-2 : tie.Need-returns-2
 unfolding withInput
-returns-2 c = rw (eq-eqb _ _ (c .if2 .taken), le-ltb _ _ (c .before .if1 .left))
+returns-2 c = rw (eq-eqb _ _ (c .if2 .taken), le-ltb _ _ (c .before .if1 .left)) refl
 
 -- src/inputs.rt:21:5
 returns-3 : tie.Need-returns-3

@@ -1,4 +1,5 @@
 use Rattle.chip.specs.Pins.{driveA}
+use mathlib.Core.Path.{refl}
 use borrow.Author.Needs.{needs}
 use Rattle.chip.proofs.state.Peripherals.drive_a.Statement.{statement}
 use Rattle.chip.proofs.state.Peripherals.drive_a.Tie as tie
@@ -23,7 +24,7 @@ with-bit-requires c κs = search needs
 -- src/pins.rt:32:13
 returns : tie.Need-returns
 unfolding driveA
-returns c = rw (← (c .before .before .before .transmitter-on .ensures), ← (c .before .line-level .ensures), ← (c .with-bit .ensures), c .before .before .if1 .taken)
+returns c = rw (c .with-bit .ensures, c .before .line-level .ensures, ← (c .before .before .before .transmitter-on .ensures), c .before .before .if1 .taken) refl
 
 -- src/pins.rt:27:5
 returns-2 : tie.Need-returns-2

@@ -1,4 +1,5 @@
 use Rattle.chip.specs.Pins.{drivenWord}
+use mathlib.Core.Path.{refl}
 use borrow.Author.Needs.{needs}
 use Rattle.chip.proofs.state.Peripherals.driven_word.Statement.{statement}
 use Rattle.chip.proofs.state.Peripherals.driven_word.Tie as tie
@@ -23,7 +24,7 @@ word-of-requires c κs = search needs
 -- src/pins.rt:49:5
 returns : tie.Need-returns
 unfolding drivenWord
-returns c = rw (← (c .before .before .drive-a .ensures), ← (c .before .drive-d .ensures), ← (c .word-of .ensures))
+returns c = simp (c .word-of .ensures, c .before .drive-d .ensures, c .before .before .drive-a .ensures) refl
 
 pub driven-word-spec : {M : Type 1} → statement M
 driven-word-spec = tie.close (tie.spec drive-a-requires drive-d-requires word-of-requires returns)

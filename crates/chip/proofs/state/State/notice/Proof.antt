@@ -1,4 +1,5 @@
 use Rattle.chip.specs.Pins.{noticed}
+use mathlib.Core.Path.{refl}
 use borrow.Author.Needs.{needs}
 use Rattle.chip.proofs.state.State.notice.Statement.{statement}
 use Rattle.chip.proofs.state.State.notice.Tie as tie
@@ -13,7 +14,7 @@ flag-edges-requires c κs = search needs
 -- src/pins.rt:113:5
 returns : tie.Need-returns
 unfolding noticed
-returns c = rw (← (c .before .before .before .before .before .flag-edges .ensures))
+returns c = rw (← (c .before .before .before .before .before .flag-edges .ensures)) refl
 
 pub notice-spec : {M : Type 1} → statement M
 notice-spec = tie.close (tie.spec flag-edges-requires returns)

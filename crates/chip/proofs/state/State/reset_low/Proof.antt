@@ -1,4 +1,5 @@
 use Rattle.chip.specs.Pins.{resetOf}
+use mathlib.Core.Path.{refl}
 use borrow.Author.Needs.{needs}
 use Rattle.chip.proofs.state.State.reset_low.Statement.{statement}
 use Rattle.chip.proofs.state.State.reset_low.Tie as tie
@@ -13,7 +14,7 @@ reset-requires c κs = search needs
 -- src/pins.rt:125:5
 returns : tie.Need-returns
 unfolding resetOf
-returns c = rw (← (c .before .before .before .reset .ensures))
+returns c = rw (← (c .before .before .before .reset .ensures)) refl
 
 pub reset-low-spec : {M : Type 1} → statement M
 reset-low-spec = tie.close (tie.spec reset-requires returns)

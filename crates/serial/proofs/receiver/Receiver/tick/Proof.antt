@@ -1,4 +1,5 @@
 use Rattle.serial.specs.Receiver.{receiveTick}
+use mathlib.Core.Path.{refl}
 use borrow.Author.Needs.{needs}
 use Rattle.serial.proofs.receiver.Receiver.tick.Statement.{statement}
 use Rattle.serial.proofs.receiver.Receiver.tick.Tie as tie
@@ -18,7 +19,7 @@ returns c = rw (← (c .look .ensures), c .before .if1 .taken)
 -- src/receiver.rt:154:5
 returns-2 : tie.Need-returns-2
 unfolding receiveTick
-returns-2 c = rw (c .if1 .left)
+returns-2 c = rw (c .if1 .left) refl
 
 pub tick-spec : {M : Type 1} → statement M
 tick-spec = tie.close (tie.spec look-requires returns returns-2)

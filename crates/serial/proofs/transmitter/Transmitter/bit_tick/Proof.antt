@@ -1,4 +1,6 @@
 use Rattle.serial.specs.Transmitter.{bitTick}
+use mathlib.Core.Path.{refl}
+use native.Mathlib.Omega.{arith}
 use borrow.Author.Tests.{lt-ltb, le-ltb, le-leb, lt-leb, eq-eqb, ne-eqb}
 use borrow.Author.Needs.{needs}
 use Rattle.serial.proofs.transmitter.Transmitter.bit_tick.Statement.{statement}
@@ -15,7 +17,7 @@ add-self c = search needs
 -- src/transmitter.rt:79:13
 returns : tie.Need-returns
 unfolding bitTick
-returns c = rw (lt-ltb _ _ (c .before .if1 .taken))
+returns c = rw (lt-ltb (c .before .before .before .args .self .phase) 15 (omega arith)) refl
 
 -- src/transmitter.rt:83:9
 one-fewer-requires : tie.Need-one-fewer-requires
@@ -28,12 +30,12 @@ frame-end-requires c κs = search needs
 -- src/transmitter.rt:85:13
 returns-2 : tie.Need-returns-2
 unfolding bitTick
-returns-2 c = rw (← (c .before .before .before .one-fewer .ensures), ← (c .frame-end .ensures), eq-eqb _ _ (c .before .if2 .taken), le-ltb _ _ (c .before .before .before .before .before .if1 .left))
+returns-2 c = rw (← (c .before .before .before .one-fewer .ensures), ← (c .frame-end .ensures), eq-eqb _ _ (c .before .if2 .taken), le-ltb (c .before .before .before .before .before .before .before .args .self .phase) 15 (omega arith))
 
 -- src/transmitter.rt:74:5
 returns-3 : tie.Need-returns-3
 unfolding bitTick
-returns-3 c = rw (← (c .before .before .one-fewer .ensures), ne-eqb _ _ (c .if2 .left), le-ltb _ _ (c .before .before .before .before .if1 .left))
+returns-3 c = rw (← (c .before .before .one-fewer .ensures), ne-eqb _ _ (c .if2 .left), le-ltb (c .before .before .before .before .before .before .args .self .phase) 15 (omega arith))
 
 pub bit-tick-spec : {M : Type 1} → statement M
 bit-tick-spec =
