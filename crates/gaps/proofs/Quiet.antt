@@ -172,7 +172,7 @@ sensed-ahead s e h = rw (levels-ahead, e) (settled-same (ahead s) (λ k. reset-a
 
 counted-a-quiet : (p : Peripherals) (x : ℕ) → (runningA (p .control) x ≡ true → 0 < p .countera .count)
     → countedA p x x
-      ≡ record { peripherals = withCounterA p (passA (p .countera) (runningA (p .control) x) (clocksOf 1)); ticks = ticksOf false }
+    ≡ record { peripherals = withCounterA p (passA (p .countera) (runningA (p .control) x) (clocksOf 1)); ticks = ticksOf false }
 unfolding countedA runningA setWhere flipWhere
 counted-a-quiet p x h =
     rw (no-rise 4 x, clock-passes-a (p .countera) (modeA (p .control .mcr) (p .control .sccr)) (not (bit 4 x)) h)
@@ -241,8 +241,16 @@ quiet-start s q = not-at-zero (s .last .res) (s .cpu .wait) (q .waits)
 pub quiet-event : (s : State) → Quiet s → eventOf s [] ≡ false
 unfolding eventOf hasInput
 quiet-event s q =
-    rw (begun-ahead s, sensed-ahead s (q .levels) (q .reset), noticed-ahead s (q .levels), quiet-change s q, quiet-underflow-a s q, quiet-underflow-b s q,
-        quiet-reset s q, quiet-start s q)
+    rw (
+      begun-ahead s,
+      sensed-ahead s (q .levels) (q .reset),
+      noticed-ahead s (q .levels),
+      quiet-change s q,
+      quiet-underflow-a s q,
+      quiet-underflow-b s q,
+      quiet-reset s q,
+      quiet-start s q,
+    )
 
 -- ---- and back
 

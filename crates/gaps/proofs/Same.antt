@@ -128,7 +128,12 @@ reset-same s e =
     let two = and-left (wait && reset) nmi three in
     sym (λ i. record {
       cpu = record {
-        a = s .cpu .a; x = s .cpu .x; y = s .cpu .y; sp = s .cpu .sp; p = s .cpu .p; pc = s .cpu .pc;
+        a = s .cpu .a;
+        x = s .cpu .x;
+        y = s .cpu .y;
+        sp = s .cpu .sp;
+        p = s .cpu .p;
+        pc = s .cpu .pc;
         wait = eqb-true (s .cpu .wait) 0 (and-left wait reset two) i;
       };
       due = record { reset = and-right wait reset two i; nmi = not-true (s .due .nmi) (and-right (wait && reset) nmi three) i };

@@ -22,7 +22,7 @@ pass-counters-requires c κs = search needs
 -- src/lib.rt:71:1
 returns : tie.Need-returns
 unfolding passOf
-returns c = rw (← (c .before .before .wait-after .ensures), ← (c .before .pass-counters .ensures))
+returns c = rw (c .before .pass-counters .ensures, c .before .before .wait-after .ensures)
 
 pub pass-spec : {M : Type 1} → statement M
 pass-spec = tie.close (tie.spec add-clock wait-after-requires pass-counters-requires returns)

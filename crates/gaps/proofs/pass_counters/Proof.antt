@@ -26,7 +26,7 @@ pass-requires-2 c κs = search needs
 
 -- src/lib.rt:60:1
 returns : tie.Need-returns
-returns c = rw (← (c .before .before .before .running-a .ensures), ← (c .before .before .pass .ensures), ← (c .before .running-b .ensures), ← (c .pass2 .ensures))
+returns c = rw (c .pass2 .ensures, c .before .running-b .ensures, c .before .before .pass .ensures, c .before .before .before .running-a .ensures)
 
 pub pass-counters-spec : {M : Type 1} → statement M
 pass-counters-spec =

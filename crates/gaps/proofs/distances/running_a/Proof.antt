@@ -23,7 +23,7 @@ runs-requires c κs = search needs
 -- src/distances.rt:11:1
 returns : tie.Need-returns
 unfolding runningA
-returns c = rw (← (c .before .before .mode-a .ensures), ← (c .before .bit32 .ensures), ← (c .runs .ensures))
+returns c = rw (c .runs .ensures, c .before .bit32 .ensures, c .before .before .mode-a .ensures)
 
 pub running-a-spec : {M : Type 1} → statement M
 running-a-spec = tie.close (tie.spec mode-a-requires bit32-requires runs-requires returns)

@@ -18,7 +18,7 @@ runs-requires c κs = search needs
 -- src/distances.rt:18:1
 returns : tie.Need-returns
 unfolding runningB
-returns c = rw (← (c .before .mode-b .ensures), ← (c .runs .ensures))
+returns c = rw (c .runs .ensures, c .before .mode-b .ensures)
 
 pub running-b-spec : {M : Type 1} → statement M
 running-b-spec = tie.close (tie.spec mode-b-requires runs-requires returns)

@@ -4,20 +4,20 @@ use Rattle.gaps.proofs.distances.to_start.Statement.{statement}
 use Rattle.gaps.proofs.distances.to_start.Tie as tie
 use Rattle.gaps.proofs.distances.to_start.Reads as reads
 use Rattle.gaps.proofs.distances.to_start.Lts as lts
+use Rattle.gaps.proofs.distances.where_seen.Reads as where-seen-reads
 
--- src/distances.rt:83:23
-cast-t4 : tie.Need-cast-t4
-cast-t4 c = search needs
+-- src/distances.rt:83:35
+cast-t3 : tie.Need-cast-t3
+cast-t3 c = search needs
 
--- src/distances.rt:83:9
+-- src/distances.rt:83:5
+where-seen-requires : tie.Need-where-seen-requires
+where-seen-requires c κs = search needs
+
+-- src/distances.rt:80:1
 returns : tie.Need-returns
 unfolding toStart
-returns c = rw (c .before .if1 .taken)
-
--- src/distances.rt:79:1
-returns-2 : tie.Need-returns-2
-unfolding toStart
-returns-2 c = rw (c .if1 .left)
+returns c = rw (c .where-seen .ensures)
 
 pub to-start-spec : {M : Type 1} → statement M
-to-start-spec = tie.close (tie.spec cast-t4 returns returns-2)
+to-start-spec = tie.close (tie.spec cast-t3 where-seen-requires returns)

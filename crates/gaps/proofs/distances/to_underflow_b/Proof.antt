@@ -5,24 +5,24 @@ use Rattle.gaps.proofs.distances.to_underflow_b.Tie as tie
 use Rattle.gaps.proofs.distances.to_underflow_b.Reads as reads
 use Rattle.gaps.proofs.distances.to_underflow_b.Lts as lts
 use Rattle.gaps.proofs.distances.running_b.Reads as running-b-reads
+use Rattle.gaps.proofs.distances.where_seen.Reads as where-seen-reads
 
--- src/distances.rt:62:8
+-- src/distances.rt:68:9
 running-b-requires : tie.Need-running-b-requires
 running-b-requires c κs = search needs
 
--- src/distances.rt:63:23
+-- src/distances.rt:69:32
 cast-t4 : tie.Need-cast-t4
 cast-t4 c = search needs
 
--- src/distances.rt:63:9
+-- src/distances.rt:69:5
+where-seen-requires : tie.Need-where-seen-requires
+where-seen-requires c κs = search needs
+
+-- src/distances.rt:65:1
 returns : tie.Need-returns
 unfolding toUnderflowB
-returns c = rw (← (c .before .before .running-b .ensures), c .before .if1 .taken)
-
--- src/distances.rt:59:1
-returns-2 : tie.Need-returns-2
-unfolding toUnderflowB
-returns-2 c = rw (← (c .before .running-b .ensures), c .if1 .left)
+returns c = rw (c .where-seen .ensures, c .before .before .running-b .ensures)
 
 pub to-underflow-b-spec : {M : Type 1} → statement M
-to-underflow-b-spec = tie.close (tie.spec running-b-requires cast-t4 returns returns-2)
+to-underflow-b-spec = tie.close (tie.spec running-b-requires cast-t4 where-seen-requires returns)

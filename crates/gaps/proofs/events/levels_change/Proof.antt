@@ -18,7 +18,7 @@ same-levels-requires c κs = search needs
 -- src/events.rt:19:1
 returns : tie.Need-returns
 unfolding levelsChange
-returns c = rw (← (c .before .levels .ensures), ← (c .same-levels .ensures))
+returns c = rw (c .same-levels .ensures, c .before .levels .ensures)
 
 pub levels-change-spec : {M : Type 1} → statement M
 levels-change-spec = tie.close (tie.spec levels-requires same-levels-requires returns)
