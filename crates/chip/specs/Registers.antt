@@ -25,3 +25,7 @@ modeA mcr sccr = inForce (holdsA sccr) (mcr % 4)
 
 unfoldable pub modeB : ℕ → ℕ
 modeB mcr = mcr / 4 % 4
+
+-- A's mode in force, of the control registers
+abbrev pub modeInForce : Control → ℕ
+modeInForce c = modeA (c .mcr) (c .sccr)

@@ -1,4 +1,4 @@
-// The R6501Q below one clock: its state, its pins and its registers.
+// The R6501Q's state and pins: what the registers, and the steps of a clock, stand on.
 
 // The machine state.
 pub mod state;
@@ -9,8 +9,5 @@ pub mod pins;
 // Input codes.
 pub mod inputs;
 
-// Reads of the registers.
-pub mod read;
-
-// Writes of the registers.
-pub mod write;
+// Interrupt flags as read, the counters' modes.
+pub mod control;

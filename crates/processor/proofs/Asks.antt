@@ -6,7 +6,7 @@ use native.Mathlib.Omega.{arith}
 use lib.ListN.{length, length-append}
 use Rattle.chip.specs.declared.state.Peripherals.{Peripherals}
 use Rattle.chip.specs.declared.state.State.{State}
-use Rattle.chip.specs.declared.read.Reading.{Reading}
+use Rattle.registers.specs.declared.read.Reading.{Reading}
 use Rattle.cpu.specs.declared.Ask.{Ask}
 use Rattle.cpu.specs.declared.Outcome.{Outcome}
 use Rattle.cpu.specs.declared.Outcome.the-variants as outcome

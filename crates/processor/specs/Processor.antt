@@ -12,9 +12,9 @@ use Rattle.chip.specs.declared.state.Peripherals.{Peripherals}
 use Rattle.chip.specs.declared.state.State.{State}
 use Rattle.chip.specs.Pins.{atWait}
 use Rattle.chip.specs.Registers.{flagsOf}
-use Rattle.chip.specs.declared.read.Reading.{Reading}
-use Rattle.chip.specs.Read.{registerValue, afterRead}
-use Rattle.chip.specs.Write.{writeOf}
+use Rattle.registers.specs.declared.read.Reading.{Reading}
+use Rattle.registers.specs.Read.{registerValue, afterRead}
+use Rattle.registers.specs.Write.{writeOf}
 use Rattle.bus.specs.declared.Registers.{Registers}
 use Rattle.bus.specs.declared.stack.Write.{Write}
 use Rattle.bus.specs.declared.stack.Writes.{Writes}

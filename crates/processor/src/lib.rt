@@ -9,7 +9,6 @@ use bus::Registers;
 use bus::stack::Write;
 use bus::stack::Writes;
 use bus::stack::no_writes;
-use chip::read::Reading;
 use chip::state::Cpu;
 use chip::state::Due;
 use chip::state::Peripherals;
@@ -21,6 +20,7 @@ use cpu::entries::NMI_VECTOR;
 use cpu::entries::interrupt_entry;
 use cpu::entries::reset_entry;
 use operations::Worked;
+use registers::read::Reading;
 
 // The state after the CPU's part of a clock, and its writes: those at register addresses are done, the others are not yet.
 pub struct Next {
@@ -81,7 +81,7 @@ fn put_register(there: bool, w: Write, p: Peripherals) -> Peripherals
 {
     let here = there & bus::is_register(w.address);
     if here {
-        return p.write(w.address, w.value);
+        return registers::write::write(p, w.address, w.value);
     }
     p
 }
@@ -101,8 +101,8 @@ fn answer(p: Peripherals, levels: u32, ask: Ask) -> Reading
 {
     let written = registers_after(p, ask.writes);
     Reading {
-        value: written.value(levels, ask.latch, ask.address),
-        peripherals: p.after_read(ask.address),
+        value: registers::read::value(written, levels, ask.latch, ask.address),
+        peripherals: registers::read::after_read(p, ask.address),
     }
 }
 

@@ -15,6 +15,11 @@ pub cond-map : {A B : Type 0} (f : A → B) (t : Bool) (x y : A) → f (cond t x
 cond-map f true x y = refl
 cond-map f false x y = refl
 
+-- a function of a choice, told way by way
+pub cond-along : {A B : Type 0} (f : A → B) (t : Bool) (x y : A) {u v : B} → f x ≡ u → f y ≡ v → f (cond t x y) ≡ cond t u v
+cond-along f true x y e g = e
+cond-along f false x y e g = g
+
 pub both-left : (a b : Bool) → T (a && b) → T a
 both-left true b t = tt
 both-left false b t = t

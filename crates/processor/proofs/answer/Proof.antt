@@ -4,8 +4,8 @@ use Rattle.processor.proofs.answer.Statement.{statement}
 use Rattle.processor.proofs.answer.Tie as tie
 use Rattle.processor.proofs.answer.Reads as reads
 use Rattle.processor.proofs.answer.Lts as lts
-use Rattle.chip.proofs.state.Peripherals.after_read.Reads as after-read-reads
-use Rattle.chip.proofs.state.Peripherals.value.Reads as value-reads
+use Rattle.registers.proofs.read.after_read.Reads as after-read-reads
+use Rattle.registers.proofs.read.value.Reads as value-reads
 use Rattle.processor.proofs.registers_after.Reads as registers-after-reads
 
 -- src/lib.rt:102:9

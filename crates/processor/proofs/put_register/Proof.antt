@@ -5,7 +5,7 @@ use Rattle.processor.proofs.put_register.Tie as tie
 use Rattle.processor.proofs.put_register.Reads as reads
 use Rattle.processor.proofs.put_register.Lts as lts
 use Rattle.bus.proofs.is_register.Reads as is-register-reads
-use Rattle.chip.proofs.state.Peripherals.write.Reads as write-reads
+use Rattle.registers.proofs.write.write.Reads as write-reads
 
 -- src/lib.rt:82:24
 is-register-requires : tie.Need-is-register-requires

@@ -4,27 +4,27 @@ use Rattle.chip.proofs.state.Control.flags.Statement.{statement}
 use Rattle.chip.proofs.state.Control.flags.Tie as tie
 use Rattle.chip.proofs.state.Control.flags.Reads as reads
 use Rattle.chip.proofs.state.Control.flags.Lts as lts
-use Rattle.chip.proofs.read.receiver_flag.Reads as receiver-flag-reads
-use Rattle.chip.proofs.read.transmitter_flag.Reads as transmitter-flag-reads
+use Rattle.chip.proofs.control.receiver_flag.Reads as receiver-flag-reads
+use Rattle.chip.proofs.control.transmitter_flag.Reads as transmitter-flag-reads
 use Rattle.words.proofs.with_bit.Reads as with-bit-reads
 
--- src/read.rt:88:13
+-- src/control.rt:45:13
 receiver-flag-requires : tie.Need-receiver-flag-requires
 receiver-flag-requires c κs = search needs
 
--- src/read.rt:89:13
+-- src/control.rt:46:13
 transmitter-flag-requires : tie.Need-transmitter-flag-requires
 transmitter-flag-requires c κs = search needs
 
--- src/read.rt:90:25
+-- src/control.rt:47:25
 with-bit-requires : tie.Need-with-bit-requires
 with-bit-requires c κs = search needs
 
--- src/read.rt:90:9
+-- src/control.rt:47:9
 with-bit-requires-2 : tie.Need-with-bit-requires-2
 with-bit-requires-2 c κs = search needs
 
--- src/read.rt:85:5
+-- src/control.rt:42:5
 returns : tie.Need-returns
 unfolding flagsOf
 returns c = rw (← (c .before .before .before .receiver-flag .ensures), ← (c .before .before .transmitter-flag .ensures), ← (c .before .with-bit .ensures), ← (c .with-bit2 .ensures))

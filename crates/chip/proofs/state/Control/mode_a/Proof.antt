@@ -7,15 +7,15 @@ use Rattle.chip.proofs.state.Control.mode_a.Lts as lts
 use Rattle.counters.proofs.time.in_force.Reads as in-force-reads
 use Rattle.serial.proofs.format.holds_counter.Reads as holds-counter-reads
 
--- src/write.rt:39:18
+-- src/control.rt:54:18
 holds-counter-requires : tie.Need-holds-counter-requires
 holds-counter-requires c κs = search needs
 
--- src/write.rt:39:9
+-- src/control.rt:54:9
 in-force-requires : tie.Need-in-force-requires
 in-force-requires c κs = search needs
 
--- src/write.rt:36:5
+-- src/control.rt:51:5
 returns : tie.Need-returns
 unfolding modeA
 returns c = rw (← (c .before .before .holds-counter .ensures), ← (c .in-force .ensures))

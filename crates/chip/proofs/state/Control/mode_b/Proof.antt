@@ -5,7 +5,7 @@ use Rattle.chip.proofs.state.Control.mode_b.Tie as tie
 use Rattle.chip.proofs.state.Control.mode_b.Reads as reads
 use Rattle.chip.proofs.state.Control.mode_b.Lts as lts
 
--- src/write.rt:43:5
+-- src/control.rt:58:5
 returns : tie.Need-returns
 unfolding modeB
 returns c = refl
