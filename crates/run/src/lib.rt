@@ -1,0 +1,95 @@
+// The leaping run: from event clock to event clock.
+ghost use mathlib.Core.Path.{_≡_};
+ghost use mathlib.Core.Bool.{true, _&&_};
+ghost use Prim.Native.Nat.{_+_, _-_, _≤_, _<_, _^_};
+ghost use lib.Dec.{ltb, eqb};
+ghost use lib.ListN.{length, drop};
+ghost use Rattle.opcodes.specs.Table.{opcodeTable};
+ghost use Rattle.gaps.specs.Gaps.{gapOf, clocksOf};
+ghost use Rattle.machine.specs.World.{worldOf};
+ghost use Rattle.machine.specs.Calls.{handed, begin, leapsFrom};
+ghost use Rattle.leaps.specs.Leaps.{leapOf, leftAfter, movedOf};
+ghost use Rattle.run.specs.System.{chip};
+ghost use Rattle.run.specs.Run.{runOf, plainRunOf};
+ghost use Rattle.run.specs.Leap.{passedBy, Leaping, leapedBy, goesOn, runFrom};
+use chip::state::State;
+use counters::time::Clocks;
+use machine::Progress;
+use machine::Told;
+use machine::advance;
+use machine::begin;
+use machine::leaps_from;
+use machine::refused;
+use machine::tell;
+use refusals::refusal;
+
+// How far a run has come: the clocks left, and the leaps done.
+pub struct Leaped {
+    pub progress: Progress,
+    pub left: Clocks,
+    pub leaps: u32,
+}
+
+// The gap before the next event clock of a call.
+fn gap_from(p: Progress, left: Clocks, clocks: &[u32]) -> Clocks
+    requires { ⌜ p .read ≤ length (now clocks) ⌝ }
+    ensures { λ r. ⌜ r ≡ gapOf (left .0) (p .state) (drop (p .read) (now (clocks .entry))) ⌝ }
+{
+    let from = p.read;
+    gaps::gap(p.state, left, &clocks[from..])
+}
+
+// The gap passed.
+fn pass_progress(p: Progress, gap: Clocks) -> Progress
+    requires { ⌜ p .state .clock + gap .0 ≤ 4294967295 ⌝ }
+    ensures { λ r. ⌜ r ≡ passedBy gap p ⌝ }
+{
+    let state = gaps::pass(p.state, gap);
+    Progress {
+        state: state,
+        read: p.read,
+        written: p.written,
+        stop: p.stop,
+    }
+}
+
+// The clocks left after a gap and its event clock.
+fn left_after(left: Clocks, gap: Clocks) -> Clocks
+    ensures { λ r. ⌜ r ≡ clocksOf (left .0 - (gap .0 + 1)) ⌝ }
+{
+    if gap.0 < left.0 {
+        return Clocks(left.0 - gap.0 - 1);
+    }
+    Clocks(0)
+}
+
+// One leap: the gap, the gap passed, then the event clock, if it is reached.
+fn leap(
+    p: Progress,
+    left: Clocks,
+    gap: Clocks,
+    memory: &mut [u8],
+    clocks: &[u32],
+    codes: &[u8],
+    times: &mut [u32],
+    words: &mut [u32],
+    entries: &[u16],
+) -> Progress
+    requires { ⌜ Leaping p (left .0) (now clocks) (now codes) (now times) (now words) ⌝ }
+    requires { ⌜ gap ≡ gapOf (left .0) (p .state) (drop (p .read) (now clocks)) ⌝ }
+    requires { ⌜ now entries ≡ opcodeTable ⌝ }
+    ensures { λ r. ⌜ worldOf r (now (memory .exit)) (now (clocks .entry)) (now (codes .entry)) (now (times .exit)) (now (words .exit)) ≡ leapOf chip (left .0) (worldOf p (now (memory .entry)) (now (clocks .entry)) (now (codes .entry)) (now (times .entry)) (now (words .entry))) ⌝ }
+{
+    let passed = pass_progress(p, gap);
+    if gap.0 < left.0 {
+        return advance(passed, memory, clocks, codes, times, words, entries);
+    }
+    passed
+}
+
+// Whether another leap is to be made.
+fn goes_on(at: Leaped) -> bool
+    ensures { λ r. ⌜ r ≡ goesOn at ⌝ }
+{
+    (0 < at.left.0) & (at.progress.stop == 0)
+}
