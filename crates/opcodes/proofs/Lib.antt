@@ -1,3 +1,4 @@
 pub mod Apart
+pub mod Rows
 pub mod Unpack
 pub mod Laws

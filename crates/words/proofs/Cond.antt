@@ -10,6 +10,13 @@ pub cond-both : {A : Type 0} (P : A → Type 0) (t : Bool) (x y : A) → (t ≡ 
 cond-both P true x y h k = h refl
 cond-both P false x y h k = k refl
 
+-- a choice whose test is known
+pub cond-yes : {A : Type 0} (t : Bool) (x y : A) → t ≡ true → cond t x y ≡ x
+cond-yes t x y e = rw e
+
+pub cond-no : {A : Type 0} (t : Bool) (x y : A) → t ≡ false → cond t x y ≡ y
+cond-no t x y e = rw e
+
 -- a function of a choice is the choice of its values
 pub cond-map : {A B : Type 0} (f : A → B) (t : Bool) (x y : A) → f (cond t x y) ≡ cond t (f x) (f y)
 cond-map f true x y = refl

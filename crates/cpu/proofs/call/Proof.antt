@@ -1,3 +1,4 @@
+use mathlib.Core.Path.{refl}
 use Rattle.cpu.specs.Instruction.{callOf}
 use borrow.Author.Needs.{needs}
 use Rattle.cpu.proofs.call.Statement.{statement}
@@ -38,7 +39,7 @@ outcome-of-requires c κs = search needs
 
 returns : tie.Need-returns
 unfolding callOf
-returns c = rw (c .outcome-of .ensures, c .before .writes-asked .ensures, c .before .before .ended-with .ensures, c .before .before .before .with-pc .ensures, c .before .before .before .before .with-sp .ensures, c .before .before .before .before .before .down2 .ensures, c .before .before .before .before .before .before .down .ensures, c .before .before .before .before .before .before .before .word16 .ensures, c .before .before .before .before .before .before .before .before .before .read-after .ensures, c .before .before .before .before .before .before .before .before .before .before .push-word .ensures, c .before .before .before .before .before .before .before .before .before .before .before .before .fetch .ensures)
+returns c = rw (← (c .before .before .before .before .before .before .before .before .before .before .before .before .fetch .ensures), ← (c .before .before .before .before .before .before .before .before .before .before .push-word .ensures), ← (c .before .before .before .before .before .before .before .before .before .read-after .ensures), c .outcome-of .ensures, c .before .writes-asked .ensures, c .before .before .ended-with .ensures, c .before .before .before .with-pc .ensures, c .before .before .before .before .with-sp .ensures, c .before .before .before .before .before .down2 .ensures, c .before .before .before .before .before .before .down .ensures, c .before .before .before .before .before .before .before .word16 .ensures) refl
 
 pub call-spec : {M : Type 1} → statement M
 call-spec =

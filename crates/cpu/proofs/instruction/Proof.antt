@@ -1,9 +1,22 @@
-use mathlib.Core.Path.{sym, _∙_}
+use mathlib.Core.Path.{_≡_, sym, _∙_}
+use mathlib.Core.Bool.{false}
+use mathlib.Core.List.{List}
+use Prim.Native.Nat.{ℕ}
+use Rattle.opcodes.specs.Decode.{decodeOf}
+use Rattle.opcodes.specs.declared.Decoded.{Decoded}
+use Rattle.opcodes.specs.declared.Decoded.the-variants.{Undefined}
 use Rattle.opcodes.proofs.Laws.{length-fits}
-use Rattle.cpu.specs.Instruction.{instructionOf}
+use Rattle.bus.specs.declared.Fetched.{Fetched}
+use Rattle.bus.specs.declared.Registers.{Registers}
+use Rattle.operations.specs.Effects.{withPc}
+use Rattle.cpu.specs.Instruction.{begun, decodedTo, instructionOf}
 use borrow.Author.Needs.{needs}
 use Rattle.cpu.proofs.instruction.Statement.{statement}
 use Rattle.cpu.proofs.instruction.Tie as tie
+
+-- an opcode that need not be asked for: what it decodes to decides
+begun-as : (answers memory : List ℕ) (r : Registers) (f : Fetched) (d : Decoded) → f .bus .missing ≡ false → decodeOf (f .value) ≡ d → decodedTo answers memory (withPc (f .pc) r) (f .bus) d ≡ begun answers memory r f
+begun-as answers memory r f d m e = rw (m, e)
 
 idle-requires : tie.Need-idle-requires
 idle-requires c κs = search needs
@@ -32,7 +45,12 @@ enum-told c = search needs
 
 returns-2 : tie.Need-returns-2
 unfolding instructionOf
-returns-2 c = rw (← (c .before .before .before .before .before .before .idle .ensures), ← (c .before .before .before .before .before .fetch .ensures), c .before .before .before .if1 .left, ← (c .before .before .decode-in .ensures), c .enum-told .given .1)
+returns-2 c =
+    let at = c .before .before .before .before .before .before .before .before .before .before .args in
+    rw (← (c .before .before .before .before .before .before .idle .ensures), ← (c .before .before .before .before .before .fetch .ensures))
+    (begun-as (at .answers .now) (at .memory .now) (at .registers) (c .before .before .before .before .before .fetch .result) Undefined
+    (c .before .before .before .if1 .left)
+    (sym (c .before .before .decode-in .ensures) ∙ c .enum-told .given .1))
 
 with-pc-requires : tie.Need-with-pc-requires
 with-pc-requires c κs = search needs
@@ -42,7 +60,12 @@ execute-requires c κs = length-fits _ _ (sym (c .before .before .before .before
 
 returns-3 : tie.Need-returns-3
 unfolding instructionOf
-returns-3 c = rw (c .execute .ensures, c .before .with-pc .ensures, ← (c .before .before .before .before .before .before .before .before .before .idle .ensures), ← (c .before .before .before .before .before .before .before .before .fetch .ensures), c .before .before .before .before .before .before .if1 .left, ← (c .before .before .before .before .before .decode-in .ensures), c .before .before .before .decoded .given .1)
+returns-3 c =
+    let at = c .before .before .before .before .before .before .before .before .before .before .before .before .before .args in
+    rw (c .execute .ensures, c .before .with-pc .ensures, ← (c .before .before .before .before .before .before .before .before .before .idle .ensures), ← (c .before .before .before .before .before .before .before .before .fetch .ensures))
+    (begun-as (at .answers .now) (at .memory .now) (at .registers) (c .before .before .before .before .before .before .before .before .fetch .result) _
+    (c .before .before .before .before .before .before .if1 .left)
+    (sym (c .before .before .before .before .before .decode-in .ensures) ∙ c .before .before .before .decoded .given .1))
 
 pub instruction-spec : {M : Type 1} → statement M
 instruction-spec =

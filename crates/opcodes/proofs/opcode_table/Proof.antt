@@ -1,13 +1,19 @@
--- `opcode_table` meets its contract: the constant table is the specification's, number by number. Assumes nothing.
+-- `opcode_table` meets its contract: the constant table is the specification's, row by row. Assumes nothing.
 use mathlib.Core.Path.{refl}
+use borrow.Fn.Function.{resV}
 use Rattle.opcodes.specs.Decode.{decodeOf}
 use Rattle.opcodes.specs.Table.{opcodeTable}
+use Rattle.opcodes.proofs.Rows.{same-rows}
 use Rattle.opcodes.proofs.opcode_table.Statement.{statement}
 use Rattle.opcodes.proofs.opcode_table.Tie as tie
+use Rattle.opcodes.proofs.opcode_table.Reads as reads
+use Rattle.opcodes.proofs.opcode_table.Lts as lts
 
 returns : tie.Need-returns
 unfolding decodeOf opcodeTable
-returns c = refl
+returns c =
+    same-rows 16 (resV lts.r tt (lts.m2 reads.Pre reads.Post (c .args) .0)) opcodeTable
+    (refl, (refl, (refl, (refl, (refl, (refl, (refl, (refl, (refl, (refl, (refl, (refl, (refl, (refl, (refl, (refl, refl))))))))))))))))
 
 pub opcode-table-spec : {M : Type 1} → statement M
 opcode-table-spec = tie.close (tie.spec returns)

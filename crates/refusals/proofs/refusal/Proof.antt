@@ -1,3 +1,9 @@
+use mathlib.Core.Path.{refl, sym}
+use mathlib.Core.Bool.{_||_, not}
+use Prim.Native.Nat.{ℕ}
+use lib.Dec.{eqb}
+use lib.ListN.{length}
+use Rattle.words.proofs.Cond.{cond-yes}
 use Rattle.refusals.specs.Refusals.{refusalOf}
 use borrow.Author.Tests.{eq-eqb, ne-eqb}
 use borrow.Author.Needs.{needs}
@@ -21,12 +27,16 @@ returns c = rw (← (c .before .well-formed .ensures), ne-eqb _ _ (c .if1 .taken
 -- src/lib.rt:45:9
 returns-2 : tie.Need-returns-2
 unfolding refusalOf
-returns-2 c = rw (← (c .before .before .well-formed .ensures), c .if2 .taken, eq-eqb _ _ (c .before .if1 .left))
+returns-2 c = rw (← (c .before .before .well-formed .ensures), c .if2 .taken, eq-eqb _ _ (c .before .if1 .left)) refl
 
 -- src/lib.rt:48:9
 returns-3 : tie.Need-returns-3
 unfolding refusalOf
-returns-3 c = rw (← (c .before .before .before .well-formed .ensures), c .if3 .taken, c .before .if2 .left, eq-eqb _ _ (c .before .before .if1 .left))
+returns-3 c =
+    let at = c .before .before .before .before .before .before .args in
+    let unpaired = not (eqb (length (at .clocks .now)) (length (at .codes .now))) || not (eqb (at .times) (at .words)) in
+    rw (← (c .before .before .before .well-formed .ensures), c .before .if2 .left, eq-eqb _ _ (c .before .before .if1 .left))
+    (sym (cond-yes {A = ℕ} unpaired 3 _ (c .if3 .taken)))
 
 -- src/lib.rt:50:8
 passes-last-requires : tie.Need-passes-last-requires

@@ -1,3 +1,4 @@
+use mathlib.Core.Path.{refl}
 use borrow.Author.Tests.{eq-eqb, ne-eqb}
 use Rattle.tape.specs.Tapes.{endedBy}
 use borrow.Author.Needs.{needs}
@@ -12,7 +13,7 @@ add-t6 c = search needs
 
 returns : tie.Need-returns
 unfolding endedBy
-returns c = rw (← c .before .address .ensures, eq-eqb _ _ (c .if1 .taken))
+returns c = rw (← c .before .address .ensures, eq-eqb _ _ (c .if1 .taken)) refl
 
 returns-2 : tie.Need-returns-2
 unfolding endedBy

@@ -1,5 +1,9 @@
+use mathlib.Core.Path.{ap, sym}
+use lib.Dec.{eqb}
+use denote.Ref.{now}
 use borrow.Author.Tests.{eq-eqb, ne-eqb}
-use Rattle.tape.specs.Tapes.{loadOf}
+use Rattle.words.proofs.Cond.{cond-no}
+use Rattle.tape.specs.Tapes.{storeFrom, outcome, loadOf}
 use borrow.Author.Needs.{needs}
 use Rattle.tape.proofs.load.Statement.{statement}
 use Rattle.tape.proofs.load.Tie as tie
@@ -13,7 +17,11 @@ check-requires c κs = search needs
 
 returns-2 : tie.Need-returns-2
 unfolding loadOf
-returns-2 c = rw (← c .before .before .check .ensures, eq-eqb _ _ (c .before .before .before .if1 .left), ne-eqb _ _ (c .if2 .taken))
+returns-2 c =
+    let at = c .before .before .before .before .before .before .args in
+    let checked = c .before .before .check .result in
+    rw (← c .before .before .check .ensures, eq-eqb _ _ (c .before .before .before .if1 .left))
+    (ap (outcome checked) (sym (cond-no (eqb (checked .number) 0) (storeFrom (now (at .tape)) (now (at .memory))) (now (at .memory)) (ne-eqb (checked .number) 0 (c .if2 .taken)))))
 
 store-requires : tie.Need-store-requires
 store-requires c κs = search needs

@@ -1,10 +1,13 @@
 use borrow.Author.Tests.{eq-eqb, ne-eqb}
 use Rattle.tape.proofs.TapeLaws.{to-end}
-use Rattle.tape.specs.Records.{dataAt}
-use lib.ListN.{List·getD-eq-default}
+use Rattle.tape.specs.Records.{mark, dataOf, dataAt}
+use mathlib.Core.List.{[]}
+use lib.Dec.{eqb}
+use lib.ListN.{getD, drop, List·getD-eq-default}
 use denote.Ref.{now}
 use Prim.Native.Nat.{_+_}
-use mathlib.Core.Path.{_∙_}
+use mathlib.Core.Path.{sym, _∙_}
+use Rattle.words.proofs.Cond.{cond-no}
 use borrow.Author.Needs.{needs}
 use Rattle.tape.proofs.record_data.Statement.{statement}
 use Rattle.tape.proofs.record_data.Tie as tie
@@ -36,7 +39,10 @@ part-result-end-2 c = search needs
 
 returns-2 : tie.Need-returns-2
 unfolding dataAt
-returns-2 c = rw (ne-eqb _ _ (c .before .if2 .taken))
+returns-2 c =
+    let tape = now (c .before .before .before .before .before .args .tape) in
+    let place = c .before .before .before .before .before .args .place in
+    sym (cond-no (eqb (getD tape place 0) mark) (dataOf (drop (place + 1) tape)) [] (ne-eqb (getD tape place 0) mark (c .before .if2 .taken)))
 
 add-from : tie.Need-add-from
 add-from c = search needs

@@ -1,5 +1,5 @@
 use Prim.Native.Nat.{_<_, _≤_, _^_, _/_, _*_, _%_, _-_, _+_}
-use mathlib.Core.Path.{_≡_}
+use mathlib.Core.Path.{_≡_, ap}
 use native.Mathlib.Omega.{arith}
 use native.Mathlib.Nat.{add-zero}
 use Rattle.words.specs.Bits.{withBit}
@@ -38,7 +38,10 @@ returns c = rw (weight 8 _ (c .before .pre), c .if1 .taken)
 -- src/lib.rt:22:1
 returns-2 : tie.Need-returns-2
 unfolding withBit
-returns-2 c = rw (weight 8 _ (c .before .pre), c .if1 .left, add-zero)
+returns-2 c =
+    let x = c .before .args .x in
+    let k = c .before .args .k in
+    rw (c .if1 .left, add-zero) (ap (λ w. x - x / 2 ^ k % 2 * w) (weight 8 k (c .before .pre)))
 
 pub with-bit-spec : {M : Type 1} → statement M
 with-bit-spec =

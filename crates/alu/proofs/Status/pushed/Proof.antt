@@ -1,3 +1,4 @@
+use mathlib.Core.Path.{refl}
 use native.Mathlib.Omega.{arith}
 use Rattle.words.proofs.Cond.{digit-le}
 use Rattle.alu.proofs.Bounds.{packed-le}
@@ -23,7 +24,7 @@ add-result-2 c = omega (arith, c .before .pack .ensures, packed-le (c .before .b
 
 returns : tie.Need-returns
 unfolding pushed
-returns c = rw (← (c .before .pack .ensures), ← (c .digit8 .ensures))
+returns c = rw (c .digit8 .ensures, c .before .pack .ensures) refl
 
 pub pushed-spec : {M : Type 1} → statement M
 pushed-spec =

@@ -1,3 +1,4 @@
+use mathlib.Core.Path.{refl}
 use Rattle.words.proofs.Bits.{bit-zero}
 use Rattle.alu.specs.Status.{unpacked}
 use Rattle.alu.proofs.Status.unpack.Statement.{statement}
@@ -5,7 +6,7 @@ use Rattle.alu.proofs.Status.unpack.Tie as tie
 
 returns : tie.Need-returns
 unfolding unpacked
-returns c = rw bit-zero
+returns c = rw bit-zero refl
 
 pub unpack-spec : {M : Type 1} → statement M
 unpack-spec = tie.close (tie.spec returns)

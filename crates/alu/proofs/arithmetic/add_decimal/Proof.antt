@@ -1,3 +1,4 @@
+use mathlib.Core.Path.{refl}
 use Rattle.alu.specs.Arithmetic.{addDecimal, digitSum}
 use borrow.Author.Needs.{needs}
 use Rattle.alu.proofs.arithmetic.add_decimal.Statement.{statement}
@@ -53,7 +54,7 @@ cast-t15 c = search needs
 
 returns : tie.Need-returns
 unfolding addDecimal digitSum
-returns c = rw (← (c .before .before .before .low-sum .ensures), ← (c .before .before .overflow .ensures), ← (c .before .digit8 .ensures), ← (c .corrected .ensures))
+returns c = rw (← (c .before .before .before .low-sum .ensures), ← (c .before .before .overflow .ensures), ← (c .before .digit8 .ensures), ← (c .corrected .ensures)) refl
 
 pub add-decimal-spec : {M : Type 1} → statement M
 add-decimal-spec =

@@ -1,3 +1,4 @@
+use mathlib.Core.Path.{refl}
 use native.Mathlib.Omega.{arith}
 use Rattle.words.proofs.Cond.{digit-le}
 use Rattle.words.proofs.Bits.{bit-zero}
@@ -23,7 +24,7 @@ resulting-requires c κs = search needs
 
 returns : tie.Need-returns
 unfolding rorOf
-returns c = rw (bit-zero, c .resulting .ensures, c .before .with-carry .ensures, c .before .before .digit8 .ensures)
+returns c = rw (bit-zero, c .resulting .ensures, c .before .with-carry .ensures, c .before .before .digit8 .ensures) refl
 
 pub ror-spec : {M : Type 1} → statement M
 ror-spec =

@@ -1,3 +1,4 @@
+use mathlib.Core.Path.{refl}
 use Rattle.bus.specs.Stack.{pullOf}
 use borrow.Author.Needs.{needs}
 use Rattle.bus.proofs.Bus.pull.Statement.{statement}
@@ -14,7 +15,7 @@ read-requires c κs = search needs
 
 returns : tie.Need-returns
 unfolding pullOf
-returns c = rw (← (c .before .before .before .up .ensures), ← (c .before .before .stack-address .ensures), ← (c .before .read .ensures))
+returns c = rw (c .before .read .ensures, c .before .before .stack-address .ensures, c .before .before .before .up .ensures) refl
 
 pub pull-spec : {M : Type 1} → statement M
 pull-spec = tie.close (tie.spec up-requires stack-address-requires read-requires returns)

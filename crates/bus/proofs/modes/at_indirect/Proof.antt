@@ -1,3 +1,4 @@
+use mathlib.Core.Path.{refl}
 use borrow.Author.Needs.{needs}
 use Rattle.bus.proofs.modes.at_indirect.Statement.{statement}
 use Rattle.bus.proofs.modes.at_indirect.Tie as tie
@@ -12,7 +13,7 @@ place-at-requires : tie.Need-place-at-requires
 place-at-requires c κs = search needs
 
 returns : tie.Need-returns
-returns c = rw (← (c .before .before .before .second-address .ensures), ← (c .before .before .read-word .ensures), ← (c .place-at .ensures))
+returns c = rw (c .place-at .ensures, c .before .before .read-word .ensures, c .before .before .before .second-address .ensures) refl
 
 pub at-indirect-spec : {M : Type 1} → statement M
 at-indirect-spec =

@@ -1,3 +1,4 @@
+use mathlib.Core.Path.{refl}
 use Rattle.bus.specs.Modes.{indexedBy}
 use borrow.Author.Needs.{needs}
 use Rattle.bus.proofs.modes.indexed_by.Statement.{statement}
@@ -11,7 +12,7 @@ crossing-requires c κs = search needs
 
 returns : tie.Need-returns
 unfolding indexedBy
-returns c = rw (← (c .before .wrapping-add-u16 .ensures), ← (c .crossing .ensures))
+returns c = rw (c .crossing .ensures, c .before .wrapping-add-u16 .ensures) refl
 
 pub indexed-by-spec : {M : Type 1} → statement M
 indexed-by-spec = tie.close (tie.spec wrapping-add-u16-requires crossing-requires returns)

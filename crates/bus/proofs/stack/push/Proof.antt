@@ -1,3 +1,4 @@
+use mathlib.Core.Path.{refl}
 use borrow.Author.Needs.{needs}
 use Rattle.bus.proofs.stack.push.Statement.{statement}
 use Rattle.bus.proofs.stack.push.Tie as tie
@@ -6,7 +7,7 @@ stack-address-requires : tie.Need-stack-address-requires
 stack-address-requires c κs = search needs
 
 returns : tie.Need-returns
-returns c = rw (← (c .stack-address .ensures))
+returns c = rw (c .stack-address .ensures) refl
 
 pub push-spec : {M : Type 1} → statement M
 push-spec = tie.close (tie.spec stack-address-requires returns)

@@ -1,3 +1,4 @@
+use mathlib.Core.Path.{refl}
 use Rattle.cpu.specs.Entries.{resetEntry}
 use borrow.Author.Needs.{needs}
 use Rattle.cpu.proofs.entries.reset_entry.Statement.{statement}
@@ -20,7 +21,7 @@ no-writes-requires c κs = search needs
 
 returns : tie.Need-returns
 unfolding resetEntry
-returns c = rw (c .no-writes .ensures, c .before .with-pc .ensures, c .before .before .vector .ensures, c .before .before .before .with-status .ensures, c .before .before .before .before .sei .ensures)
+returns c = rw (c .no-writes .ensures, c .before .with-pc .ensures, c .before .before .vector .ensures, c .before .before .before .with-status .ensures, c .before .before .before .before .sei .ensures) refl
 
 pub reset-entry-spec : {M : Type 1} → statement M
 reset-entry-spec =

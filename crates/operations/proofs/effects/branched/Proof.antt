@@ -1,3 +1,4 @@
+use mathlib.Core.Path.{refl}
 use native.Mathlib.Omega.{arith}
 use Rattle.words.proofs.Cond.{digit-le}
 use Rattle.operations.specs.Effects.{branched}
@@ -22,14 +23,14 @@ quiet-requires c κs = search needs
 
 returns : tie.Need-returns
 unfolding branched
-returns c = rw (← (c .before .before .digit8 .ensures), ← (c .before .with-pc .ensures), ← (c .quiet .ensures), c .before .before .before .before .if1 .taken)
+returns c = rw (c .quiet .ensures, c .before .with-pc .ensures, c .before .before .digit8 .ensures, c .before .before .before .before .if1 .taken) refl
 
 quiet-requires-2 : tie.Need-quiet-requires-2
 quiet-requires-2 c κs = search needs
 
 returns-2 : tie.Need-returns-2
 unfolding branched
-returns-2 c = rw (← (c .quiet2 .ensures), c .before .if1 .left)
+returns-2 c = rw (c .quiet2 .ensures, c .before .if1 .left) refl
 
 pub branched-spec : {M : Type 1} → statement M
 branched-spec =

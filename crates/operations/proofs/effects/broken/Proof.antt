@@ -1,3 +1,4 @@
+use mathlib.Core.Path.{refl}
 use Rattle.operations.specs.Effects.{broken}
 use borrow.Author.Needs.{needs}
 use Rattle.operations.proofs.effects.broken.Statement.{statement}
@@ -17,7 +18,7 @@ interrupted-requires c κs = search needs
 
 returns : tie.Need-returns
 unfolding broken
-returns c = rw (← (c .before .before .before .next-address .ensures), ← (c .before .before .with-pc .ensures), ← (c .before .pushed .ensures), ← (c .interrupted .ensures))
+returns c = rw (c .interrupted .ensures, c .before .pushed .ensures, c .before .before .with-pc .ensures, c .before .before .before .next-address .ensures) refl
 
 pub broken-spec : {M : Type 1} → statement M
 broken-spec =

@@ -1,3 +1,4 @@
+use mathlib.Core.Path.{refl}
 use borrow.Author.Needs.{needs}
 use Rattle.refusals.specs.PinLists.{entryRight}
 use Rattle.refusals.proofs.pins.entry_right.Statement.{statement}
@@ -13,7 +14,7 @@ is-code-requires c κs = search needs
 -- src/pins.rt:10:1
 returns : tie.Need-returns
 unfolding entryRight
-returns c = rw (← c .is-code .ensures)
+returns c = rw (c .is-code .ensures) refl
 
 pub entry-right-spec : {M : Type 1} → statement M
 entry-right-spec = tie.close (tie.spec is-code-requires returns)

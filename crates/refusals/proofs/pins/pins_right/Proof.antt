@@ -25,7 +25,7 @@ returns c = unequal _ _ _ (c .if1 .taken)
 
 -- src/pins.rt:27:5
 loop-holds : tie.Need-loop-holds Inv-loop μ-loop
-loop-holds c = (omega arith, behind-last _ _ _)
+loop-holds c = (omega arith, behind-last (c .before .before .before .args .clock) (c .before .before .before .args .clocks .now) (c .before .before .before .args .codes .now))
 
 -- src/pins.rt:28:20
 mul-time : tie.Need-mul-time Inv-loop μ-loop

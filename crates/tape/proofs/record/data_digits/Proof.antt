@@ -1,3 +1,4 @@
+use mathlib.Core.Path.{refl}
 use Rattle.tape.proofs.RecordLaws.{count-most}
 use Rattle.tape.specs.Records.{dataOf}
 use borrow.Author.Tests.{eq-eqb, ne-eqb}
@@ -34,7 +35,7 @@ part-requires c κs = search needs
 
 returns-2 : tie.Need-returns-2
 unfolding dataOf
-returns-2 c = rw (c .part .ensures, ← c .before .before .before .fault .ensures, eq-eqb _ _ (c .before .before .if1 .left), ← c .before .count .ensures)
+returns-2 c = rw (c .part .ensures, ← c .before .before .before .fault .ensures, eq-eqb _ _ (c .before .before .if1 .left), ← c .before .count .ensures) refl
 
 pub data-digits-spec : {M : Type 1} → statement M
 data-digits-spec =

@@ -2,7 +2,7 @@ use Rattle.tape.proofs.RecordLaws.{count-most}
 use Rattle.tape.specs.Records.{sumOf}
 use lib.ListN.{length, length-take}
 use denote.Ref.{now}
-use mathlib.Core.Path.{ap}
+use mathlib.Core.Path.{ap, refl}
 use native.Mathlib.Omega.{arith}
 use borrow.Author.Needs.{needs}
 use Rattle.tape.proofs.record.sum.Statement.{statement}
@@ -25,7 +25,7 @@ total-requires c κs = omega (arith, simp length-take at (ap length (c .part .en
 
 returns : tie.Need-returns
 unfolding sumOf
-returns c = rw (c .total .ensures, c .before .part .ensures, c .before .before .count .ensures)
+returns c = rw (c .total .ensures, c .before .part .ensures, c .before .before .count .ensures) refl
 
 pub sum-spec : {M : Type 1} → statement M
 sum-spec =

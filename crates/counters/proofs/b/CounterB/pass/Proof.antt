@@ -1,3 +1,4 @@
+use mathlib.Core.Path.{refl}
 use Rattle.counters.specs.Counters.{passB}
 use borrow.Author.Needs.{needs}
 use Rattle.counters.proofs.b.CounterB.pass.Statement.{statement}
@@ -13,12 +14,12 @@ count-after-requires c κs = search needs
 -- src/b.rt:87:13
 returns : tie.Need-returns
 unfolding passB
-returns c = rw (← (c .count-after .ensures), c .before .if1 .taken)
+returns c = rw (c .count-after .ensures, c .before .if1 .taken) refl
 
 -- src/b.rt:82:5
 returns-2 : tie.Need-returns-2
 unfolding passB
-returns-2 c = rw (c .if1 .left)
+returns-2 c = rw (c .if1 .left) refl
 
 pub pass-spec : {M : Type 1} → statement M
 pass-spec = tie.close (tie.spec count-after-requires returns returns-2)
