@@ -23,7 +23,7 @@ use Rattle.processor.specs.declared.Processed.the-variants as processed
 use Rattle.processor.specs.Processor.{processorOf}
 use Rattle.processor.proofs.Ranges.{Ends, processor-formed, processor-clock}
 use Rattle.refusals.specs.PinLists.{pinsRight, dueCount}
-use Rattle.refusals.proofs.PinLists.{right-read}
+use Rattle.refusals.proofs.PinLists.{right-read, due-within}
 use Rattle.machine.specs.declared.outcome.Ended.{Ended}
 use Rattle.machine.specs.declared.outcome.Clocked.{Clocked}
 use Rattle.machine.specs.declared.outcome.Clocked.the-variants.{Stopped, Done}
@@ -65,12 +65,22 @@ done-clock s codes memory free e d =
     along processed.Undefined h = tt
     along (processed.Done n) h = h ∙ ready-clock s codes
 
--- every field stays in its range; a record has room
+-- a record that is put has room
+pub done-room : (s : State) (codes memory : List ℕ) (free : Bool) (e : Ended) → clockOf s codes memory free ≡ Done e → e .differs ≡ true → free ≡ true
+done-room s codes memory free e d =
+    let m = clock-ends (λ t. Unit {0}) s codes memory free (nothing (processorOf (readyOf s codes) memory)) in
+    (rw d at m) .1
+  where
+    nothing : (x : Processed) → Ends (λ n. Unit {0}) x
+    nothing processed.Undefined = tt
+    nothing (processed.Done n) = tt
+
+-- every field stays in its range
 pub done-formed : (s : State) (codes memory : List ℕ) (free : Bool) (e : Ended) → wellFormed s ≡ true → clockOf s codes memory free ≡ Done e
-    → (wellFormed (e .state) ≡ true) × (e .differs ≡ true → free ≡ true)
+    → wellFormed (e .state) ≡ true
 done-formed s codes memory free e f d =
     let m = clock-ends (λ t. wellFormed t ≡ true) s codes memory free (processor-formed (readyOf s codes) memory (ready-formed s codes f)) in
-    rw d at m
+    (rw d at m) .0
 
 -- a commit keeps the memory's length
 put-length : (there : Bool) (w : Write) (m : List ℕ) → length (putByte there w m) ≡ length m
@@ -97,14 +107,13 @@ written-within false written space h room = omega arith
 module _ (w : World) (f : Fit w) where
   moved-fits : (e : Ended) → outcomeIn w (dueIn w) ≡ Done e → Fit (movedTo e (dueIn w) w)
   moved-fits e d =
-      let kept = done-formed (w .state) _ (w .memory) _ e (f .state) d in
       record {
         memory = commit-length (w .memory) (e .writes) ∙ f .memory;
-        state = kept .0;
+        state = done-formed (w .state) _ (w .memory) _ e (f .state) d;
         pins = rw (done-clock (w .state) _ (w .memory) _ e d) (right-read (w .state .clock) (w .clocks) (w .codes) (f .pins));
         outputs = record-length (e .differs) _ _ (w .times) ∙ f .outputs ∙ sym (record-length (e .differs) _ _ (w .words));
         written = rw (record-length (e .differs) (w .written) (e .state .clock) (w .times))
-            (written-within (e .differs) (w .written) (length (w .times)) (f .written) (kept .1));
+            (written-within (e .differs) (w .written) (length (w .times)) (f .written) (done-room (w .state) _ (w .memory) _ e d));
       }
 
   stopped-fits : (number : ℕ) → Fit (stoppedAt number w)
@@ -118,3 +127,32 @@ module _ (w : World) (f : Fit w) where
       by-outcome : (o : Clocked) → outcomeIn w (dueIn w) ≡ o → Fit (after w (dueIn w) o)
       by-outcome (Stopped number) d = stopped-fits number
       by-outcome (Done e) d = moved-fits e d
+
+-- how far a plain clock goes, of any world
+pub record Advanced (w v : World) : Type 0 where
+  pub clock : v .state .clock ≤ w .state .clock + 1
+  pub read : v .read ≤ w .read + length (w .clocks)
+  pub memory : length (v .memory) ≡ length (w .memory)
+  pub times : length (v .times) ≡ length (w .times)
+  pub words : length (v .words) ≡ length (w .words)
+  pub written : w .written ≤ length (w .times) → v .written ≤ length (w .times)
+
+pub plain-advances : (w : World) → Advanced w (plain w)
+unfolding plain
+plain-advances w = cond-both (Advanced w) (eqb (w .stop) 0) _ w (λ _. by-outcome (outcomeIn w (dueIn w)) refl) (λ _. same)
+  where
+    same : Advanced w w
+    same = record { clock = omega arith; read = omega arith; memory = refl; times = refl; words = refl; written = λ h. h }
+
+    by-outcome : (o : Clocked) → outcomeIn w (dueIn w) ≡ o → Advanced w (after w (dueIn w) o)
+    by-outcome (Stopped number) d =
+        record { clock = omega arith; read = omega arith; memory = refl; times = refl; words = refl; written = λ h. h }
+    by-outcome (Done e) d =
+        record {
+          clock = omega (arith, done-clock (w .state) _ (w .memory) _ e d);
+          read = omega (arith, due-within (w .state .clock + 1) (w .clocks));
+          memory = commit-length (w .memory) (e .writes);
+          times = record-length (e .differs) _ _ (w .times);
+          words = record-length (e .differs) _ _ (w .words);
+          written = λ h. written-within (e .differs) (w .written) (length (w .times)) h (done-room (w .state) _ (w .memory) _ e d);
+        }

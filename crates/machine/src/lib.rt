@@ -148,7 +148,7 @@ pub fn advance(
 }
 
 // What a refused call tells.
-fn refused(number: u8, state: State) -> Told
+pub fn refused(number: u8, state: State) -> Told
     ensures { λ r. ⌜ r ≡ refusedWith number state ⌝ }
 {
     Told {
@@ -161,7 +161,7 @@ fn refused(number: u8, state: State) -> Told
 }
 
 // What a call tells that was not refused.
-fn tell(leaps: u32, p: Progress) -> Told
+pub fn tell(leaps: u32, p: Progress) -> Told
     ensures { λ r. ⌜ r ≡ toldOf leaps p ⌝ }
 {
     let state = p.state;
@@ -175,14 +175,14 @@ fn tell(leaps: u32, p: Progress) -> Told
 }
 
 // The leap of a single clock: one where the clock moved.
-fn leaps_from(before: u32, after: u32) -> u32
+pub fn leaps_from(before: u32, after: u32) -> u32
     ensures { λ r. ⌜ r ≡ leapsFrom before after ⌝ }
 {
     if before < after { 1 } else { 0 }
 }
 
 // A call that has just begun.
-fn begin(state: State) -> Progress
+pub fn begin(state: State) -> Progress
     ensures { λ r. ⌜ r ≡ begin state ⌝ }
 {
     Progress {

@@ -1,2 +1,4 @@
 pub mod System
 pub mod Run
+pub mod Leap
+pub mod Lists

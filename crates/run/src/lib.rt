@@ -11,7 +11,7 @@ ghost use Rattle.machine.specs.Calls.{handed, begin, leapsFrom};
 ghost use Rattle.leaps.specs.Leaps.{leapOf, leftAfter, movedOf};
 ghost use Rattle.run.specs.System.{chip};
 ghost use Rattle.run.specs.Run.{runOf, plainRunOf};
-ghost use Rattle.run.specs.Leap.{passedBy, Leaping, leapedBy, goesOn, runFrom};
+ghost use Rattle.run.specs.Leap.{passedBy, goesOn, runFrom, runEnded, beginRun, Leaping};
 use chip::state::State;
 use counters::time::Clocks;
 use machine::Progress;
@@ -76,6 +76,7 @@ fn leap(
     entries: &[u16],
 ) -> Progress
     requires { ⌜ Leaping p (left .0) (now clocks) (now codes) (now times) (now words) ⌝ }
+    requires { ⌜ p .stop ≡ 0 ⌝ }
     requires { ⌜ gap ≡ gapOf (left .0) (p .state) (drop (p .read) (now clocks)) ⌝ }
     requires { ⌜ now entries ≡ opcodeTable ⌝ }
     ensures { λ r. ⌜ worldOf r (now (memory .exit)) (now (clocks .entry)) (now (codes .entry)) (now (times .exit)) (now (words .exit)) ≡ leapOf chip (left .0) (worldOf p (now (memory .entry)) (now (clocks .entry)) (now (codes .entry)) (now (times .entry)) (now (words .entry))) ⌝ }
@@ -92,4 +93,89 @@ fn goes_on(at: Leaped) -> bool
     ensures { λ r. ⌜ r ≡ goesOn at ⌝ }
 {
     (0 < at.left.0) & (at.progress.stop == 0)
+}
+
+// One leap more of a run.
+fn leap_once(
+    at: Leaped,
+    memory: &mut [u8],
+    clocks: &[u32],
+    codes: &[u8],
+    times: &mut [u32],
+    words: &mut [u32],
+    entries: &[u16],
+) -> Leaped
+    requires { ⌜ Leaping (at .progress) (at .left .0) (now clocks) (now codes) (now times) (now words) ⌝ }
+    requires { ⌜ (0 < at .left .0) × (at .progress .stop ≡ 0) ⌝ }
+    requires { ⌜ at .leaps + at .left .0 ≤ 4294967295 ⌝ }
+    requires { ⌜ now entries ≡ opcodeTable ⌝ }
+    ensures { λ r. ⌜ runFrom r (now (memory .exit)) (now (clocks .entry)) (now (codes .entry)) (now (times .exit)) (now (words .exit)) ≡ runFrom at (now (memory .entry)) (now (clocks .entry)) (now (codes .entry)) (now (times .entry)) (now (words .entry)) ⌝ }
+    ensures { λ r. ⌜ Leaping (r .progress) (r .left .0) (now (clocks .entry)) (now (codes .entry)) (now (times .exit)) (now (words .exit)) ⌝ }
+    ensures { λ r. ⌜ (r .leaps + r .left .0 ≤ 4294967295) × (r .left .0 < at .left .0) ⌝ }
+{
+    let p = at.progress;
+    let left = at.left;
+    let gap = gap_from(p, left, clocks);
+    let q = leap(p, left, gap, memory, clocks, codes, times, words, entries);
+    let moved = leaps_from(p.state.clock, q.state.clock);
+    Leaped {
+        progress: q,
+        left: left_after(left, gap),
+        leaps: at.leaps + moved,
+    }
+}
+
+// Leaps, until no clock is left or one stops.
+fn leap_on(
+    start: Leaped,
+    memory: &mut [u8],
+    clocks: &[u32],
+    codes: &[u8],
+    times: &mut [u32],
+    words: &mut [u32],
+    entries: &[u16],
+) -> Leaped
+    requires { ⌜ Leaping (start .progress) (start .left .0) (now clocks) (now codes) (now times) (now words) ⌝ }
+    requires { ⌜ start .leaps + start .left .0 ≤ 4294967295 ⌝ }
+    requires { ⌜ now entries ≡ opcodeTable ⌝ }
+    ensures { λ r. ⌜ runEnded r (now (memory .exit)) (now (clocks .entry)) (now (codes .entry)) (now (times .exit)) (now (words .exit)) ≡ runFrom start (now (memory .entry)) (now (clocks .entry)) (now (codes .entry)) (now (times .entry)) (now (words .entry)) ⌝ }
+{
+    let mut at = start;
+    while goes_on(at) {
+        at = leap_once(at, memory, clocks, codes, times, words, entries);
+    }
+    at
+}
+
+// A run that has just begun.
+fn begin_run(state: State, n: u32) -> Leaped
+    ensures { λ r. ⌜ r ≡ beginRun state n ⌝ }
+{
+    Leaped {
+        progress: begin(state),
+        left: Clocks(n),
+        leaps: 0,
+    }
+}
+
+// The call for n clocks.
+pub fn run(
+    state: State,
+    memory: &mut [u8],
+    clocks: &[u32],
+    codes: &[u8],
+    times: &mut [u32],
+    words: &mut [u32],
+    n: u32,
+) -> Told
+    ensures { λ r. ⌜ handed r (now (memory .exit)) (now (times .exit)) (now (words .exit)) ≡ runOf n (worldOf (begin state) (now (memory .entry)) (now (clocks .entry)) (now (codes .entry)) (now (times .entry)) (now (words .entry))) ⌝ }
+    ensures { λ r. ⌜ handed r (now (memory .exit)) (now (times .exit)) (now (words .exit)) ≡ plainRunOf n (worldOf (begin state) (now (memory .entry)) (now (clocks .entry)) (now (codes .entry)) (now (times .entry)) (now (words .entry))) ⌝ }
+{
+    let number = refusal(state, memory.len(), clocks, codes, times.len(), words.len(), n);
+    if number != 0 {
+        return refused(number, state);
+    }
+    let entries = opcodes::opcode_table();
+    let end = leap_on(begin_run(state, n), memory, clocks, codes, times, words, &entries);
+    tell(end.leaps, end.progress)
 }

@@ -1,0 +1,210 @@
+-- Demand 3, one theorem over the list of calls: state, memory, outputs, stop and counts are those of n plain clocks, and each call
+-- tells what they say, document 01's leap count among it.
+use mathlib.Core.Path.{_≡_, refl, sym, ap, ap₂, _∙_, subst}
+use mathlib.Core.Bool.{Bool, true, false, cond, not}
+use mathlib.Core.List.{List, [], _∷_, _++_}
+use Prim.Native.Nat.{ℕ, zero, suc, _+_, _-_, _≤_, _<_}
+use native.Mathlib.Nat.{add-zero, zero-add}
+use native.Mathlib.Omega.{arith}
+use lib.Dec.{ltb, eqb}
+use lib.ListN.{length, take, drop, length-drop, take-append-drop}
+use borrow.Author.Tests.{eqb-true, eq-eqb, ltb-true, le-ltb, lt-ltb}
+use Rattle.words.specs.Memory.{memorySpan}
+use Rattle.chip.specs.State.{wellFormed}
+use Rattle.refusals.specs.PinLists.{pinsRight}
+use Rattle.refusals.specs.Refusals.{lastClock, refusalOf}
+use Rattle.refusals.proofs.PinLists.{right-lengths}
+use Rattle.refusals.proofs.Accepted.{Accepted, accepted, accepts}
+use Rattle.leaps.specs.Leaps.{plains, run, leapCount, trail}
+use Rattle.leaps.proofs.Laws.{plains-add, plains-stopped, run-plain, plains-kept}
+use Rattle.machine.specs.declared.Told.{Told}
+use Rattle.machine.specs.World.{World, plain}
+use Rattle.machine.specs.Calls.{Handed, handed, refusedWith, handedBack, refusalIn, leapsFrom, steppedFrom, stepOf}
+use Rattle.machine.specs.Fit.{Fit}
+use Rattle.machine.proofs.Kept.{plain-fits}
+use Rattle.run.specs.System.{runningIn, chip}
+use Rattle.run.specs.Run.{handedRun, runOf, plainRunOf}
+use Rattle.run.specs.Lists.{Call, singleClock, runFor, countOf, callOf, lentOf, stopOf, afterCall, Listed, listed, calls, granted, toldBy, tells}
+use Rattle.run.proofs.Laws.{lawful, no-gap-event, single-leaps}
+use Rattle.run.proofs.Runs.{runs-plainly, fit-call}
+use Rattle.run.proofs.Rest.{plains-rest, plains-stop}
+use Rattle.run.proofs.Parts.{Room, wholeOf, plains-whole, lent-whole, count-whole}
+
+fit-room : (w : World) → Fit w → Room w
+fit-room w f = record { times = f .written; words = rw (← (f .outputs)) (f .written) }
+
+fit-lent : (w : World) → Fit w → Fit (lentOf w)
+fit-lent w f = record {
+  memory = f .memory;
+  state = f .state;
+  pins = f .pins;
+  outputs = length-drop (w .written) (w .times) ∙ ap (λ (k : ℕ). k - w .written) (f .outputs) ∙ sym (length-drop (w .written) (w .words));
+  written = omega arith;
+}
+
+-- of such a world only the clock can refuse
+fits-clock : (w : World) (n : ℕ) → Fit w → refusalIn n w ≡ cond (ltb lastClock (w .state .clock + n)) 4 0
+unfolding refusalOf
+fits-clock w n f =
+    rw (
+      eq-eqb (length (w .memory)) memorySpan (f .memory),
+      f .state,
+      eq-eqb (length (w .clocks)) (length (w .codes)) (right-lengths (w .state .clock) (w .clocks) (w .codes) (f .pins)),
+      eq-eqb (length (w .times)) (length (w .words)) (f .outputs),
+      f .pins,
+    )
+
+refusal-lent : (w : World) (n : ℕ) → Fit w → refusalIn n (lentOf w) ≡ refusalIn n w
+refusal-lent w n f = fits-clock (lentOf w) n (fit-lent w f) ∙ sym (fits-clock w n f)
+
+-- the number of a refusal is no stop
+refusal-no-stop : (w : World) (n : ℕ) → Fit w → stopOf (refusalIn n w) ≡ 0
+unfolding stopOf
+refusal-no-stop w n f = rw (fits-clock w n f) (by-test (ltb lastClock (w .state .clock + n)))
+  where
+    by-test : (t : Bool) → cond (ltb 5 (cond t 4 0)) (cond t 4 0) 0 ≡ 0
+    by-test true = refl
+    by-test false = refl
+
+-- ---- one call
+
+-- the single-clock call is a run of 1
+pub single-run : (w : World) → stepOf w ≡ plainRunOf 1 w
+unfolding stepOf plainRunOf plains
+single-run w = rw (single-leaps w)
+
+-- either call, by plain clocks
+call-plain : (c : Call) (w : World) → w .written ≤ length (w .times) → callOf c w ≡ plainRunOf (countOf c) w
+unfolding callOf countOf
+call-plain singleClock w h = single-run w
+call-plain (runFor n) w h = runs-plainly n w h
+
+module _ (w : World) (f : Fit w) (n : ℕ) where
+  abbrev end : World
+  end = plains chip n (lentOf w)
+
+  whole-end : wholeOf w end ≡ plains chip n w
+  whole-end = sym (plains-whole n w (lentOf w) (fit-room w f)) ∙ ap (plains chip n) (lent-whole w)
+
+  -- what a call that is not refused leaves
+  done-world : w .stop ≡ 0 → (leaps : ℕ) → afterCall w (handedBack leaps end) ≡ plains chip n w
+  unfolding afterCall
+  done-world on leaps =
+      let r = plains-rest n (lentOf w) in
+      let count : end .read ≡ r .count = r .read ∙ zero-add (r .count) in
+      let clocks : drop (end .read) (w .clocks) ≡ end .clocks = ap (λ (k : ℕ). drop k (w .clocks)) count ∙ sym (r .clocks) in
+      let codes : drop (end .read) (w .codes) ≡ end .codes = ap (λ (k : ℕ). drop k (w .codes)) count ∙ sym (r .codes) in
+      rw (clocks, codes, plains-stop n (lentOf w) (no-stop on)) whole-end
+    where
+      no-stop : w .stop ≡ 0 → stopOf (w .stop) ≡ w .stop
+      no-stop e = ap stopOf e ∙ (unfold stopOf in refl) ∙ sym e
+
+  -- and tells
+  done-told : handedBack (leapCount chip n (lentOf w)) end .told ≡ toldBy (leapCount chip n w) w (plains chip n w)
+  done-told =
+      let read : w .read + end .read - w .read ≡ end .read = omega arith in
+      let written : w .written + end .written - w .written ≡ end .written = omega arith in
+      let leaps : leapCount chip n (lentOf w) ≡ leapCount chip n w =
+            sym (count-whole n w (lentOf w) (fit-room w f)) ∙ ap (leapCount chip n) (lent-whole w) in
+      rw (← whole-end, read, written, leaps)
+
+module _ (c : Call) (w : World) (f : Fit w) where
+  abbrev n : ℕ
+  n = countOf c
+
+  call-done : eqb (refusalIn n w) 0 ≡ true → callOf c (lentOf w) ≡ handedBack (leapCount chip n (lentOf w)) (plains chip n (lentOf w))
+  unfolding plainRunOf
+  call-done e = call-plain c (lentOf w) (omega arith) ∙ rw (refusal-lent w n f, e)
+
+  call-refused : eqb (refusalIn n w) 0 ≡ false
+      → callOf c (lentOf w) ≡ handed (refusedWith (refusalIn n w) (w .state)) (w .memory) (drop (w .written) (w .times)) (drop (w .written) (w .words))
+  unfolding plainRunOf
+  call-refused e = call-plain c (lentOf w) (omega arith) ∙ rw (refusal-lent w n f, e)
+
+  -- "A refused call hands on what it got"
+  refused-world : w .stop ≡ 0
+      → afterCall w (handed (refusedWith (refusalIn n w) (w .state)) (w .memory) (drop (w .written) (w .times)) (drop (w .written) (w .words))) ≡ w
+  unfolding afterCall
+  refused-world on =
+      rw (
+        take-append-drop (w .written) (w .times),
+        take-append-drop (w .written) (w .words),
+        add-zero (w .read),
+        add-zero (w .written),
+        refusal-no-stop w n f,
+        ← on,
+      )
+
+-- ---- the list
+
+abbrev Fairly : List Call → World → Type 0
+Fairly cs w = calls cs w ≡ record { world = plains chip (granted cs w) w; told = tells cs w }
+
+module _ (c : Call) (cs : List Call) (w : World) where
+  -- a stop has ended the list
+  fair-ended : eqb (w .stop) 0 ≡ false → Fairly (c ∷ cs) w
+  unfolding calls granted tells plains
+  fair-ended e = rw (e, calls, granted, tells)
+
+  calls-on : eqb (w .stop) 0 ≡ true → calls (c ∷ cs) w ≡ listed (callOf c (lentOf w) .told) (calls cs (afterCall w (callOf c (lentOf w))))
+  unfolding calls
+  calls-on e = rw (e, calls)
+
+  granted-done : eqb (w .stop) 0 ≡ true → eqb (refusalIn (countOf c) w) 0 ≡ true
+      → granted (c ∷ cs) w ≡ countOf c + granted cs (plains chip (countOf c) w)
+  unfolding granted
+  granted-done e d = rw (e, granted) (rw d)
+
+  granted-refused : eqb (w .stop) 0 ≡ true → eqb (refusalIn (countOf c) w) 0 ≡ false → granted (c ∷ cs) w ≡ granted cs w
+  unfolding granted
+  granted-refused e d = rw (e, granted) (rw d)
+
+  tells-done : eqb (w .stop) 0 ≡ true → eqb (refusalIn (countOf c) w) 0 ≡ true
+      → tells (c ∷ cs) w
+        ≡ toldBy (leapCount chip (countOf c) w) w (plains chip (countOf c) w) ∷ tells cs (plains chip (countOf c) w)
+  unfolding tells
+  tells-done e d = rw (e, tells) (rw d)
+
+  tells-refused : eqb (w .stop) 0 ≡ true → eqb (refusalIn (countOf c) w) 0 ≡ false
+      → tells (c ∷ cs) w ≡ refusedWith (refusalIn (countOf c) w) (w .state) ∷ tells cs w
+  unfolding tells
+  tells-refused e d = rw (e, tells) (rw d)
+
+  module _ (f : Fit w) (on : eqb (w .stop) 0 ≡ true) (later : (v : World) → Fit v → Fairly cs v) where
+    fair-done : eqb (refusalIn (countOf c) w) 0 ≡ true → Fairly (c ∷ cs) w
+    fair-done d =
+        rw (
+          calls-on on,
+          call-done c w f d,
+          done-world w f (countOf c) (eqb-true (w .stop) 0 on) (leapCount chip (countOf c) (lentOf w)),
+          done-told w f (countOf c),
+          later (plains chip (countOf c) w) (plains-kept chip lawful Fit plain-fits no-gap-event (countOf c) w f),
+          granted-done on d,
+          tells-done on d,
+          plains-add chip lawful (countOf c) (granted cs (plains chip (countOf c) w)) w,
+        )
+
+    fair-refused : eqb (refusalIn (countOf c) w) 0 ≡ false → Fairly (c ∷ cs) w
+    fair-refused d =
+        rw (
+          calls-on on,
+          call-refused c w f d,
+          refused-world c w f (eqb-true (w .stop) 0 on),
+          later w f,
+          granted-refused on d,
+          tells-refused on d,
+        )
+
+-- DEMAND 3. "Leaping equals stepping, for every well-formed start" (`Fit`) "and every list of calls (single clocks and runs of any count,
+-- refused ones included)" (`calls`): "state, memory, outputs, stop and counts are those of n plain clocks" (`plains`, n being `granted`,
+-- the counts of the calls not refused), "and the leap count is document 01's" (`tells`: of each call, with its number).
+pub fair : (cs : List Call) (w : World) → Fit w → calls cs w ≡ record { world = plains chip (granted cs w) w; told = tells cs w }
+unfolding calls granted tells plains
+fair [] w f = refl
+fair (c ∷ cs) w f = by-tests (eqb (w .stop) 0) refl (eqb (refusalIn (countOf c) w) 0) refl (fair cs)
+  where
+    by-tests : (a : Bool) → eqb (w .stop) 0 ≡ a → (b : Bool) → eqb (refusalIn (countOf c) w) 0 ≡ b
+        → ((v : World) → Fit v → Fairly cs v) → Fairly (c ∷ cs) w
+    by-tests false e b d later = fair-ended c cs w e
+    by-tests true e true d later = fair-done c cs w f e later d
+    by-tests true e false d later = fair-refused c cs w f e later d

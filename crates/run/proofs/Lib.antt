@@ -1,0 +1,5 @@
+pub mod Laws
+pub mod Runs
+pub mod Parts
+pub mod Rest
+pub mod Fair

@@ -1,0 +1,136 @@
+-- The run in code, leap by leap.
+use mathlib.Core.Path.{_≡_, refl, sym, ap, _∙_}
+use mathlib.Core.Bool.{Bool, true, false, _&&_, cond}
+use mathlib.Core.List.{List}
+use Prim.Native.Nat.{ℕ, _+_, _-_, _≤_, _<_}
+use native.Mathlib.Nat.{zero-add, add-assoc}
+use native.Mathlib.Omega.{arith}
+use lib.Dec.{ltb, eqb}
+use lib.ListN.{length, drop, length-drop}
+use borrow.Author.Tests.{ltb-true, ltb-false, eq-eqb, eqb-true}
+use Rattle.words.proofs.Cond.{cond-both}
+use Rattle.chip.specs.declared.state.State.{State}
+use Rattle.refusals.specs.Refusals.{lastClock}
+use Rattle.refusals.proofs.Accepted.{accepted}
+use Rattle.leaps.specs.Leaps.{Run, leapOf, leftAfter, movedOf, run, plains, leapCount}
+use Rattle.leaps.proofs.Laws.{run-leap, run-over, run-plain, run-count}
+use Rattle.gaps.specs.Gaps.{clocksOf, gapOf, passOf}
+use Rattle.gaps.proofs.Gaps.{gap-le}
+use Rattle.gaps.proofs.Passing.{pass-clock}
+use Rattle.machine.specs.declared.Progress.{Progress}
+use Rattle.machine.specs.World.{World, worldOf, plain}
+use Rattle.machine.specs.Calls.{Handed, handed, begin, toldOf, leapsFrom, handedBack, refusalIn}
+use Rattle.machine.specs.Fit.{Fit}
+use Rattle.machine.proofs.Kept.{Advanced, plain-advances, plain-fits}
+use Rattle.run.specs.declared.Leaped.{Leaped}
+use Rattle.run.specs.System.{runningIn, passIn, chip}
+use Rattle.run.specs.Run.{handedRun, refusedCall, runOf, plainRunOf}
+use Rattle.run.specs.Leap.{goesOn, runFrom, runEnded, beginRun, Leaping}
+use Rattle.run.proofs.Laws.{lawful, no-gap-event}
+
+-- the gap of a world
+abbrev gapIn : ℕ → World → ℕ
+gapIn n w = gapOf n (w .state) (w .clocks) .0
+
+-- how far a leap goes
+pub record Leapt (n : ℕ) (w v : World) : Type 0 where
+  pub clock : v .state .clock + (n - (gapIn n w + 1)) ≤ w .state .clock + n
+  pub read : v .read ≤ w .read + length (w .clocks)
+  pub memory : length (v .memory) ≡ length (w .memory)
+  pub times : length (v .times) ≡ length (w .times)
+  pub words : length (v .words) ≡ length (w .words)
+  pub written : w .written ≤ length (w .times) → v .written ≤ length (w .times)
+
+pub leap-goes : (n : ℕ) (w : World) → Leapt n w (leapOf chip n w)
+unfolding leapOf
+leap-goes n w =
+    let g = gapIn n w in
+    let at = passIn g w in
+    let passed = pass-clock (w .state) g in
+    cond-both (Leapt n w) (ltb g n) (plain at) at
+    (λ e. let less = ltb-true g n e in let a = plain-advances at in
+      record {
+        clock = omega (arith, a .clock);
+        read = a .read;
+        memory = a .memory;
+        times = a .times;
+        words = a .words;
+        written = a .written;
+      })
+    (λ e. let most = gap-le n (w .state) (w .clocks) in
+      record { clock = omega arith; read = omega arith; memory = refl; times = refl; words = refl; written = λ h. h })
+
+-- one leap of a run
+pub leap-run : (n leaps : ℕ) (w v : World) → 0 < n → runningIn w ≡ true → v ≡ leapOf chip n w
+    → _≡_ {A = Run World}
+      (record {
+        world = run chip (n - (gapIn n w + 1)) v .world;
+        leaps = leaps + leapsFrom (w .state .clock) (v .state .clock) + run chip (n - (gapIn n w + 1)) v .leaps;
+      })
+      (record { world = run chip n w .world; leaps = leaps + run chip n w .leaps })
+unfolding movedOf
+leap-run n leaps w v h z e = rw (run-leap chip lawful n w h z, e, add-assoc)
+
+module _ (memory clocks codes times words memory' times' words' : List ℕ) (p q : Progress) (n : ℕ) (l : Leaping p n clocks codes times words)
+         (e : worldOf q memory' clocks codes times' words' ≡ leapOf chip n (worldOf p memory clocks codes times words)) where
+  abbrev w : World
+  w = worldOf p memory clocks codes times words
+
+  went : Leapt n w (worldOf q memory' clocks codes times' words')
+  went = rw e (leap-goes n w)
+
+  -- and what holds at its end
+  pub leaping-on : Leaping q (n - (gapIn n w + 1)) clocks codes times' words'
+  leaping-on = record {
+    clock = omega (arith, went .clock, l .clock);
+    read = omega (arith, went .read, l .read, length-drop (p .read) clocks);
+    inputs = l .inputs;
+    outputs = went .times ∙ l .outputs ∙ sym (went .words);
+    written = rw (went .times) (went .written (l .written));
+  }
+
+-- a run that goes on no more
+pub run-ended : (l : Leaped) (memory clocks codes times words : List ℕ) → goesOn l ≡ false
+    → runEnded l memory clocks codes times words ≡ runFrom l memory clocks codes times words
+run-ended l memory clocks codes times words e =
+    rw (run-over chip lawful (l .left .0) (worldOf (l .progress) memory clocks codes times words) e) (ap (λ k. _) (sym (add-none (l .leaps))))
+  where
+    add-none : (k : ℕ) → k + 0 ≡ k
+    add-none k = omega arith
+
+-- what is not refused is of demand 3
+pub fit-call : (n : ℕ) (w : World) → refusalIn n w ≡ 0 → w .written ≤ length (w .times) → Fit w
+fit-call n w e h =
+    let a = accepted (w .state) (length (w .memory)) (w .clocks) (w .codes) (length (w .times)) (length (w .words)) n e in
+    record { memory = a .memory; state = a .state; pins = a .pins; outputs = a .outputs; written = h }
+
+-- the run by leaps is the run by plain clocks, with document 01's count
+pub run-by-plain : (n : ℕ) (w : World) → Fit w → handedRun (run chip n w) ≡ handedBack (leapCount chip n w) (plains chip n w)
+run-by-plain n w f =
+    rw (run-plain chip lawful n w, run-count chip lawful Fit plain-fits no-gap-event n w f)
+
+pub runs-plainly : (n : ℕ) (w : World) → w .written ≤ length (w .times) → runOf n w ≡ plainRunOf n w
+unfolding runOf plainRunOf
+runs-plainly n w h = by-test (eqb (refusalIn n w) 0) refl
+  where
+    by-test : (t : Bool) → eqb (refusalIn n w) 0 ≡ t
+        → cond t (handedRun (run chip n w)) (refusedCall n w) ≡ cond t (handedBack (leapCount chip n w) (plains chip n w)) (refusedCall n w)
+    by-test true e = run-by-plain n w (fit-call n w (eqb-true (refusalIn n w) 0 e) h)
+    by-test false e = refl
+
+module _ (s : State) (n : ℕ) (memory clocks codes times words : List ℕ) (good : refusalIn n (worldOf (begin s) memory clocks codes times words) ≡ 0) where
+  abbrev start : World
+  start = worldOf (begin s) memory clocks codes times words
+
+  -- a call that is not refused may leap
+  pub leaping-begins : Leaping (begin s) n clocks codes times words
+  leaping-begins =
+      let a = accepted s (length memory) clocks codes (length times) (length words) n good in
+      record { clock = a .clock; read = omega arith; inputs = a .inputs; outputs = a .outputs; written = omega arith }
+
+  -- and hands back what its leaps leave
+  pub runs : (l : Leaped) (memory' times' words' : List ℕ)
+      → runEnded l memory' clocks codes times' words' ≡ runFrom (beginRun s n) memory clocks codes times words
+      → handed (toldOf (l .leaps) (l .progress)) memory' times' words' ≡ runOf n start
+  unfolding runOf
+  runs l memory' times' words' e = rw (eq-eqb (refusalIn n start) 0 good) (ap handedRun e ∙ ap (λ k. handedBack k (run chip n start .world)) (zero-add (run chip n start .leaps)))
