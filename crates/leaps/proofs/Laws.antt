@@ -1,15 +1,14 @@
 -- A run of n clocks is n plain clocks, and its leaps are as many as document 01 says, of every machine that keeps the laws below.
 use mathlib.Core.Path.{_≡_, refl, sym, ap, ap₂, _∙_, subst}
-use mathlib.Core.Bool.{Bool, true, false, cond, _&&_, not, false≢true}
+use mathlib.Core.Bool.{Bool, true, false, cond, _&&_, false≢true}
 use mathlib.Core.List.{List, [], _∷_}
 use Prim.Native.Nat.{ℕ, zero, suc, _+_, _-_, _<_, _≤_, min}
 use native.Mathlib.Nat.{zero-add, add-zero, suc-add}
 use native.Mathlib.Omega.{arith}
 use lib.Dec.{ltb}
 use borrow.Author.Tests.{ltb-true, ltb-false, lt-ltb, le-ltb}
-use Rattle.words.specs.Bits.{digit}
 use Rattle.words.proofs.Cond.{and-left, and-right, digit-not}
-use Rattle.leaps.specs.Leaps.{System, Run, eventsIn, quietEnd, plains, leapOf, movedOf, leftAfter, leapsOf, run, trail, leapCount}
+use Rattle.leaps.specs.Leaps.{System, eventsIn, quietEnd, plains, leapOf, movedOf, leftAfter, leapsOf, run, trail, leapCount}
 
 -- what is asked of a machine
 pub record Lawful {W : Type 0} (S : System W) : Type 0 where
