@@ -2,21 +2,20 @@
 use mathlib.Core.Path.{_≡_, refl, sym, ap, _∙_}
 use mathlib.Core.Bool.{Bool, true, false, _&&_, _||_, not, cond, false≢true}
 use mathlib.Core.List.{List, [], _∷_}
-use Prim.Native.Nat.{ℕ, zero, suc, _+_, _-_, _<_, _≤_, min}
-use native.Mathlib.Nat.{not-suc-le-zero}
+use Prim.Native.Nat.{ℕ, suc, _+_, _-_, _<_, _≤_, min}
 use native.Mathlib.Omega.{arith}
 use lib.Dec.{eqb}
 use lib.ListN.{take}
-use borrow.Author.Tests.{eqb-true, eqb-false, ne-eqb, not-false}
+use borrow.Author.Tests.{eqb-false, ne-eqb, not-false}
 use Rattle.words.proofs.Cond.{cond-both}
 use Rattle.counters.specs.Counters.{passA, passB}
 use Rattle.chip.specs.declared.state.State.{State}
-use Rattle.chip.specs.Pins.{drivenWord, levelsOf}
+use Rattle.chip.specs.Pins.{levelsOf}
 use Rattle.clock.specs.Ready.{readyOf}
 use Rattle.processor.specs.Processor.{processorOf, quietly}
 use Rattle.refusals.specs.PinLists.{pinsRight, dueCount}
 use Rattle.refusals.proofs.PinLists.{right-above}
-use Rattle.gaps.specs.Events.{hasInput, sameLevels, levelsChange, isReset, resetChanges, eventOf, eventTests}
+use Rattle.gaps.specs.Events.{hasInput, sameLevels, levelsChange, isReset, resetChanges, eventOf}
 use Rattle.gaps.specs.Gaps.{clocksOf, runningA, runningB, toInput, toChange, toUnderflowA, toUnderflowB, toReset, toStart, gapOf, waitAfter, passOf}
 use Rattle.gaps.proofs.Same.{same-levels, levels-same}
 use Rattle.gaps.proofs.Quiet.{Quiet, no-both, both-no, clock-quiet, quiet-event, event-quiet}

@@ -1,6 +1,7 @@
 pub mod Inputs
 pub mod Same
 pub mod Steps
+pub mod Counted
 pub mod Quiet
 pub mod Passing
 pub mod Gaps

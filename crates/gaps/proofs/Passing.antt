@@ -1,22 +1,22 @@
 -- Gaps passed add up, and what a gap passed leaves as it was.
-use mathlib.Core.Path.{_≡_, refl, ap, _∙_}
-use mathlib.Core.Bool.{Bool, true, false, _&&_, not, cond}
-use Prim.Native.Nat.{ℕ, _+_, _-_, _/_, _%_, _≤_}
+use mathlib.Core.Path.{_≡_, refl}
+use mathlib.Core.Bool.{Bool, true, false}
+use Prim.Native.Nat.{ℕ, _+_, _-_, _/_, _%_}
 use native.Mathlib.Nat.{add-zero, add-assoc}
 use native.Mathlib.Omega.{arith}
 use lib.Dec.{leb, eqb}
 use borrow.Author.Tests.{leb-true, le-leb}
-use Rattle.words.proofs.Cond.{and-left, and-right, and-both, cond-both}
+use Rattle.words.proofs.Cond.{and-left, and-right, and-both}
 use Rattle.counters.specs.declared.a.CounterA.{CounterA}
 use Rattle.counters.specs.declared.b.CounterB.{CounterB}
 use Rattle.counters.specs.Counters.{passA, passB}
 use Rattle.counters.proofs.Gaps.{pass-add-a, pass-add-b}
 use Rattle.chip.specs.declared.state.State.{State}
-use Rattle.chip.specs.State.{cpuFits, peripheralsFit, wellFormed}
+use Rattle.chip.specs.State.{wellFormed}
 use Rattle.chip.specs.Pins.{driveA, driveD, drivenWord, levelsOf}
 use Rattle.chip.proofs.Ranges.{formed, formed-cpu, formed-peripherals}
 use Rattle.gaps.specs.Events.{levelsChange, isReset, resetChanges}
-use Rattle.gaps.specs.Gaps.{clocksOf, runningA, runningB, waitAfter, passOf}
+use Rattle.gaps.specs.Gaps.{clocksOf, waitAfter, passOf}
 
 -- "clock plus gap"
 pub pass-clock : (s : State) (g : ℕ) → passOf s (clocksOf g) .clock ≡ s .clock + g

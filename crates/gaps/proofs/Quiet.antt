@@ -2,29 +2,27 @@
 use mathlib.Core.Path.{_≡_, refl, sym, ap, _∙_}
 use mathlib.Core.Bool.{Bool, true, false, _&&_, _||_, not, cond, false≢true}
 use mathlib.Core.List.{List, [], _∷_}
-use Prim.Native.Nat.{ℕ, zero, suc, _+_, _-_, _<_, _≤_}
+use Prim.Native.Nat.{ℕ, zero, suc, _+_, _<_}
 use native.Mathlib.Omega.{arith}
 use lib.Dec.{ltb, eqb}
 use lib.ListN.{getD}
-use borrow.Author.Tests.{eqb-true, eqb-false, eq-eqb, ne-eqb, le-ltb, lt-ltb, not-true, not-false}
+use borrow.Author.Tests.{eqb-true, eqb-false, ne-eqb, le-ltb, lt-ltb, not-false}
 use Rattle.words.specs.Bits.{bit, setWhere, flipWhere}
 use Rattle.words.specs.Lists.{anyOf}
 use Rattle.counters.specs.declared.a.CounterA.{CounterA}
 use Rattle.counters.specs.declared.b.CounterB.{CounterB}
-use Rattle.counters.specs.declared.time.Ticks.{Ticks}
 use Rattle.counters.specs.Counters.{clockA, countsA, downA, runsA, clockB, downB, runsB, passA, passB, ticksOf}
 use Rattle.counters.proofs.Gaps.{clock-passes-a, clock-passes-b}
 use Rattle.serial.specs.Transmitter.{transmitterClock}
 use Rattle.serial.specs.Receiver.{receiverClock}
 use Rattle.chip.specs.declared.state.Peripherals.{Peripherals}
-use Rattle.chip.specs.declared.state.Levels.{Levels}
 use Rattle.chip.specs.declared.state.State.{State}
 use Rattle.chip.specs.State.{withCounterA, withCounterB}
-use Rattle.chip.specs.Pins.{driveA, driveD, drivenWord, levelsOf, rose, fell, edges, noticed, resetOf, settled, sensed}
+use Rattle.chip.specs.Pins.{levelsOf, rose, fell, edges, noticed, resetOf, settled, sensed}
 use Rattle.chip.specs.Registers.{modeA, modeB}
-use Rattle.clock.specs.Ready.{withInputs, begun, countedA, countedB, sentBy, heardBy, worked, workedState, readyOf}
-use Rattle.processor.specs.Processor.{processorOf, quietly, startOf}
-use Rattle.gaps.specs.Events.{hasInput, sameLevels, levelsChange, underflowsA, underflowsB, isReset, portsFresh, controlFresh, transmitterIdle, receiverIdle, resetChanges, cpuStarts, eventTests, eventOf}
+use Rattle.clock.specs.Ready.{withInputs, begun, countedA, countedB, sentBy, heardBy, worked, readyOf}
+use Rattle.processor.specs.Processor.{processorOf, quietly}
+use Rattle.gaps.specs.Events.{hasInput, levelsChange, underflowsA, underflowsB, isReset, resetChanges, cpuStarts, eventTests, eventOf}
 use Rattle.gaps.specs.Gaps.{clocksOf, runningA, runningB, waitAfter, passCounters, passOf}
 use Rattle.gaps.proofs.Same.{same-levels, levels-same, reset-same}
 

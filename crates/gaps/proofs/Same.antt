@@ -1,10 +1,9 @@
 -- Levels that are found the same are the same, and RES low changes no field of a state just where the tests say so.
 use mathlib.Core.Path.{_≡_, refl, sym, ap}
 use mathlib.Core.Bool.{Bool, true, false, _&&_, not, Bool·beq}
-use Prim.Native.Nat.{ℕ}
-use lib.Dec.{eqb, T}
+use lib.Dec.{eqb}
 use borrow.Author.Tests.{eqb-true, eq-eqb, not-true}
-use Rattle.words.proofs.Cond.{and-left, and-right, and-both}
+use Rattle.words.proofs.Cond.{and-left, and-right}
 use Rattle.serial.specs.declared.transmitter.Transmitter.{Transmitter}
 use Rattle.serial.specs.declared.receiver.Receiver.{Receiver}
 use Rattle.serial.specs.Transmitter.{idleTransmitter}

@@ -1,6 +1,6 @@
 -- Document 01, "Run and leaps": "An event clock is one with an input, with pin levels unlike the last ones, with an underflow, where
 -- RES low changes any field, or where the CPU starts."
-use mathlib.Core.Bool.{Bool, true, false, _&&_, not, cond, Bool·beq}
+use mathlib.Core.Bool.{Bool, true, false, _&&_, not, Bool·beq}
 use mathlib.Core.List.{List, [], _∷_}
 use Prim.Native.Nat.{ℕ}
 use lib.Dec.{eqb}

@@ -1,15 +1,14 @@
 -- A run of n clocks is n plain clocks, and its leaps are as many as document 01 says, of every machine that keeps the laws below.
 use mathlib.Core.Path.{_≡_, refl, sym, ap, ap₂, _∙_, subst}
-use mathlib.Core.Bool.{Bool, true, false, cond, _&&_, not, false≢true}
+use mathlib.Core.Bool.{Bool, true, false, cond, _&&_, false≢true}
 use mathlib.Core.List.{List, [], _∷_}
 use Prim.Native.Nat.{ℕ, zero, suc, _+_, _-_, _<_, _≤_, min}
-use native.Mathlib.Nat.{zero-add, suc-add}
+use native.Mathlib.Nat.{zero-add, add-zero, suc-add}
 use native.Mathlib.Omega.{arith}
 use lib.Dec.{ltb}
 use borrow.Author.Tests.{ltb-true, ltb-false, lt-ltb, le-ltb}
-use Rattle.words.specs.Bits.{digit}
-use Rattle.words.proofs.Cond.{and-left, and-right}
-use Rattle.leaps.specs.Leaps.{System, Run, eventsIn, quietEnd, plains, leapOf, movedOf, leftAfter, leapsOf, run, trail, leapCount}
+use Rattle.words.proofs.Cond.{and-left, and-right, digit-not}
+use Rattle.leaps.specs.Leaps.{System, eventsIn, quietEnd, plains, leapOf, movedOf, leftAfter, leapsOf, run, trail, leapCount}
 
 -- what is asked of a machine
 pub record Lawful {W : Type 0} (S : System W) : Type 0 where
@@ -73,6 +72,10 @@ module _ {W : Type 0} (S : System W) (L : Lawful S) where
   unfolding plains
   plains-add zero n w = rw zero-add
   plains-add (suc m) n w = rw suc-add (plains-add m n (S .plain w))
+
+  plains-one : (w : W) → plains S 1 w ≡ S .plain w
+  unfolding plains
+  plains-one w = refl
 
   plains-none : (n : ℕ) (w : W) → n ≡ 0 → plains S n w ≡ w
   unfolding plains
@@ -173,6 +176,26 @@ module _ {W : Type 0} (S : System W) (L : Lawful S) where
   unfolding run
   run-over n w e = leaps-over n n w e
 
+  moved-later : (w v : W) → S .clock w < S .clock v → movedOf S w v ≡ 1
+  unfolding movedOf
+  moved-later w v h = rw (lt-ltb (S .clock w) (S .clock v) h)
+
+  moved-by : (g : ℕ) (w v : W) → S .clock v ≡ S .clock w + g → movedOf S w v ≡ min 1 g
+  unfolding movedOf
+  moved-by zero w v e = rw (le-ltb (S .clock w) (S .clock v) (omega arith)) (omega arith)
+  moved-by (suc g) w v e = rw (lt-ltb (S .clock w) (S .clock v) (omega arith)) (omega arith)
+
+  -- a run of one clock is one plain clock, and one leap where it moved
+  pub run-one : (w : W) → run S 1 w ≡ record { world = S .plain w; leaps = movedOf S w (S .plain w) }
+  run-one w = still (S .running w) refl
+    where
+      still : (b : Bool) → S .running w ≡ b → run S 1 w ≡ record { world = S .plain w; leaps = movedOf S w (S .plain w) }
+      still true z =
+          let leap : leapOf S 1 w ≡ S .plain w = leap-plain 1 w z ∙ ap (λ (n : ℕ). plains S n w) (omega arith) ∙ plains-one w in
+          let none : leftAfter S 1 w ≡ 0 = omega arith in
+          run-leap 1 w (omega arith) z ∙ rw (leap, none, run-over 0 (S .plain w) refl, add-zero)
+      still false z = run-over 1 w (rw z) ∙ rw (L .stopped-plain w z, moved-by 0 w w (omega arith))
+
   -- ---- the count of leaps
 
   trail-done : (n : ℕ) (w : W) → S .done w ≡ true → trail S (suc n) w ≡ S .event w ∷ trail S n (S .plain w)
@@ -198,15 +221,6 @@ module _ {W : Type 0} (S : System W) (L : Lawful S) where
       rw suc-add
       (trail-done (g + m) w (L .quiet-done n w z (omega arith))
       ∙ ap₂ (λ (c : Bool) (l : List Bool). c ∷ l) (L .quiet-event n w (omega arith)) r)
-
-  moved-later : (w v : W) → S .clock w < S .clock v → movedOf S w v ≡ 1
-  unfolding movedOf
-  moved-later w v h = rw (lt-ltb (S .clock w) (S .clock v) h)
-
-  moved-by : (g : ℕ) (w v : W) → S .clock v ≡ S .clock w + g → movedOf S w v ≡ min 1 g
-  unfolding movedOf
-  moved-by zero w v e = rw (le-ltb (S .clock w) (S .clock v) (omega arith)) (omega arith)
-  moved-by (suc g) w v e = rw (lt-ltb (S .clock w) (S .clock v) (omega arith)) (omega arith)
 
   -- a leap of gap g to `v` that reaches its event clock, after which m clocks are left
   count-reached : (g m : ℕ) (w v : W) → trail S (g + suc m) w ≡ quiets g (trail S (suc m) v) → S .event v ≡ true
@@ -244,6 +258,17 @@ module _ {W : Type 0} (S : System W) (L : Lawful S) where
       still : (b : Bool) → S .running w ≡ b → leapCount S n w ≡ 0
       still true z = count-none n w (none-left n (S .running w) e z)
       still false z = count-stopped n w z
+
+  -- one clock, whatever the gap says
+  pub count-one : (w : W) → leapCount S 1 w ≡ movedOf S w (S .plain w)
+  unfolding leapCount trail eventsIn quietEnd
+  count-one w = ends (S .done w) refl
+    where
+      ends : (b : Bool) → S .done w ≡ b → leapCount S 1 w ≡ movedOf S w (S .plain w)
+      ends true d =
+          let h = L .done-clock w d in
+          rw (moved-later w (S .plain w) (omega arith), d, trail) (omega (arith, digit-not (S .event w)))
+      ends false d = rw (moved-by 0 w (S .plain w) (L .undone-clock w d ∙ omega arith), d, trail) (omega arith)
 
   -- What is owed besides, of the worlds that a run meets: with a clock left and no gap, the next clock is an event clock.
   module _ (Inv : W → Type 0) (kept : (w : W) → Inv w → Inv (S .plain w))
