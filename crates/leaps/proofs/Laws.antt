@@ -198,11 +198,11 @@ module _ {W : Type 0} (S : System W) (L : Lawful S) where
 
   -- ---- the count of leaps
 
-  trail-done : (n : ℕ) (w : W) → S .done w ≡ true → trail S (suc n) w ≡ S .event w ∷ trail S n (S .plain w)
+  pub trail-done : (n : ℕ) (w : W) → S .done w ≡ true → trail S (suc n) w ≡ S .event w ∷ trail S n (S .plain w)
   unfolding trail
   trail-done n w e = rw (e, trail)
 
-  trail-undone : (n : ℕ) (w : W) → S .done w ≡ false → trail S n w ≡ []
+  pub trail-undone : (n : ℕ) (w : W) → S .done w ≡ false → trail S n w ≡ []
   unfolding trail
   trail-undone zero w e = refl
   trail-undone (suc n) w e = rw (e, trail)

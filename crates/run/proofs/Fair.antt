@@ -62,9 +62,13 @@ refusal-no-stop : (w : World) (n : ℕ) → Fit w → stopOf (refusalIn n w) ≡
 unfolding stopOf
 refusal-no-stop w n f = rw (fits-clock w n f) (by-test (ltb lastClock (w .state .clock + n)))
   where
-    by-test : (t : Bool) → cond (ltb 5 (cond t 4 0)) (cond t 4 0) 0 ≡ 0
+    by-test : (t : Bool) → _≡_ {A = ℕ} (cond (ltb 5 (cond t 4 0)) (cond t 4 0) 0) 0
     by-test true = refl
     by-test false = refl
+
+zero-goes-on : stopOf 0 ≡ 0
+unfolding stopOf
+zero-goes-on = refl
 
 -- ---- one call
 
@@ -97,7 +101,7 @@ module _ (w : World) (f : Fit w) (n : ℕ) where
       rw (clocks, codes, plains-stop n (lentOf w) (no-stop on)) whole-end
     where
       no-stop : w .stop ≡ 0 → stopOf (w .stop) ≡ w .stop
-      no-stop e = ap stopOf e ∙ (unfold stopOf in refl) ∙ sym e
+      no-stop e = ap stopOf e ∙ zero-goes-on ∙ sym e
 
   -- and tells
   done-told : handedBack (leapCount chip n (lentOf w)) end .told ≡ toldBy (leapCount chip n w) w (plains chip n w)

@@ -5,12 +5,13 @@ use mathlib.Core.List.{List, []}
 use Prim.Native.Nat.{ℕ, _+_, _-_, _≤_, _<_}
 use native.Mathlib.Nat.{add-zero}
 use native.Mathlib.Omega.{arith}
-use lib.Dec.{ltb, eqb, eqb-refl}
+use lib.Dec.{ltb, eqb}
 use lib.ListN.{length, take, drop}
 use borrow.Author.Tests.{eqb-true, eq-eqb, lt-ltb, le-ltb}
 use Rattle.words.proofs.Cond.{cond-both}
 use Rattle.chip.specs.declared.state.State.{State}
 use Rattle.chip.specs.Pins.{drivenWord}
+use Rattle.bus.specs.Stack.{noWrites}
 use Rattle.clock.specs.Ready.{readyOf}
 use Rattle.processor.specs.declared.Next.{Next}
 use Rattle.processor.specs.declared.Processed.{Processed}
@@ -28,31 +29,35 @@ use Rattle.gaps.proofs.Gaps.{gap-le, gap-no-input, gap-clock, gap-no-event, gap
 use Rattle.machine.specs.declared.outcome.Ended.{Ended}
 use Rattle.machine.specs.declared.outcome.Clocked.{Clocked}
 use Rattle.machine.specs.declared.outcome.Clocked.the-variants.{Stopped, Done}
-use Rattle.machine.specs.Outcome.{endedWith, finished, recorded, clockOf, putByte, committed}
+use Rattle.machine.specs.Outcome.{undefinedStop, fullStop, endedWith, finished, recorded, clockOf, putByte, committed}
 use Rattle.machine.specs.World.{World, stoppedAt, movedTo, putRecord, after, dueIn, outcomeIn, plain}
 use Rattle.machine.specs.Fit.{Fit}
 use Rattle.machine.proofs.Kept.{done-clock, plain-fits}
 use Rattle.run.specs.System.{runningIn, isDone, doneIn, eventIn, passIn, chip}
 
--- the number of a stop is not 0
-stop-number : (s : State) (codes memory : List ℕ) (free : Bool) (number : ℕ) → clockOf s codes memory free ≡ Stopped number → eqb number 0 ≡ false
+-- what holds of 6 and of 7 holds of the number of a stop
+pub stop-either : (P : ℕ → Type 0) → P undefinedStop → P fullStop → (s : State) (codes memory : List ℕ) (free : Bool) (number : ℕ)
+    → clockOf s codes memory free ≡ Stopped number → P number
 unfolding clockOf finished
-stop-number s codes memory free number e = by-processed (processorOf (readyOf s codes) memory) e
+stop-either P six seven s codes memory free number e = by-processed (processorOf (readyOf s codes) memory) e
   where
     Stops : Clocked → Type 0
-    Stops (Stopped k) = eqb k 0 ≡ false
+    Stops (Stopped k) = P k
     Stops (Done d) = Unit {0}
 
-    by-full : (t : Bool) (d : Ended) → Stops (cond t (Stopped 7) (Done d))
-    by-full true d = refl
+    by-full : (t : Bool) (d : Ended) → Stops (cond t (Stopped fullStop) (Done d))
+    by-full true d = seven
     by-full false d = tt
 
-    by-stop : (x : Clocked) → Stops x → x ≡ Stopped number → eqb number 0 ≡ false
+    by-stop : (x : Clocked) → Stops x → x ≡ Stopped number → P number
     by-stop x h q = rw q at h
 
-    by-processed : (x : Processed) → recorded (drivenWord (s .peripherals)) free x ≡ Stopped number → eqb number 0 ≡ false
-    by-processed processed.Undefined q = by-stop (Stopped 6) refl q
-    by-processed (processed.Done next) q = by-stop _ (by-full _ _) q
+    by-processed : (x : Processed) → recorded (drivenWord (s .peripherals)) free x ≡ Stopped number → P number
+    by-processed processed.Undefined q = by-stop (Stopped undefinedStop) six q
+    by-processed (processed.Done next) q =
+        let word = drivenWord (next .state .peripherals) in
+        let differs = not (eqb word (drivenWord (s .peripherals))) in
+        by-stop (cond (differs && not free) (Stopped fullStop) (Done (endedWith next word differs))) (by-full (differs && not free) (endedWith next word differs)) q
 
 module _ (w : World) where
   -- a clock where nothing has stopped
@@ -89,7 +94,7 @@ module _ (w : World) where
     where
       by-outcome : (o : Clocked) → outcomeIn w (dueIn w) ≡ o → isDone o ≡ false
           → (after w (dueIn w) o .state .clock ≡ w .state .clock) × (runningIn (after w (dueIn w) o) ≡ false)
-      by-outcome (Stopped number) e z = (refl, stop-number (w .state) _ (w .memory) _ number e)
+      by-outcome (Stopped number) e z = (refl, stop-either (λ k. eqb k 0 ≡ false) refl refl (w .state) _ (w .memory) _ number e)
       by-outcome (Done end) e z = absurd (false≢true (sym z))
 
       by-running : (r : Bool) → runningIn w ≡ r → (plain w .state .clock ≡ w .state .clock) × (runningIn (plain w) ≡ false)
@@ -98,10 +103,10 @@ module _ (w : World) where
 
   -- a clock of a gap
   module _ (n : ℕ) (inside : 0 < gapOf n (w .state) (w .clocks) .0) where
-    gap-outcome : outcomeIn w 0 ≡ Done (endedWith (record { state = passOf (w .state) (clocksOf 1); writes = _ }) (drivenWord (w .state .peripherals)) false)
+    gap-outcome : outcomeIn w 0 ≡ Done (endedWith (record { state = passOf (w .state) (clocksOf 1); writes = noWrites }) (drivenWord (w .state .peripherals)) false)
     unfolding clockOf finished
     gap-outcome =
-        rw (gap-clock n (w .state) (w .clocks) inside (w .memory), pass-driven (w .state) 1, eqb-refl (drivenWord (w .state .peripherals)))
+        rw (gap-clock n (w .state) (w .clocks) inside (w .memory), pass-driven (w .state) 1, eq-eqb (drivenWord (w .state .peripherals)) (drivenWord (w .state .peripherals)) refl)
 
     quiet-plain : runningIn w ≡ true → plain w ≡ passIn 1 w
     unfolding committed putByte putRecord

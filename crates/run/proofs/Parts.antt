@@ -16,7 +16,9 @@ use Rattle.machine.specs.declared.outcome.Clocked.{Clocked}
 use Rattle.machine.specs.declared.outcome.Clocked.the-variants.{Stopped, Done}
 use Rattle.machine.specs.World.{World, stoppedAt, movedTo, putRecord, after, dueIn, outcomeIn, plain}
 use Rattle.run.specs.System.{runningIn, isDone, doneIn, eventIn, chip}
+use Rattle.leaps.proofs.Laws.{trail-done, trail-undone}
 use Rattle.run.specs.Lists.{lentOf}
+use Rattle.run.proofs.Laws.{lawful}
 
 -- the whole of which `v` is the part that a call was lent of `w`: the records already written stand before its own
 abbrev pub wholeOf : World → World → World
@@ -106,7 +108,15 @@ lent-whole w = rw (take-append-drop (w .written) (w .times), take-append-drop (w
 trail-whole : (n : ℕ) (w v : World) → Room w → trail chip n (wholeOf w v) ≡ trail chip n v
 unfolding trail eventIn
 trail-whole zero w v room = refl
-trail-whole (suc n) w v room = rw (done-whole w v room, plain-whole w v room, trail-whole n w (plain v) room)
+trail-whole (suc n) w v room = by-done (doneIn v) refl (trail-whole n w (plain v) room)
+  where
+    by-done : (d : Bool) → doneIn v ≡ d → trail chip n (wholeOf w (plain v)) ≡ trail chip n (plain v)
+        → trail chip (suc n) (wholeOf w v) ≡ trail chip (suc n) v
+    by-done true e later =
+        trail-done chip lawful n (wholeOf w v) (done-whole w v room ∙ e)
+        ∙ ap {B = List Bool} (λ l. eventIn v ∷ l) (ap (trail chip n) (plain-whole w v room) ∙ later)
+        ∙ sym (trail-done chip lawful n v e)
+    by-done false e later = trail-undone chip lawful (suc n) (wholeOf w v) (done-whole w v room ∙ e) ∙ sym (trail-undone chip lawful (suc n) v e)
 
 pub count-whole : (n : ℕ) (w v : World) → Room w → leapCount chip n (wholeOf w v) ≡ leapCount chip n v
 unfolding leapCount

@@ -8,20 +8,13 @@ use lib.Dec.{ltb, eqb}
 use lib.ListN.{drop}
 use lib.Seq.{drop-drop}
 use Rattle.words.proofs.Cond.{cond-both}
-use Rattle.chip.specs.declared.state.State.{State}
-use Rattle.chip.specs.Pins.{drivenWord}
-use Rattle.clock.specs.Ready.{readyOf}
-use Rattle.processor.specs.declared.Processed.{Processed}
-use Rattle.processor.specs.declared.Processed.the-variants as processed
-use Rattle.processor.specs.Processor.{processorOf}
 use Rattle.leaps.specs.Leaps.{plains}
-use Rattle.machine.specs.declared.outcome.Ended.{Ended}
 use Rattle.machine.specs.declared.outcome.Clocked.{Clocked}
 use Rattle.machine.specs.declared.outcome.Clocked.the-variants.{Stopped, Done}
-use Rattle.machine.specs.Outcome.{finished, recorded, clockOf}
 use Rattle.machine.specs.World.{World, after, dueIn, outcomeIn, plain}
 use Rattle.run.specs.System.{chip}
 use Rattle.run.specs.Lists.{stopOf}
+use Rattle.run.proofs.Laws.{stop-either}
 
 -- from `u` to `v` some inputs were read
 pub record Rest (u v : World) : Type 0 where
@@ -54,32 +47,12 @@ unfolding plains
 plains-rest zero u = none-read u
 plains-rest (suc n) u = more-read u (plain u) (plains chip n (plain u)) (plain-rest u) (plains-rest n (plain u))
 
--- a stop is a number that ends the list
-stop-ends : (s : State) (codes memory : List ℕ) (free : Bool) (number : ℕ) → clockOf s codes memory free ≡ Stopped number → stopOf number ≡ number
-unfolding clockOf finished stopOf
-stop-ends s codes memory free number e = by-processed (processorOf (readyOf s codes) memory) e
-  where
-    Ends : Clocked → Type 0
-    Ends (Stopped k) = stopOf k ≡ k
-    Ends (Done d) = Unit {0}
-
-    by-full : (t : Bool) (d : Ended) → Ends (cond t (Stopped 7) (Done d))
-    by-full true d = refl
-    by-full false d = tt
-
-    by-stop : (x : Clocked) → Ends x → x ≡ Stopped number → stopOf number ≡ number
-    by-stop x h q = rw q at h
-
-    by-processed : (x : Processed) → recorded (drivenWord (s .peripherals)) free x ≡ Stopped number → stopOf number ≡ number
-    by-processed processed.Undefined q = by-stop (Stopped 6) refl q
-    by-processed (processed.Done next) q = by-stop _ (by-full _ _) q
-
 plain-stop : (w : World) → stopOf (w .stop) ≡ w .stop → stopOf (plain w .stop) ≡ plain w .stop
 unfolding plain stopOf
 plain-stop w h = cond-both (λ (v : World). stopOf (v .stop) ≡ v .stop) (eqb (w .stop) 0) _ w (λ _. by-outcome (outcomeIn w (dueIn w)) refl) (λ _. h)
   where
     by-outcome : (o : Clocked) → outcomeIn w (dueIn w) ≡ o → stopOf (after w (dueIn w) o .stop) ≡ after w (dueIn w) o .stop
-    by-outcome (Stopped number) e = stop-ends (w .state) _ (w .memory) _ number e
+    by-outcome (Stopped number) e = stop-either (λ k. stopOf k ≡ k) refl refl (w .state) _ (w .memory) _ number e
     by-outcome (Done d) e = refl
 
 pub plains-stop : (n : ℕ) (w : World) → stopOf (w .stop) ≡ w .stop → stopOf (plains chip n w .stop) ≡ plains chip n w .stop

@@ -7,8 +7,9 @@ use native.Mathlib.Nat.{zero-add, add-assoc}
 use native.Mathlib.Omega.{arith}
 use lib.Dec.{ltb, eqb}
 use lib.ListN.{length, drop, length-drop}
-use borrow.Author.Tests.{ltb-true, ltb-false, eq-eqb, eqb-true}
-use Rattle.words.proofs.Cond.{cond-both}
+use borrow.Author.Tests.{ltb-true, ltb-false, lt-ltb, le-ltb, eq-eqb, eqb-true}
+use Rattle.words.proofs.Cond.{cond-both, digit-le, and-left, and-right}
+use Rattle.counters.specs.declared.time.Clocks.{Clocks}
 use Rattle.chip.specs.declared.state.State.{State}
 use Rattle.refusals.specs.Refusals.{lastClock}
 use Rattle.refusals.proofs.Accepted.{accepted}
@@ -18,14 +19,14 @@ use Rattle.gaps.specs.Gaps.{clocksOf, gapOf, passOf}
 use Rattle.gaps.proofs.Gaps.{gap-le}
 use Rattle.gaps.proofs.Passing.{pass-clock}
 use Rattle.machine.specs.declared.Progress.{Progress}
-use Rattle.machine.specs.World.{World, worldOf, plain}
+use Rattle.machine.specs.World.{World, worldOf, plain, Going}
 use Rattle.machine.specs.Calls.{Handed, handed, begin, toldOf, leapsFrom, handedBack, refusalIn}
 use Rattle.machine.specs.Fit.{Fit}
 use Rattle.machine.proofs.Kept.{Advanced, plain-advances, plain-fits}
 use Rattle.run.specs.declared.Leaped.{Leaped}
 use Rattle.run.specs.System.{runningIn, passIn, chip}
 use Rattle.run.specs.Run.{handedRun, refusedCall, runOf, plainRunOf}
-use Rattle.run.specs.Leap.{goesOn, runFrom, runEnded, beginRun, Leaping}
+use Rattle.run.specs.Leap.{passedBy, goesOn, runFrom, runEnded, beginRun, Leaping}
 use Rattle.run.proofs.Laws.{lawful, no-gap-event}
 
 -- the gap of a world
@@ -134,3 +135,74 @@ module _ (s : State) (n : ℕ) (memory clocks codes times words : List ℕ) (goo
       → handed (toldOf (l .leaps) (l .progress)) memory' times' words' ≡ runOf n start
   unfolding runOf
   runs l memory' times' words' e = rw (eq-eqb (refusalIn n start) 0 good) (ap handedRun e ∙ ap (λ k. handedBack k (run chip n start .world)) (zero-add (run chip n start .leaps)))
+
+-- ---- the code's parts
+
+-- a gap leaves the clock within its width
+pub gap-fits : (p : Progress) (n : ℕ) (clocks codes times words : List ℕ) (gap : Clocks) → Leaping p n clocks codes times words
+    → gap ≡ gapOf n (p .state) (drop (p .read) clocks) → p .state .clock + gap .0 ≤ lastClock
+gap-fits p n clocks codes times words gap l e =
+    let same : gap .0 ≡ gapOf n (p .state) (drop (p .read) clocks) .0 = ap (λ (g : Clocks). g .0) e in
+    omega (arith, l .clock, gap-le n (p .state) (drop (p .read) clocks))
+
+-- an event clock that is reached may be done
+pub passed-goes : (p : Progress) (n : ℕ) (clocks codes times words : List ℕ) (gap : Clocks) → Leaping p n clocks codes times words
+    → p .stop ≡ 0 → gap .0 < n → Going (passedBy gap p) clocks codes times words
+passed-goes p n clocks codes times words gap l on h = record {
+  clock = omega (arith, l .clock, pass-clock (p .state) (gap .0));
+  read = l .read;
+  inputs = l .inputs;
+  outputs = l .outputs;
+  written = l .written;
+  stop = on;
+}
+
+-- a leap that reaches its event clock, and one that ends before
+pub leap-reaches : (n : ℕ) (w : World) (gap : Clocks) → gap ≡ gapOf n (w .state) (w .clocks) → gap .0 < n → plain (passIn (gap .0) w) ≡ leapOf chip n w
+unfolding leapOf
+leap-reaches n w gap e h = rw (← e, lt-ltb (gap .0) n h)
+
+pub leap-falls-short : (n : ℕ) (w : World) (gap : Clocks) → gap ≡ gapOf n (w .state) (w .clocks) → n ≤ gap .0 → passIn (gap .0) w ≡ leapOf chip n w
+unfolding leapOf
+leap-falls-short n w gap e h = rw (← e, le-ltb (gap .0) n h)
+
+-- a leap more of a run
+module _ (memory clocks codes times words memory' times' words' : List ℕ) (at : Leaped) (q : Progress) (gap : Clocks)
+         (l : Leaping (at .progress) (at .left .0) clocks codes times words) (some : 0 < at .left .0) (on : at .progress .stop ≡ 0)
+         (bound : at .leaps + at .left .0 ≤ lastClock)
+         (g : gap ≡ gapOf (at .left .0) (at .progress .state) (drop (at .progress .read) clocks))
+         (e : worldOf q memory' clocks codes times' words' ≡ leapOf chip (at .left .0) (worldOf (at .progress) memory clocks codes times words)) where
+  abbrev later : Leaped
+  later = record {
+    progress = q;
+    left = clocksOf (at .left .0 - (gap .0 + 1));
+    leaps = at .leaps + leapsFrom (at .progress .state .clock) (q .state .clock);
+  }
+
+  pub later-run : runFrom later memory' clocks codes times' words' ≡ runFrom at memory clocks codes times words
+  later-run =
+      rw g (leap-run (at .left .0) (at .leaps) (worldOf (at .progress) memory clocks codes times words) (worldOf q memory' clocks codes times' words') some
+      (eq-eqb (at .progress .stop) 0 on) e)
+
+  pub later-leaping : Leaping q (later .left .0) clocks codes times' words'
+  later-leaping = rw g (leaping-on memory clocks codes times words memory' times' words' (at .progress) q (at .left .0) l e)
+
+  pub later-bound : (later .leaps + later .left .0 ≤ lastClock) × (later .left .0 < at .left .0)
+  later-bound = (omega (arith, digit-le (ltb (at .progress .state .clock) (q .state .clock))), omega arith)
+
+-- clocks are left and nothing has stopped
+pub goes-some : (l : Leaped) → goesOn l ≡ true → 0 < l .left .0
+goes-some l e = ltb-true 0 (l .left .0) (and-left (ltb 0 (l .left .0)) (eqb (l .progress .stop) 0) e)
+
+pub goes-unstopped : (l : Leaped) → goesOn l ≡ true → l .progress .stop ≡ 0
+goes-unstopped l e = eqb-true (l .progress .stop) 0 (and-right (ltb 0 (l .left .0)) (eqb (l .progress .stop) 0) e)
+
+-- what the loop keeps: the run of what is left is that of the start
+module _ (start : Leaped) (memory₀ clocks codes times₀ words₀ : List ℕ) where
+  pub record Running (memory times words : List ℕ) (at : Leaped) : Type 0 where
+    pub run : runFrom at memory clocks codes times words ≡ runFrom start memory₀ clocks codes times₀ words₀
+    pub leaping : Leaping (at .progress) (at .left .0) clocks codes times words
+    pub bound : at .leaps + at .left .0 ≤ lastClock
+    pub memory-kept : length memory ≡ length memory₀
+    pub times-kept : length times ≡ length times₀
+    pub words-kept : length words ≡ length words₀
