@@ -109,7 +109,7 @@ module _ (w : World) (f : Fit w) (n : ℕ) where
       let read : w .read + end .read - w .read ≡ end .read = omega arith in
       let written : w .written + end .written - w .written ≡ end .written = omega arith in
       let leaps : leapCount chip n (lentOf w) ≡ leapCount chip n w =
-            sym (count-whole n w (lentOf w) (fit-room w f)) ∙ ap (leapCount chip n) (lent-whole w) in
+      sym (count-whole n w (lentOf w) (fit-room w f)) ∙ ap (leapCount chip n) (lent-whole w) in
       rw (← whole-end, read, written, leaps)
 
 module _ (c : Call) (w : World) (f : Fit w) where
@@ -165,7 +165,7 @@ module _ (c : Call) (cs : List Call) (w : World) where
 
   tells-done : eqb (w .stop) 0 ≡ true → eqb (refusalIn (countOf c) w) 0 ≡ true
       → tells (c ∷ cs) w
-        ≡ toldBy (leapCount chip (countOf c) w) w (plains chip (countOf c) w) ∷ tells cs (plains chip (countOf c) w)
+      ≡ toldBy (leapCount chip (countOf c) w) w (plains chip (countOf c) w) ∷ tells cs (plains chip (countOf c) w)
   unfolding tells
   tells-done e d = rw (e, tells) (rw d)
 

@@ -3,11 +3,11 @@ use mathlib.Core.Path.{_≡_, refl, sym, ap, _∙_}
 use mathlib.Core.Bool.{Bool, true, false, _&&_, cond}
 use mathlib.Core.List.{List}
 use Prim.Native.Nat.{ℕ, _+_, _-_, _≤_, _<_}
-use native.Mathlib.Nat.{zero-add, add-assoc}
+use native.Mathlib.Nat.{zero-add, add-zero, add-assoc}
 use native.Mathlib.Omega.{arith}
 use lib.Dec.{ltb, eqb}
 use lib.ListN.{length, drop, length-drop}
-use borrow.Author.Tests.{ltb-true, ltb-false, lt-ltb, le-ltb, eq-eqb, eqb-true}
+use borrow.Author.Tests.{ltb-true, ltb-false, lt-ltb, le-ltb, eq-eqb, ne-eqb, eqb-true}
 use Rattle.words.proofs.Cond.{cond-both, digit-le, and-left, and-right}
 use Rattle.counters.specs.declared.time.Clocks.{Clocks}
 use Rattle.chip.specs.declared.state.State.{State}
@@ -20,7 +20,7 @@ use Rattle.gaps.proofs.Gaps.{gap-le}
 use Rattle.gaps.proofs.Passing.{pass-clock}
 use Rattle.machine.specs.declared.Progress.{Progress}
 use Rattle.machine.specs.World.{World, worldOf, plain, Going}
-use Rattle.machine.specs.Calls.{Handed, handed, begin, toldOf, leapsFrom, handedBack, refusalIn}
+use Rattle.machine.specs.Calls.{Handed, handed, begin, refusedWith, toldOf, leapsFrom, handedBack, refusalIn}
 use Rattle.machine.specs.Fit.{Fit}
 use Rattle.machine.proofs.Kept.{Advanced, plain-advances, plain-fits}
 use Rattle.run.specs.declared.Leaped.{Leaped}
@@ -50,30 +50,30 @@ leap-goes n w =
     let passed = pass-clock (w .state) g in
     cond-both (Leapt n w) (ltb g n) (plain at) at
     (λ e. let less = ltb-true g n e in let a = plain-advances at in
-      record {
-        clock = omega (arith, a .clock);
-        read = a .read;
-        memory = a .memory;
-        times = a .times;
-        words = a .words;
-        written = a .written;
-      })
+    record {
+      clock = omega (arith, a .clock);
+      read = a .read;
+      memory = a .memory;
+      times = a .times;
+      words = a .words;
+      written = a .written;
+    })
     (λ e. let most = gap-le n (w .state) (w .clocks) in
-      record { clock = omega arith; read = omega arith; memory = refl; times = refl; words = refl; written = λ h. h })
+    record { clock = omega arith; read = omega arith; memory = refl; times = refl; words = refl; written = λ h. h })
 
 -- one leap of a run
 pub leap-run : (n leaps : ℕ) (w v : World) → 0 < n → runningIn w ≡ true → v ≡ leapOf chip n w
     → _≡_ {A = Run World}
-      (record {
-        world = run chip (n - (gapIn n w + 1)) v .world;
-        leaps = leaps + leapsFrom (w .state .clock) (v .state .clock) + run chip (n - (gapIn n w + 1)) v .leaps;
-      })
-      (record { world = run chip n w .world; leaps = leaps + run chip n w .leaps })
+    (record {
+      world = run chip (n - (gapIn n w + 1)) v .world;
+      leaps = leaps + leapsFrom (w .state .clock) (v .state .clock) + run chip (n - (gapIn n w + 1)) v .leaps;
+    })
+    (record { world = run chip n w .world; leaps = leaps + run chip n w .leaps })
 unfolding movedOf
 leap-run n leaps w v h z e = rw (run-leap chip lawful n w h z, e, add-assoc)
 
 module _ (memory clocks codes times words memory' times' words' : List ℕ) (p q : Progress) (n : ℕ) (l : Leaping p n clocks codes times words)
-         (e : worldOf q memory' clocks codes times' words' ≡ leapOf chip n (worldOf p memory clocks codes times words)) where
+    (e : worldOf q memory' clocks codes times' words' ≡ leapOf chip n (worldOf p memory clocks codes times words)) where
   abbrev w : World
   w = worldOf p memory clocks codes times words
 
@@ -94,10 +94,7 @@ module _ (memory clocks codes times words memory' times' words' : List ℕ) (p q
 pub run-ended : (l : Leaped) (memory clocks codes times words : List ℕ) → goesOn l ≡ false
     → runEnded l memory clocks codes times words ≡ runFrom l memory clocks codes times words
 run-ended l memory clocks codes times words e =
-    rw (run-over chip lawful (l .left .0) (worldOf (l .progress) memory clocks codes times words) e) (ap (λ k. _) (sym (add-none (l .leaps))))
-  where
-    add-none : (k : ℕ) → k + 0 ≡ k
-    add-none k = omega arith
+    rw (run-over chip lawful (l .left .0) (worldOf (l .progress) memory clocks codes times words) e, add-zero (l .leaps))
 
 -- what is not refused is of demand 3
 pub fit-call : (n : ℕ) (w : World) → refusalIn n w ≡ 0 → w .written ≤ length (w .times) → Fit w
@@ -119,6 +116,12 @@ runs-plainly n w h = by-test (eqb (refusalIn n w) 0) refl
     by-test true e = run-by-plain n w (fit-call n w (eqb-true (refusalIn n w) 0 e) h)
     by-test false e = refl
 
+-- a refused call
+pub run-refused : (n : ℕ) (w : World) (number : ℕ) → number ≡ refusalIn n w → (number ≡ 0 → ⊥)
+    → handed (refusedWith number (w .state)) (w .memory) (w .times) (w .words) ≡ runOf n w
+unfolding runOf
+run-refused n w number e not-none = rw (← e, ne-eqb number 0 not-none)
+
 module _ (s : State) (n : ℕ) (memory clocks codes times words : List ℕ) (good : refusalIn n (worldOf (begin s) memory clocks codes times words) ≡ 0) where
   abbrev start : World
   start = worldOf (begin s) memory clocks codes times words
@@ -128,6 +131,10 @@ module _ (s : State) (n : ℕ) (memory clocks codes times words : List ℕ) (goo
   leaping-begins =
       let a = accepted s (length memory) clocks codes (length times) (length words) n good in
       record { clock = a .clock; read = omega arith; inputs = a .inputs; outputs = a .outputs; written = omega arith }
+
+  -- its leaps are no more than its clocks, which fit
+  pub begins-bound : 0 + n ≤ lastClock
+  begins-bound = let a = accepted s (length memory) clocks codes (length times) (length words) n good in omega (arith, a .clock)
 
   -- and hands back what its leaps leave
   pub runs : (l : Leaped) (memory' times' words' : List ℕ)
@@ -168,10 +175,10 @@ leap-falls-short n w gap e h = rw (← e, le-ltb (gap .0) n h)
 
 -- a leap more of a run
 module _ (memory clocks codes times words memory' times' words' : List ℕ) (at : Leaped) (q : Progress) (gap : Clocks)
-         (l : Leaping (at .progress) (at .left .0) clocks codes times words) (some : 0 < at .left .0) (on : at .progress .stop ≡ 0)
-         (bound : at .leaps + at .left .0 ≤ lastClock)
-         (g : gap ≡ gapOf (at .left .0) (at .progress .state) (drop (at .progress .read) clocks))
-         (e : worldOf q memory' clocks codes times' words' ≡ leapOf chip (at .left .0) (worldOf (at .progress) memory clocks codes times words)) where
+    (l : Leaping (at .progress) (at .left .0) clocks codes times words) (some : 0 < at .left .0) (on : at .progress .stop ≡ 0)
+    (bound : at .leaps + at .left .0 ≤ lastClock)
+    (g : gap ≡ gapOf (at .left .0) (at .progress .state) (drop (at .progress .read) clocks))
+    (e : worldOf q memory' clocks codes times' words' ≡ leapOf chip (at .left .0) (worldOf (at .progress) memory clocks codes times words)) where
   abbrev later : Leaped
   later = record {
     progress = q;

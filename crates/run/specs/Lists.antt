@@ -85,9 +85,9 @@ granted [] w = 0
 granted (c ∷ cs) w =
     elim (eqb (w .stop) 0) [
       | true ↦ elim (eqb (refusalIn (countOf c) w) 0) [
-          | true ↦ countOf c + granted cs (plains chip (countOf c) w)
-          | false ↦ granted cs w
-        ]
+        | true ↦ countOf c + granted cs (plains chip (countOf c) w)
+        | false ↦ granted cs w
+      ]
       | false ↦ 0
     ]
 
@@ -108,8 +108,8 @@ tells [] w = []
 tells (c ∷ cs) w =
     elim (eqb (w .stop) 0) [
       | true ↦ elim (eqb (refusalIn (countOf c) w) 0) [
-          | true ↦ toldBy (leapCount chip (countOf c) w) w (plains chip (countOf c) w) ∷ tells cs (plains chip (countOf c) w)
-          | false ↦ refusedWith (refusalIn (countOf c) w) (w .state) ∷ tells cs w
-        ]
+        | true ↦ toldBy (leapCount chip (countOf c) w) w (plains chip (countOf c) w) ∷ tells cs (plains chip (countOf c) w)
+        | false ↦ refusedWith (refusalIn (countOf c) w) (w .state) ∷ tells cs w
+      ]
       | false ↦ []
     ]

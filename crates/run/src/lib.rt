@@ -171,11 +171,27 @@ pub fn run(
     ensures { λ r. ⌜ handed r (now (memory .exit)) (now (times .exit)) (now (words .exit)) ≡ runOf n (worldOf (begin state) (now (memory .entry)) (now (clocks .entry)) (now (codes .entry)) (now (times .entry)) (now (words .entry))) ⌝ }
     ensures { λ r. ⌜ handed r (now (memory .exit)) (now (times .exit)) (now (words .exit)) ≡ plainRunOf n (worldOf (begin state) (now (memory .entry)) (now (clocks .entry)) (now (codes .entry)) (now (times .entry)) (now (words .entry))) ⌝ }
 {
-    let number = refusal(state, memory.len(), clocks, codes, times.len(), words.len(), n);
+    let number = refusal(
+        state,
+        memory.len(),
+        clocks,
+        codes,
+        times.len(),
+        words.len(),
+        n,
+    );
     if number != 0 {
         return refused(number, state);
     }
     let entries = opcodes::opcode_table();
-    let end = leap_on(begin_run(state, n), memory, clocks, codes, times, words, &entries);
+    let end = leap_on(
+        begin_run(state, n),
+        memory,
+        clocks,
+        codes,
+        times,
+        words,
+        &entries,
+    );
     tell(end.leaps, end.progress)
 }

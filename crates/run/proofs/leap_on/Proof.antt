@@ -1,3 +1,7 @@
+use borrow.Author.Needs.{needs}
+use denote.Ref.{now}
+use mathlib.Core.Path.{refl, sym, _∙_}
+use Rattle.run.proofs.Runs.{Running, goes-some, goes-unstopped, run-ended}
 use Rattle.run.proofs.leap_on.Statement.{statement}
 use Rattle.run.proofs.leap_on.Tie as tie
 use Rattle.run.proofs.leap_on.Reads as reads
@@ -6,46 +10,64 @@ use Rattle.run.proofs.goes_on.Reads as goes-on-reads
 use Rattle.run.proofs.leap_once.Reads as leap-once-reads
 
 abbrev Inv-loop : tie.InvT-loop
-Inv-loop memory₀ clocks codes times₀ words₀ entries at₀ memory times words at = ?
+Inv-loop memory₀ clocks codes times₀ words₀ entries at₀ memory times words at = Running at₀ memory₀ clocks codes times₀ words₀ memory times words at
 
 abbrev μ-loop : tie.MeasureT-loop
-μ-loop memory₀ clocks codes times₀ words₀ entries at₀ memory times words at = ?
+μ-loop memory₀ clocks codes times₀ words₀ entries at₀ memory times words at = at .left .0
 
 -- src/lib.rt:144:5
 loop-holds : tie.Need-loop-holds Inv-loop μ-loop
-loop-holds c = ?
+loop-holds c =
+    let root = c .before .before .before .before .before .before in
+    record { run = refl; leaping = root .pre .0; bound = root .pre .1 .0; memory-kept = refl; times-kept = refl; words-kept = refl }
 
 -- src/lib.rt:144:11
 goes-on-requires : tie.Need-goes-on-requires Inv-loop μ-loop
-goes-on-requires c κs = ?
+goes-on-requires c κs = search needs
 
 -- src/lib.rt:145:9
 leap-once-requires : tie.Need-leap-once-requires Inv-loop μ-loop
-leap-once-requires c κs = ?
+leap-once-requires c κs =
+    let at = c .before .before .before .before .before .loop in
+    let on = sym (c .before .before .before .before .goes-on .ensures) ∙ c .before .before .before .if1 .taken in
+    (at .inv .leaping, ((goes-some (at .at) on, goes-unstopped (at .at) on), (at .inv .bound, c .before .before .before .before .before .before .before .before .before .before .before .before .pre .1 .1)))
 
 -- src/lib.rt:144:5
 loop-less : tie.Need-loop-less Inv-loop μ-loop
-loop-less c = ?
+loop-less c = c .before .before .before .before .before .before .leap-once .ensures .1 .1 .1
 
 -- src/lib.rt:144:5
 loop-again : tie.Need-loop-again Inv-loop μ-loop
-loop-again c = ?
+loop-again c =
+    let at = c .before .before .before .before .before .before .before .before .before .before .before .before .loop in
+    let done = c .before .before .before .before .before .before .leap-once in
+    record {
+      run = done .ensures .0 ∙ at .inv .run;
+      leaping = done .ensures .1 .0;
+      bound = done .ensures .1 .1 .0;
+      memory-kept = done .kept .1 .0 ∙ at .inv .memory-kept;
+      times-kept = done .kept .1 .1 .1 .1 .0 ∙ at .inv .times-kept;
+      words-kept = done .kept .1 .1 .1 .1 .1 .0 ∙ at .inv .words-kept;
+    }
 
 -- src/lib.rt:129:1
 same-length : tie.Need-same-length Inv-loop μ-loop
-same-length c = ?
+same-length c = c .before .before .loop .inv .memory-kept
 
 -- src/lib.rt:129:1
 same-length-2 : tie.Need-same-length-2 Inv-loop μ-loop
-same-length-2 c = ?
+same-length-2 c = c .before .before .loop .inv .times-kept
 
 -- src/lib.rt:129:1
 same-length-3 : tie.Need-same-length-3 Inv-loop μ-loop
-same-length-3 c = ?
+same-length-3 c = c .before .before .loop .inv .words-kept
 
 -- src/lib.rt:129:1
 returns : tie.Need-returns Inv-loop μ-loop
-returns c = ?
+returns c =
+    let at = c .before .before .loop in
+    let over = sym (c .before .goes-on .ensures) ∙ c .if1 .left in
+    run-ended (at .at) (at .memory) (now (c .before .before .before .before .before .before .before .before .before .args .clocks)) (now (c .before .before .before .before .before .before .before .before .before .args .codes)) (at .times) (at .words) over ∙ at .inv .run
 
 pub leap-on-spec : {M : Type 1} → statement M
 leap-on-spec =

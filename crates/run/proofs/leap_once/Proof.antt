@@ -61,10 +61,13 @@ returns c =
     let at = root .args .at in
     let q = c .before .before .before .before .before .before .before .before .before .leap .result in
     let gap = c .before .before .before .before .before .before .before .before .before .before .before .before .before .gap-from .result in
-    rw (c .before .left-after .ensures, c .before .before .leaps-from .ensures)
-    (later-run memory clocks codes times words _ _ _ at q gap (root .pre .0) (root .pre .1 .0 .0) (root .pre .1 .0 .1) (root .pre .1 .1 .0) (c .before .before .before .before .before .before .before .before .before .before .before .before .before .gap-from .ensures) (c .before .before .before .before .before .before .before .before .before .leap .ensures),
-    (later-leaping memory clocks codes times words _ _ _ at q gap (root .pre .0) (root .pre .1 .0 .0) (root .pre .1 .0 .1) (root .pre .1 .1 .0) (c .before .before .before .before .before .before .before .before .before .before .before .before .before .gap-from .ensures) (c .before .before .before .before .before .before .before .before .before .leap .ensures),
-    later-bound memory clocks codes times words _ _ _ at q gap (root .pre .0) (root .pre .1 .0 .0) (root .pre .1 .0 .1) (root .pre .1 .1 .0) (c .before .before .before .before .before .before .before .before .before .before .before .before .before .gap-from .ensures) (c .before .before .before .before .before .before .before .before .before .leap .ensures)))
+    rw (c .before .left-after .ensures, c .before .before .leaps-from .ensures) (
+      later-run memory clocks codes times words _ _ _ at q gap (root .pre .0) (root .pre .1 .0 .0) (root .pre .1 .0 .1) (root .pre .1 .1 .0) (c .before .before .before .before .before .before .before .before .before .before .before .before .before .gap-from .ensures) (c .before .before .before .before .before .before .before .before .before .leap .ensures),
+      (
+        later-leaping memory clocks codes times words _ _ _ at q gap (root .pre .0) (root .pre .1 .0 .0) (root .pre .1 .0 .1) (root .pre .1 .1 .0) (c .before .before .before .before .before .before .before .before .before .before .before .before .before .gap-from .ensures) (c .before .before .before .before .before .before .before .before .before .leap .ensures),
+        later-bound memory clocks codes times words _ _ _ at q gap (root .pre .0) (root .pre .1 .0 .0) (root .pre .1 .0 .1) (root .pre .1 .1 .0) (c .before .before .before .before .before .before .before .before .before .before .before .before .before .gap-from .ensures) (c .before .before .before .before .before .before .before .before .before .leap .ensures),
+      ),
+    )
 
 pub leap-once-spec : {M : Type 1} → statement M
 leap-once-spec =

@@ -1,3 +1,6 @@
+use native.Mathlib.Omega.{arith}
+use Prim.Native.Nat.{_+_, _-_}
+use mathlib.Core.Path.{_≡_}
 use borrow.Author.Needs.{needs}
 use Rattle.run.proofs.left_after.Statement.{statement}
 use Rattle.run.proofs.left_after.Tie as tie
@@ -14,11 +17,17 @@ sub-t5 c = search needs
 
 -- src/lib.rt:61:9
 returns : tie.Need-returns
-returns c = let less = c .before .before .if1 .taken in ?
+returns c =
+    let at = c .before .before .before .before .before .args in
+    let same : at .left .0 - at .gap .0 - 1 ≡ at .left .0 - (at .gap .0 + 1) = omega arith in
+    rw same
 
 -- src/lib.rt:57:1
 returns-2 : tie.Need-returns-2
-returns-2 c = ?
+returns-2 c =
+    let at = c .before .before .before .args in
+    let none : at .left .0 - (at .gap .0 + 1) ≡ 0 = omega (arith, c .if1 .left) in
+    rw none
 
 pub left-after-spec : {M : Type 1} → statement M
 left-after-spec = tie.close (tie.spec sub-t4 sub-t5 returns returns-2)
