@@ -43,7 +43,7 @@ fit-lent w f = record {
 }
 
 -- of such a world only the clock can refuse
-fits-clock : (w : World) (n : ℕ) → Fit w → refusalIn n w ≡ cond (ltb lastClock (w .state .clock + n)) 4 0
+pub fits-clock : (w : World) (n : ℕ) → Fit w → refusalIn n w ≡ cond (ltb lastClock (w .state .clock + n)) 4 0
 unfolding refusalOf
 fits-clock w n f =
     rw (
@@ -154,7 +154,7 @@ module _ (c : Call) (cs : List Call) (w : World) where
   unfolding calls
   calls-on e = rw (e, calls)
 
-  granted-done : eqb (w .stop) 0 ≡ true → eqb (refusalIn (countOf c) w) 0 ≡ true
+  pub granted-done : eqb (w .stop) 0 ≡ true → eqb (refusalIn (countOf c) w) 0 ≡ true
       → granted (c ∷ cs) w ≡ countOf c + granted cs (plains chip (countOf c) w)
   unfolding granted
   granted-done e d = rw (e, granted) (rw d)

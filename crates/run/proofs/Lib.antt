@@ -3,3 +3,5 @@ pub mod Runs
 pub mod Parts
 pub mod Rest
 pub mod Fair
+pub mod Cut
+pub mod Table
