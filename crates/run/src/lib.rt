@@ -57,10 +57,10 @@ fn pass_progress(p: Progress, gap: Clocks) -> Progress
 fn left_after(left: Clocks, gap: Clocks) -> Clocks
     ensures { λ r. ⌜ r ≡ clocksOf (left .0 - (gap .0 + 1)) ⌝ }
 {
-    if gap.0 < left.0 {
-        return Clocks(left.0 - gap.0 - 1);
+    if left.0 <= gap.0 {
+        return Clocks(0);
     }
-    Clocks(0)
+    Clocks(left.0 - gap.0 - 1)
 }
 
 // One leap: the gap, the gap passed, then the event clock, if it is reached.
