@@ -1,7 +1,6 @@
 pub mod Inputs
 pub mod Same
 pub mod Steps
-pub mod Counted
 pub mod Quiet
 pub mod Passing
 pub mod Gaps
