@@ -7,9 +7,10 @@ use native.Mathlib.Nat.{add-zero}
 use native.Mathlib.Omega.{arith}
 use lib.Dec.{ltb, eqb}
 use lib.ListN.{length, getD}
-use borrow.Author.Tests.{eq-eqb, eqb-true, le-ltb}
+use borrow.Author.Tests.{eq-eqb}
 use Rattle.refusals.specs.Refusals.{lastClock}
-use Rattle.refusals.proofs.PinLists.{right-above}
+use Rattle.refusals.proofs.PinLists.{right-lengths, right-above}
+use Rattle.refusals.proofs.Accepted.{Accepted, accepts}
 use Rattle.leaps.specs.Leaps.{plains}
 use Rattle.leaps.proofs.Laws.{plains-add, plains-stopped, plains-kept}
 use Rattle.machine.specs.World.{World, plain}
@@ -19,11 +20,20 @@ use Rattle.machine.proofs.Kept.{Advanced, plain-advances, plain-fits}
 use Rattle.run.specs.System.{runningIn, doneIn, chip}
 use Rattle.run.specs.Lists.{Call, runFor, countOf, Listed, calls, granted}
 use Rattle.run.proofs.Laws.{lawful, no-gap-event}
-use Rattle.run.proofs.Fair.{fits-clock, granted-done, fair}
+use Rattle.run.proofs.Fair.{fit-room, granted-done, fair}
 
 -- a call that fits the clock is not refused
 accepted-call : (w : World) (n : ℕ) → Fit w → w .state .clock + n ≤ lastClock → eqb (refusalIn n w) 0 ≡ true
-accepted-call w n f h = rw (fits-clock w n f, le-ltb lastClock (w .state .clock + n) h)
+accepted-call w n f h =
+    eq-eqb (refusalIn n w) 0 (accepts (w .state) (length (w .memory)) (w .clocks) (w .codes) (length (w .times)) (length (w .words)) n
+    (record {
+      memory = f .memory;
+      state = f .state;
+      inputs = right-lengths (w .state .clock) (w .clocks) (w .codes) (f .pins);
+      outputs = f .outputs;
+      clock = h;
+      pins = f .pins;
+    }))
 
 fits-on : (n : ℕ) (w : World) → Fit w → Fit (plains chip n w)
 fits-on n w f = plains-kept chip lawful Fit plain-fits no-gap-event n w f
@@ -37,7 +47,7 @@ clock-most (suc n) w = omega (arith, clock-most n (plain w), plain-advances w .c
 -- one run, as plain clocks
 run-plains : (n : ℕ) (w : World) → Fit w → w .state .clock + n ≤ lastClock → calls (runFor n ∷ []) w .world ≡ plains chip n w
 unfolding granted countOf
-run-plains n w f h = ap (λ (l : Listed). l .world) (fair (runFor n ∷ []) w f) ∙ by-stop (eqb (w .stop) 0) refl
+run-plains n w f h = ap (λ (l : Listed). l .world) (fair (runFor n ∷ []) w (fit-room w f)) ∙ by-stop (eqb (w .stop) 0) refl
   where
     by-stop : (r : Bool) → eqb (w .stop) 0 ≡ r → plains chip (granted (runFor n ∷ []) w) w ≡ plains chip n w
     by-stop true e = ap (λ (k : ℕ). plains chip k w) (granted-done (runFor n) [] w e (accepted-call w n f h) ∙ add-zero n)
@@ -49,10 +59,10 @@ pub cut : (a b : ℕ) (w : World) → Fit w → w .stop ≡ 0 → w .state .cloc
 unfolding granted countOf
 cut a b w f on h =
     let v = plains chip a w in
-    ap (λ (l : Listed). l .world) (fair (runFor a ∷ runFor b ∷ []) w f)
+    ap (λ (l : Listed). l .world) (fair (runFor a ∷ runFor b ∷ []) w (fit-room w f))
     ∙ ap (λ (k : ℕ). plains chip k w) (granted-done (runFor a) (runFor b ∷ []) w (eq-eqb (w .stop) 0 on) (accepted-call w a f (omega arith)))
     ∙ plains-add chip lawful a (granted (runFor b ∷ []) v) w
-    ∙ sym (ap (λ (l : Listed). l .world) (fair (runFor b ∷ []) v (fits-on a w f)))
+    ∙ sym (ap (λ (l : Listed). l .world) (fair (runFor b ∷ []) v (fit-room v (fits-on a w f))))
     ∙ run-plains b v (fits-on a w f) (omega (arith, clock-most a w))
     ∙ sym (plains-add chip lawful a b w)
     ∙ sym (run-plains (a + b) w f h)

@@ -1,70 +1,66 @@
 -- Demand 3, one theorem over the list of calls: state, memory, outputs, stop and counts are those of n plain clocks, and each call
 -- tells what they say, document 01's leap count among it.
 use mathlib.Core.Path.{_≡_, refl, sym, ap, ap₂, _∙_, subst}
-use mathlib.Core.Bool.{Bool, true, false, cond, not}
+use mathlib.Core.Bool.{Bool, true, false, cond, not, _||_}
 use mathlib.Core.List.{List, [], _∷_, _++_}
 use Prim.Native.Nat.{ℕ, zero, suc, _+_, _-_, _≤_, _<_}
 use native.Mathlib.Nat.{add-zero, zero-add}
 use native.Mathlib.Omega.{arith}
 use lib.Dec.{ltb, eqb}
 use lib.ListN.{length, take, drop, length-drop, take-append-drop}
-use borrow.Author.Tests.{eqb-true, eq-eqb, ltb-true, le-ltb, lt-ltb}
+use borrow.Author.Tests.{eqb-true, eqb-false, eq-eqb, ne-eqb}
 use Rattle.words.specs.Memory.{memorySpan}
 use Rattle.chip.specs.State.{wellFormed}
 use Rattle.refusals.specs.PinLists.{pinsRight}
-use Rattle.refusals.specs.Refusals.{lastClock, refusalOf}
+use Rattle.refusals.specs.Refusals.{lastClock, firstOf, refusalOf}
 use Rattle.refusals.proofs.PinLists.{right-lengths}
 use Rattle.refusals.proofs.Accepted.{Accepted, accepted, accepts}
 use Rattle.leaps.specs.Leaps.{plains, run, leapCount, trail}
 use Rattle.leaps.proofs.Laws.{plains-add, plains-stopped, run-plain, plains-kept}
 use Rattle.machine.specs.declared.Told.{Told}
-use Rattle.machine.specs.World.{World, plain}
-use Rattle.machine.specs.Calls.{Handed, handed, refusedWith, handedBack, refusalIn, leapsFrom, steppedFrom, stepOf}
+use Rattle.chip.specs.declared.state.State.{State}
+use Rattle.machine.specs.World.{World, worldOf, plain}
+use Rattle.machine.specs.Calls.{Handed, handed, begin, refusedWith, handedBack, refusalIn, leapsFrom, steppedFrom, stepOf}
 use Rattle.machine.specs.Fit.{Fit}
 use Rattle.machine.proofs.Kept.{plain-fits}
 use Rattle.run.specs.System.{runningIn, chip}
 use Rattle.run.specs.Run.{handedRun, runOf, plainRunOf}
-use Rattle.run.specs.Lists.{Call, singleClock, runFor, countOf, callOf, lentOf, stopOf, afterCall, Listed, listed, calls, granted, toldBy, tells}
+use Rattle.run.specs.Lists.{Call, singleClock, runFor, countOf, callOf, lentOf, stopOf, afterCall, Listed, listed, calls, granted, toldBy, tells, Room, Fair}
 use Rattle.run.proofs.Laws.{lawful, no-gap-event, single-leaps}
 use Rattle.run.proofs.Runs.{runs-plainly, fit-call}
 use Rattle.run.proofs.Rest.{plains-rest, plains-stop}
-use Rattle.run.proofs.Parts.{Room, wholeOf, plains-whole, lent-whole, count-whole}
+use Rattle.run.proofs.Parts.{wholeOf, plains-whole, lent-whole, count-whole}
 
-fit-room : (w : World) → Fit w → Room w
+pub fit-room : (w : World) → Fit w → Room w
 fit-room w f = record { times = f .written; words = rw (← (f .outputs)) (f .written) }
 
-fit-lent : (w : World) → Fit w → Fit (lentOf w)
-fit-lent w f = record {
-  memory = f .memory;
-  state = f .state;
-  pins = f .pins;
-  outputs = length-drop (w .written) (w .times) ∙ ap (λ (k : ℕ). k - w .written) (f .outputs) ∙ sym (length-drop (w .written) (w .words));
-  written = omega arith;
-}
+-- what is lent is refused just where the whole is: the output lists lose as much of their lengths
+drop-eqb : (k : ℕ) (l m : List ℕ) → k ≤ length l → k ≤ length m → eqb (length (drop k l)) (length (drop k m)) ≡ eqb (length l) (length m)
+drop-eqb k l m a b = rw (length-drop k l, length-drop k m) (by-test (eqb (length l) (length m)) refl)
+  where
+    by-test : (t : Bool) → eqb (length l) (length m) ≡ t → eqb (length l - k) (length m - k) ≡ t
+    by-test true e = let same = eqb-true (length l) (length m) e in eq-eqb (length l - k) (length m - k) (omega arith)
+    by-test false e = ne-eqb (length l - k) (length m - k) (λ z. eqb-false (length l) (length m) e (omega arith))
 
--- of such a world only the clock can refuse
-pub fits-clock : (w : World) (n : ℕ) → Fit w → refusalIn n w ≡ cond (ltb lastClock (w .state .clock + n)) 4 0
+refusal-lent : (w : World) (n : ℕ) → Room w → refusalIn n (lentOf w) ≡ refusalIn n w
 unfolding refusalOf
-fits-clock w n f =
-    rw (
-      eq-eqb (length (w .memory)) memorySpan (f .memory),
-      f .state,
-      eq-eqb (length (w .clocks)) (length (w .codes)) (right-lengths (w .state .clock) (w .clocks) (w .codes) (f .pins)),
-      eq-eqb (length (w .times)) (length (w .words)) (f .outputs),
-      f .pins,
-    )
-
-refusal-lent : (w : World) (n : ℕ) → Fit w → refusalIn n (lentOf w) ≡ refusalIn n w
-refusal-lent w n f = fits-clock (lentOf w) n (fit-lent w f) ∙ sym (fits-clock w n f)
+refusal-lent w n room = rw (drop-eqb (w .written) (w .times) (w .words) (room .times) (room .words))
 
 -- the number of a refusal is no stop
-refusal-no-stop : (w : World) (n : ℕ) → Fit w → stopOf (refusalIn n w) ≡ 0
-unfolding stopOf
-refusal-no-stop w n f = rw (fits-clock w n f) (by-test (ltb lastClock (w .state .clock + n)))
+refusal-no-stop : (w : World) (n : ℕ) → stopOf (refusalIn n w) ≡ 0
+unfolding stopOf refusalOf
+refusal-no-stop w n =
+    first (not (eqb (length (w .memory)) memorySpan)) (not (wellFormed (w .state)))
+    (not (eqb (length (w .clocks)) (length (w .codes))) || not (eqb (length (w .times)) (length (w .words))))
+    (ltb lastClock (w .state .clock + n)) (not (pinsRight (w .state .clock) (w .clocks) (w .codes)))
   where
-    by-test : (t : Bool) → _≡_ {A = ℕ} (cond (ltb 5 (cond t 4 0)) (cond t 4 0) 0) 0
-    by-test true = refl
-    by-test false = refl
+    first : (a b c d e : Bool) → stopOf (firstOf ((1, a) ∷ (2, b) ∷ (3, c) ∷ (4, d) ∷ (5, e) ∷ [])) ≡ 0
+    first true b c d e = refl
+    first false true c d e = refl
+    first false false true d e = refl
+    first false false false true e = refl
+    first false false false false true = refl
+    first false false false false false = refl
 
 zero-goes-on : stopOf 0 ≡ 0
 unfolding stopOf
@@ -83,25 +79,22 @@ unfolding callOf countOf
 call-plain singleClock w h = single-run w
 call-plain (runFor n) w h = runs-plainly n w h
 
-module _ (w : World) (f : Fit w) (n : ℕ) where
+module _ (w : World) (room : Room w) (on : w .stop ≡ 0) (n : ℕ) where
   abbrev end : World
   end = plains chip n (lentOf w)
 
   whole-end : wholeOf w end ≡ plains chip n w
-  whole-end = sym (plains-whole n w (lentOf w) (fit-room w f)) ∙ ap (plains chip n) (lent-whole w)
+  whole-end = sym (plains-whole n w (lentOf w) room) ∙ ap (plains chip n) (lent-whole w on)
 
   -- what a call that is not refused leaves
-  done-world : w .stop ≡ 0 → (leaps : ℕ) → afterCall w (handedBack leaps end) ≡ plains chip n w
+  done-world : (leaps : ℕ) → afterCall w (handedBack leaps end) ≡ plains chip n w
   unfolding afterCall
-  done-world on leaps =
+  done-world leaps =
       let r = plains-rest n (lentOf w) in
       let count : end .read ≡ r .count = r .read ∙ zero-add (r .count) in
       let clocks : drop (end .read) (w .clocks) ≡ end .clocks = ap (λ (k : ℕ). drop k (w .clocks)) count ∙ sym (r .clocks) in
       let codes : drop (end .read) (w .codes) ≡ end .codes = ap (λ (k : ℕ). drop k (w .codes)) count ∙ sym (r .codes) in
-      rw (clocks, codes, plains-stop n (lentOf w) (no-stop on)) whole-end
-    where
-      no-stop : w .stop ≡ 0 → stopOf (w .stop) ≡ w .stop
-      no-stop e = ap stopOf e ∙ zero-goes-on ∙ sym e
+      rw (clocks, codes, plains-stop n (lentOf w) zero-goes-on) whole-end
 
   -- and tells
   done-told : handedBack (leapCount chip n (lentOf w)) end .told ≡ toldBy (leapCount chip n w) w (plains chip n w)
@@ -109,21 +102,21 @@ module _ (w : World) (f : Fit w) (n : ℕ) where
       let read : w .read + end .read - w .read ≡ end .read = omega arith in
       let written : w .written + end .written - w .written ≡ end .written = omega arith in
       let leaps : leapCount chip n (lentOf w) ≡ leapCount chip n w =
-      sym (count-whole n w (lentOf w) (fit-room w f)) ∙ ap (leapCount chip n) (lent-whole w) in
+            sym (count-whole n w (lentOf w) room) ∙ ap (leapCount chip n) (lent-whole w on) in
       rw (← whole-end, read, written, leaps)
 
-module _ (c : Call) (w : World) (f : Fit w) where
+module _ (c : Call) (w : World) (room : Room w) where
   abbrev n : ℕ
   n = countOf c
 
   call-done : eqb (refusalIn n w) 0 ≡ true → callOf c (lentOf w) ≡ handedBack (leapCount chip n (lentOf w)) (plains chip n (lentOf w))
   unfolding plainRunOf
-  call-done e = call-plain c (lentOf w) (omega arith) ∙ rw (refusal-lent w n f, e)
+  call-done e = call-plain c (lentOf w) (omega arith) ∙ rw (refusal-lent w n room, e)
 
   call-refused : eqb (refusalIn n w) 0 ≡ false
       → callOf c (lentOf w) ≡ handed (refusedWith (refusalIn n w) (w .state)) (w .memory) (drop (w .written) (w .times)) (drop (w .written) (w .words))
   unfolding plainRunOf
-  call-refused e = call-plain c (lentOf w) (omega arith) ∙ rw (refusal-lent w n f, e)
+  call-refused e = call-plain c (lentOf w) (omega arith) ∙ rw (refusal-lent w n room, e)
 
   -- "A refused call hands on what it got"
   refused-world : w .stop ≡ 0
@@ -135,18 +128,15 @@ module _ (c : Call) (w : World) (f : Fit w) where
         take-append-drop (w .written) (w .words),
         add-zero (w .read),
         add-zero (w .written),
-        refusal-no-stop w n f,
+        refusal-no-stop w n,
         ← on,
       )
 
 -- ---- the list
 
-abbrev Fairly : List Call → World → Type 0
-Fairly cs w = calls cs w ≡ record { world = plains chip (granted cs w) w; told = tells cs w }
-
 module _ (c : Call) (cs : List Call) (w : World) where
   -- a stop has ended the list
-  fair-ended : eqb (w .stop) 0 ≡ false → Fairly (c ∷ cs) w
+  fair-ended : eqb (w .stop) 0 ≡ false → Fair (c ∷ cs) w
   unfolding calls granted tells plains
   fair-ended e = rw (e, calls, granted, tells)
 
@@ -174,41 +164,49 @@ module _ (c : Call) (cs : List Call) (w : World) where
   unfolding tells
   tells-refused e d = rw (e, tells) (rw d)
 
-  module _ (f : Fit w) (on : eqb (w .stop) 0 ≡ true) (later : (v : World) → Fit v → Fairly cs v) where
-    fair-done : eqb (refusalIn (countOf c) w) 0 ≡ true → Fairly (c ∷ cs) w
+  module _ (room : Room w) (on : eqb (w .stop) 0 ≡ true) (later : (v : World) → Room v → Fair cs v) where
+    fair-done : eqb (refusalIn (countOf c) w) 0 ≡ true → Fair (c ∷ cs) w
     fair-done d =
+        let zero-stop = eqb-true (w .stop) 0 on in
+        let f = fit-call (countOf c) w (eqb-true (refusalIn (countOf c) w) 0 d) (room .times) in
+        let v = plains chip (countOf c) w in
         rw (
           calls-on on,
-          call-done c w f d,
-          done-world w f (countOf c) (eqb-true (w .stop) 0 on) (leapCount chip (countOf c) (lentOf w)),
-          done-told w f (countOf c),
-          later (plains chip (countOf c) w) (plains-kept chip lawful Fit plain-fits no-gap-event (countOf c) w f),
+          call-done c w room d,
+          done-world w room zero-stop (countOf c) (leapCount chip (countOf c) (lentOf w)),
+          done-told w room zero-stop (countOf c),
+          later v (fit-room v (plains-kept chip lawful Fit plain-fits no-gap-event (countOf c) w f)),
           granted-done on d,
           tells-done on d,
-          plains-add chip lawful (countOf c) (granted cs (plains chip (countOf c) w)) w,
+          plains-add chip lawful (countOf c) (granted cs v) w,
         )
 
-    fair-refused : eqb (refusalIn (countOf c) w) 0 ≡ false → Fairly (c ∷ cs) w
+    fair-refused : eqb (refusalIn (countOf c) w) 0 ≡ false → Fair (c ∷ cs) w
     fair-refused d =
         rw (
           calls-on on,
-          call-refused c w f d,
-          refused-world c w f (eqb-true (w .stop) 0 on),
-          later w f,
+          call-refused c w room d,
+          refused-world c w room (eqb-true (w .stop) 0 on),
+          later w room,
           granted-refused on d,
           tells-refused on d,
         )
 
--- DEMAND 3. "Leaping equals stepping, for every well-formed start" (`Fit`) "and every list of calls (single clocks and runs of any count,
--- refused ones included)" (`calls`): "state, memory, outputs, stop and counts are those of n plain clocks" (`plains`, n being `granted`,
--- the counts of the calls not refused), "and the leap count is document 01's" (`tells`: of each call, with its number).
-pub fair : (cs : List Call) (w : World) → Fit w → calls cs w ≡ record { world = plains chip (granted cs w) w; told = tells cs w }
+-- DEMAND 3. "Leaping equals stepping, for every well-formed start and every list of calls (single clocks and runs of any count, refused
+-- ones included)" (`calls`): "state, memory, outputs, stop and counts are those of n plain clocks" (`plains`, n being `granted`, the
+-- counts of the calls not refused), "and the leap count is document 01's" (`tells`: of each call, with its number). It holds of damaged
+-- starts too, whose calls are refused.
+pub fair : (cs : List Call) (w : World) → Room w → Fair cs w
 unfolding calls granted tells plains
-fair [] w f = refl
-fair (c ∷ cs) w f = by-tests (eqb (w .stop) 0) refl (eqb (refusalIn (countOf c) w) 0) refl (fair cs)
+fair [] w room = refl
+fair (c ∷ cs) w room = by-tests (eqb (w .stop) 0) refl (eqb (refusalIn (countOf c) w) 0) refl (fair cs)
   where
     by-tests : (a : Bool) → eqb (w .stop) 0 ≡ a → (b : Bool) → eqb (refusalIn (countOf c) w) 0 ≡ b
-        → ((v : World) → Fit v → Fairly cs v) → Fairly (c ∷ cs) w
+        → ((v : World) → Room v → Fair cs v) → Fair (c ∷ cs) w
     by-tests false e b d later = fair-ended c cs w e
-    by-tests true e true d later = fair-done c cs w f e later d
-    by-tests true e false d later = fair-refused c cs w f e later d
+    by-tests true e true d later = fair-done c cs w room e later d
+    by-tests true e false d later = fair-refused c cs w room e later d
+
+-- the same from any state, memory and lists: a start has nothing written, so that it needs no premise
+pub fair-start : (cs : List Call) (s : State) (memory clocks codes times words : List ℕ) → Fair cs (worldOf (begin s) memory clocks codes times words)
+fair-start cs s memory clocks codes times words = fair cs _ (record { times = omega arith; words = omega arith })

@@ -17,7 +17,7 @@ use Rattle.machine.specs.declared.outcome.Clocked.the-variants.{Stopped, Done}
 use Rattle.machine.specs.World.{World, stoppedAt, movedTo, putRecord, after, dueIn, outcomeIn, plain}
 use Rattle.run.specs.System.{runningIn, isDone, doneIn, eventIn, chip}
 use Rattle.leaps.proofs.Laws.{trail-done, trail-undone}
-use Rattle.run.specs.Lists.{lentOf}
+use Rattle.run.specs.Lists.{lentOf, Room}
 use Rattle.run.proofs.Laws.{lawful}
 
 -- the whole of which `v` is the part that a call was lent of `w`: the records already written stand before its own
@@ -33,11 +33,6 @@ wholeOf w v = record {
   written = w .written + v .written;
   stop = v .stop;
 }
-
--- the records written are within the lists
-pub record Room (w : World) : Type 0 where
-  pub times : w .written ≤ length (w .times)
-  pub words : w .written ≤ length (w .words)
 
 -- a store behind the front of a list
 set-behind : (front l : List ℕ) (k i x : ℕ) → length front ≡ k → set (front ++ l) (k + i) x ≡ front ++ set l i x
@@ -101,8 +96,15 @@ plains-whole zero w v room = refl
 plains-whole (suc n) w v room = rw (plain-whole w v room) (plains-whole n w (plain v) room)
 
 -- what a call is lent is a part of the whole
-pub lent-whole : (w : World) → wholeOf w (lentOf w) ≡ w
-lent-whole w = rw (take-append-drop (w .written) (w .times), take-append-drop (w .written) (w .words), add-zero (w .read), add-zero (w .written))
+pub lent-whole : (w : World) → w .stop ≡ 0 → wholeOf w (lentOf w) ≡ w
+lent-whole w on =
+    rw (
+      take-append-drop (w .written) (w .times),
+      take-append-drop (w .written) (w .words),
+      add-zero (w .read),
+      add-zero (w .written),
+      ← on,
+    )
 
 -- the clocks done and their events
 trail-whole : (n : ℕ) (w v : World) → Room w → trail chip n (wholeOf w v) ≡ trail chip n v

@@ -174,28 +174,29 @@ unfolding leapOf
 leap-falls-short n w gap e h = rw (← e, le-ltb (gap .0) n h)
 
 -- a leap more of a run
-module _ (memory clocks codes times words memory' times' words' : List ℕ) (at : Leaped) (q : Progress) (gap : Clocks)
-    (l : Leaping (at .progress) (at .left .0) clocks codes times words) (some : 0 < at .left .0) (on : at .progress .stop ≡ 0)
-    (bound : at .leaps + at .left .0 ≤ lastClock)
-    (g : gap ≡ gapOf (at .left .0) (at .progress .state) (drop (at .progress .read) clocks))
-    (e : worldOf q memory' clocks codes times' words' ≡ leapOf chip (at .left .0) (worldOf (at .progress) memory clocks codes times words)) where
-  abbrev later : Leaped
-  later = record {
-    progress = q;
-    left = clocksOf (at .left .0 - (gap .0 + 1));
-    leaps = at .leaps + leapsFrom (at .progress .state .clock) (q .state .clock);
-  }
+module _ (memory clocks codes times words memory' times' words' : List ℕ) (at r : Leaped)
+         (l : Leaping (at .progress) (at .left .0) clocks codes times words) (some : 0 < at .left .0) (on : at .progress .stop ≡ 0)
+         (bound : at .leaps + at .left .0 ≤ lastClock)
+         (e : worldOf (r .progress) memory' clocks codes times' words' ≡ leapOf chip (at .left .0) (worldOf (at .progress) memory clocks codes times words))
+         (left : r .left ≡ clocksOf (leftAfter chip (at .left .0) (worldOf (at .progress) memory clocks codes times words)))
+         (leaps : r .leaps ≡ at .leaps + leapsFrom (at .progress .state .clock) (r .progress .state .clock)) where
+  abbrev before : World
+  before = worldOf (at .progress) memory clocks codes times words
 
-  pub later-run : runFrom later memory' clocks codes times' words' ≡ runFrom at memory clocks codes times words
+  pub later-run : runFrom r memory' clocks codes times' words' ≡ runFrom at memory clocks codes times words
   later-run =
-      rw g (leap-run (at .left .0) (at .leaps) (worldOf (at .progress) memory clocks codes times words) (worldOf q memory' clocks codes times' words') some
-      (eq-eqb (at .progress .stop) 0 on) e)
+      rw (left, leaps)
+      (leap-run (at .left .0) (at .leaps) before (worldOf (r .progress) memory' clocks codes times' words') some (eq-eqb (at .progress .stop) 0 on) e)
 
-  pub later-leaping : Leaping q (later .left .0) clocks codes times' words'
-  later-leaping = rw g (leaping-on memory clocks codes times words memory' times' words' (at .progress) q (at .left .0) l e)
+  pub later-leaping : Leaping (r .progress) (r .left .0) clocks codes times' words'
+  later-leaping = rw left (leaping-on memory clocks codes times words memory' times' words' (at .progress) (r .progress) (at .left .0) l e)
 
-  pub later-bound : (later .leaps + later .left .0 ≤ lastClock) × (later .left .0 < at .left .0)
-  later-bound = (omega (arith, digit-le (ltb (at .progress .state .clock) (q .state .clock))), omega arith)
+  fewer : r .left .0 ≡ at .left .0 - (gapIn (at .left .0) before + 1)
+  fewer = ap (λ (k : Clocks). k .0) left
+
+  pub later-bound : (r .leaps + r .left .0 ≤ lastClock) × (r .left .0 < at .left .0)
+  later-bound =
+      (omega (arith, fewer, leaps, digit-le (ltb (at .progress .state .clock) (r .progress .state .clock))), omega (arith, fewer))
 
 -- clocks are left and nothing has stopped
 pub goes-some : (l : Leaped) → goesOn l ≡ true → 0 < l .left .0

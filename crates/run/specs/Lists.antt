@@ -1,14 +1,15 @@
 -- Demand 3: a list of calls, and what plain clocks say of it. Document 01, "Run and leaps": "In demand 3's list each call after the
 -- first gets the state and memory that the last returned or left, the rest of the input list and the free output space".
+use mathlib.Core.Path.{_≡_}
 use mathlib.Core.Bool.{Bool, true, false, cond}
 use mathlib.Core.List.{List, [], _∷_, _++_}
-use Prim.Native.Nat.{ℕ, _+_, _-_}
+use Prim.Native.Nat.{ℕ, _+_, _-_, _≤_}
 use lib.Dec.{ltb, eqb}
-use lib.ListN.{take, drop}
+use lib.ListN.{length, take, drop}
 use Rattle.leaps.specs.Leaps.{plains, leapCount}
 use Rattle.machine.specs.declared.Told.{Told}
-use Rattle.machine.specs.World.{World}
-use Rattle.machine.specs.Calls.{Handed, refusedWith, refusalIn, stepOf}
+use Rattle.machine.specs.World.{World, worldOf}
+use Rattle.machine.specs.Calls.{Handed, begin, refusedWith, refusalIn, stepOf}
 use Rattle.run.specs.System.{chip}
 use Rattle.run.specs.Run.{runOf}
 
@@ -27,19 +28,11 @@ unfoldable pub callOf : Call → World → Handed
 callOf singleClock w = stepOf w
 callOf (runFor n) w = runOf n w
 
--- what the next call gets: state and memory as they are, the rest of the inputs, the free output space; nothing read or written yet
+-- what the next call gets: state and memory as they are, the rest of the inputs, the free output space; nothing read, written or
+-- stopped yet
 abbrev pub lentOf : World → World
-lentOf w = record {
-  state = w .state;
-  memory = w .memory;
-  clocks = w .clocks;
-  codes = w .codes;
-  times = drop (w .written) (w .times);
-  words = drop (w .written) (w .words);
-  read = 0;
-  written = 0;
-  stop = w .stop;
-}
+lentOf w =
+    worldOf (begin (w .state)) (w .memory) (w .clocks) (w .codes) (drop (w .written) (w .times)) (drop (w .written) (w .words))
 
 -- the stop that a number tells: "a stop (6, 7) ends the list", a refusal is none
 unfoldable pub stopOf : ℕ → ℕ
@@ -102,7 +95,7 @@ toldBy leaps w v = record {
   written = v .written - w .written;
 }
 
--- what each call tells: its refusal, "exactly where document 01's numbers say so", or what its clocks come to
+-- what each call tells: its refusal, where one of the numbers 1 to 5 holds of the world reached, or what its clocks come to
 unfoldable pub tells : List Call → World → List Told
 tells [] w = []
 tells (c ∷ cs) w =
@@ -113,3 +106,14 @@ tells (c ∷ cs) w =
       ]
       | false ↦ []
     ]
+
+-- ---- the demand
+
+-- the records written are within the output lists; a start has none written
+pub record Room (w : World) : Type 0 where
+  pub times : w .written ≤ length (w .times)
+  pub words : w .written ≤ length (w .words)
+
+-- Demand 3, of a list of calls and a start: what the calls leave, and what each tells, is what n plain clocks say.
+abbrev pub Fair : List Call → World → Type 0
+Fair cs w = calls cs w ≡ record { world = plains chip (granted cs w) w; told = tells cs w }

@@ -109,9 +109,9 @@ fn leap_once(
     requires { ⌜ (0 < at .left .0) × (at .progress .stop ≡ 0) ⌝ }
     requires { ⌜ at .leaps + at .left .0 ≤ 4294967295 ⌝ }
     requires { ⌜ now entries ≡ opcodeTable ⌝ }
-    ensures { λ r. ⌜ runFrom r (now (memory .exit)) (now (clocks .entry)) (now (codes .entry)) (now (times .exit)) (now (words .exit)) ≡ runFrom at (now (memory .entry)) (now (clocks .entry)) (now (codes .entry)) (now (times .entry)) (now (words .entry)) ⌝ }
-    ensures { λ r. ⌜ Leaping (r .progress) (r .left .0) (now (clocks .entry)) (now (codes .entry)) (now (times .exit)) (now (words .exit)) ⌝ }
-    ensures { λ r. ⌜ (r .leaps + r .left .0 ≤ 4294967295) × (r .left .0 < at .left .0) ⌝ }
+    ensures { λ r. ⌜ worldOf (r .progress) (now (memory .exit)) (now (clocks .entry)) (now (codes .entry)) (now (times .exit)) (now (words .exit)) ≡ leapOf chip (at .left .0) (worldOf (at .progress) (now (memory .entry)) (now (clocks .entry)) (now (codes .entry)) (now (times .entry)) (now (words .entry))) ⌝ }
+    ensures { λ r. ⌜ r .left ≡ clocksOf (leftAfter chip (at .left .0) (worldOf (at .progress) (now (memory .entry)) (now (clocks .entry)) (now (codes .entry)) (now (times .entry)) (now (words .entry)))) ⌝ }
+    ensures { λ r. ⌜ r .leaps ≡ at .leaps + leapsFrom (at .progress .state .clock) (r .progress .state .clock) ⌝ }
 {
     let p = at.progress;
     let left = at.left;

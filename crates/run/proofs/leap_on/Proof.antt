@@ -1,7 +1,7 @@
 use borrow.Author.Needs.{needs}
 use denote.Ref.{now}
 use mathlib.Core.Path.{refl, sym, _∙_}
-use Rattle.run.proofs.Runs.{Running, goes-some, goes-unstopped, run-ended}
+use Rattle.run.proofs.Runs.{Running, goes-some, goes-unstopped, later-run, later-leaping, later-bound, run-ended}
 use Rattle.run.proofs.leap_on.Statement.{statement}
 use Rattle.run.proofs.leap_on.Tie as tie
 use Rattle.run.proofs.leap_on.Reads as reads
@@ -34,17 +34,28 @@ leap-once-requires c κs =
 
 -- src/lib.rt:144:5
 loop-less : tie.Need-loop-less Inv-loop μ-loop
-loop-less c = c .before .before .before .before .before .before .leap-once .ensures .1 .1 .1
+loop-less c =
+    let root = c .before .before .before .before .before .before .before .before .before .before .before .before .before .before .before .before .before .before .before .args in
+    let at = c .before .before .before .before .before .before .before .before .before .before .before .before .loop in
+    let done = c .before .before .before .before .before .before .leap-once in
+    let on = sym (c .before .before .before .before .before .before .before .before .before .before .before .goes-on .ensures) ∙ c .before .before .before .before .before .before .before .before .before .before .if1 .taken in
+    let some = goes-some (at .at) on in
+    let unstopped = goes-unstopped (at .at) on in
+    (later-bound (at .memory) (now (root .clocks)) (now (root .codes)) (at .times) (at .words) _ _ _ (at .at) (done .result) (at .inv .leaping) some unstopped (at .inv .bound) (done .ensures .0) (done .ensures .1 .0) (done .ensures .1 .1)) .1
 
 -- src/lib.rt:144:5
 loop-again : tie.Need-loop-again Inv-loop μ-loop
 loop-again c =
+    let root = c .before .before .before .before .before .before .before .before .before .before .before .before .before .before .before .before .before .before .before .args in
     let at = c .before .before .before .before .before .before .before .before .before .before .before .before .loop in
     let done = c .before .before .before .before .before .before .leap-once in
+    let on = sym (c .before .before .before .before .before .before .before .before .before .before .before .goes-on .ensures) ∙ c .before .before .before .before .before .before .before .before .before .before .if1 .taken in
+    let some = goes-some (at .at) on in
+    let unstopped = goes-unstopped (at .at) on in
     record {
-      run = done .ensures .0 ∙ at .inv .run;
-      leaping = done .ensures .1 .0;
-      bound = done .ensures .1 .1 .0;
+      run = (later-run (at .memory) (now (root .clocks)) (now (root .codes)) (at .times) (at .words) _ _ _ (at .at) (done .result) (at .inv .leaping) some unstopped (at .inv .bound) (done .ensures .0) (done .ensures .1 .0) (done .ensures .1 .1)) ∙ at .inv .run;
+      leaping = (later-leaping (at .memory) (now (root .clocks)) (now (root .codes)) (at .times) (at .words) _ _ _ (at .at) (done .result) (at .inv .leaping) some unstopped (at .inv .bound) (done .ensures .0) (done .ensures .1 .0) (done .ensures .1 .1));
+      bound = (later-bound (at .memory) (now (root .clocks)) (now (root .codes)) (at .times) (at .words) _ _ _ (at .at) (done .result) (at .inv .leaping) some unstopped (at .inv .bound) (done .ensures .0) (done .ensures .1 .0) (done .ensures .1 .1)) .0;
       memory-kept = done .kept .1 .0 ∙ at .inv .memory-kept;
       times-kept = done .kept .1 .1 .1 .1 .0 ∙ at .inv .times-kept;
       words-kept = done .kept .1 .1 .1 .1 .1 .0 ∙ at .inv .words-kept;

@@ -1,4 +1,3 @@
-use Rattle.run.proofs.Runs.{later-run, later-leaping, later-bound}
 use Rattle.words.proofs.Cond.{digit-le}
 use lib.Dec.{ltb}
 use native.Mathlib.Omega.{arith}
@@ -52,22 +51,7 @@ same-length-3 c = search needs
 -- src/lib.rt:99:1
 returns : tie.Need-returns
 returns c =
-    let root = c .before .before .before .before .before .before .before .before .before .before .before .before .before .before .before .before .before .before .before .before .before .before in
-    let memory = now (root .args .memory) in
-    let clocks = now (root .args .clocks) in
-    let codes = now (root .args .codes) in
-    let times = now (root .args .times) in
-    let words = now (root .args .words) in
-    let at = root .args .at in
-    let q = c .before .before .before .before .before .before .before .before .before .leap .result in
-    let gap = c .before .before .before .before .before .before .before .before .before .before .before .before .before .gap-from .result in
-    rw (c .before .left-after .ensures, c .before .before .leaps-from .ensures) (
-      later-run memory clocks codes times words _ _ _ at q gap (root .pre .0) (root .pre .1 .0 .0) (root .pre .1 .0 .1) (root .pre .1 .1 .0) (c .before .before .before .before .before .before .before .before .before .before .before .before .before .gap-from .ensures) (c .before .before .before .before .before .before .before .before .before .leap .ensures),
-      (
-        later-leaping memory clocks codes times words _ _ _ at q gap (root .pre .0) (root .pre .1 .0 .0) (root .pre .1 .0 .1) (root .pre .1 .1 .0) (c .before .before .before .before .before .before .before .before .before .before .before .before .before .gap-from .ensures) (c .before .before .before .before .before .before .before .before .before .leap .ensures),
-        later-bound memory clocks codes times words _ _ _ at q gap (root .pre .0) (root .pre .1 .0 .0) (root .pre .1 .0 .1) (root .pre .1 .1 .0) (c .before .before .before .before .before .before .before .before .before .before .before .before .before .gap-from .ensures) (c .before .before .before .before .before .before .before .before .before .leap .ensures),
-      ),
-    )
+    (c .before .before .before .before .before .before .before .before .before .leap .ensures, (rw (c .before .left-after .ensures, c .before .before .before .before .before .before .before .before .before .before .before .before .before .gap-from .ensures), rw (c .before .before .leaps-from .ensures)))
 
 pub leap-once-spec : {M : Type 1} → statement M
 leap-once-spec =
