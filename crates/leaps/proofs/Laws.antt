@@ -8,7 +8,7 @@ use native.Mathlib.Omega.{arith}
 use lib.Dec.{ltb}
 use borrow.Author.Tests.{ltb-true, ltb-false, lt-ltb, le-ltb}
 use Rattle.words.proofs.Cond.{and-left, and-right, digit-not}
-use Rattle.leaps.specs.Leaps.{System, eventsIn, quietEnd, plains, leapOf, movedOf, leftAfter, leapsOf, run, trail, leapCount}
+use Rattle.leaps.specs.Leaps.{System, eventsIn, quietEnd, plains, leapOf, movedOf, leftAfter, leapsOf, run, trail, leapCount, leadingQuiet}
 
 -- what is asked of a machine
 pub record Lawful {W : Type 0} (S : System W) : Type 0 where
@@ -49,6 +49,11 @@ events-quiets : (g : ℕ) (later : List Bool) → eventsIn (quiets g later) ≡ 
 unfolding eventsIn
 events-quiets zero later = refl
 events-quiets (suc g) later = zero-add (eventsIn (quiets g later)) ∙ events-quiets g later
+
+leading-quiets : (g : ℕ) (later : List Bool) → leadingQuiet (quiets g later) ≡ g + leadingQuiet later
+unfolding leadingQuiet
+leading-quiets zero later = sym (zero-add (leadingQuiet later))
+leading-quiets (suc g) later = ap suc (leading-quiets g later) ∙ sym (suc-add g (leadingQuiet later))
 
 end-quiets : (g : ℕ) (event : Bool) (later : List Bool) → quietEnd (quiets g (event ∷ later)) ≡ quietEnd (event ∷ later)
 unfolding quietEnd
@@ -328,3 +333,25 @@ module _ {W : Type 0} (S : System W) (L : Lawful S) where
     pub run-count : (n : ℕ) (w : W) → Inv w → run S n w .leaps ≡ leapCount S n w
     unfolding run
     run-count n w i = leaps-count n n w (omega arith) i
+
+    -- with no gap the first clock, if it is done, is an event clock
+    no-leading : (m : ℕ) (v : W) → Inv v → S .gap m v ≡ 0 → leadingQuiet (trail S m v) ≡ 0
+    unfolding leadingQuiet trail
+    no-leading zero v i e = refl
+    no-leading (suc m) v i e = by-done (S .done v) refl
+      where
+        by-done : (d : Bool) → S .done v ≡ d → leadingQuiet (trail S (suc m) v) ≡ 0
+        by-done true d = rw (trail-done m v d, gap-event (suc m) v i (omega arith) e)
+        by-done false d = rw (trail-undone (suc m) v d)
+
+    -- "the gap (clocks before the next event clock, at most those left)"
+    pub gap-leads : (n : ℕ) (w : W) → Inv w → S .running w ≡ true → S .gap n w ≡ leadingQuiet (trail S n w)
+    gap-leads n w i z =
+        let g = S .gap n w in
+        let v = S .pass g w in
+        let most = L .gap-le n w in
+        let j : Inv v = subst Inv (plains-pass g n w z (omega arith)) (plains-kept g w i) in
+        let none : S .gap (n - g) v ≡ 0 = L .gap-passed g n w ∙ omega arith in
+        let whole : n ≡ g + (n - g) = omega arith in
+        let shape : trail S n w ≡ quiets g (trail S (n - g) v) = ap (λ (k : ℕ). trail S k w) whole ∙ trail-pass g (n - g) n w z (omega arith) in
+        sym (ap leadingQuiet shape ∙ leading-quiets g (trail S (n - g) v) ∙ ap (λ (k : ℕ). g + k) (no-leading (n - g) v j none) ∙ add-zero g)

@@ -38,6 +38,11 @@ quietEnd [] = 0
 quietEnd (event ∷ []) = digit (not event)
 quietEnd (event ∷ (next ∷ later)) = quietEnd (next ∷ later)
 
+-- the clocks before the first event clock
+unfoldable pub leadingQuiet : List Bool → ℕ
+leadingQuiet [] = 0
+leadingQuiet (event ∷ later) = cond event 0 (suc (leadingQuiet later))
+
 module _ {W : Type 0} (S : System W) where
   -- n plain clocks
   unfoldable pub plains : ℕ → W → W

@@ -102,7 +102,7 @@ module _ (w : World) (room : Room w) (on : w .stop ≡ 0) (n : ℕ) where
       let read : w .read + end .read - w .read ≡ end .read = omega arith in
       let written : w .written + end .written - w .written ≡ end .written = omega arith in
       let leaps : leapCount chip n (lentOf w) ≡ leapCount chip n w =
-            sym (count-whole n w (lentOf w) room) ∙ ap (leapCount chip n) (lent-whole w on) in
+      sym (count-whole n w (lentOf w) room) ∙ ap (leapCount chip n) (lent-whole w on) in
       rw (← whole-end, read, written, leaps)
 
 module _ (c : Call) (w : World) (room : Room w) where

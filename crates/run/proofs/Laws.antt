@@ -7,7 +7,7 @@ use native.Mathlib.Nat.{add-zero}
 use native.Mathlib.Omega.{arith}
 use lib.Dec.{ltb, eqb}
 use lib.ListN.{length, take, drop}
-use borrow.Author.Tests.{eqb-true, eq-eqb, lt-ltb, le-ltb}
+use borrow.Author.Tests.{eqb-true, eq-eqb}
 use Rattle.words.proofs.Cond.{cond-both}
 use Rattle.chip.specs.declared.state.State.{State}
 use Rattle.chip.specs.Pins.{drivenWord}
@@ -18,10 +18,9 @@ use Rattle.processor.specs.declared.Processed.{Processed}
 use Rattle.processor.specs.declared.Processed.the-variants as processed
 use Rattle.processor.specs.Processor.{processorOf, quietly}
 use Rattle.refusals.specs.PinLists.{pinsRight, dueCount}
-use Rattle.words.specs.Bits.{digit}
-use Rattle.leaps.specs.Leaps.{System, eventsIn, quietEnd, trail, leapCount}
+use Rattle.leaps.specs.Leaps.{System, movedOf, trail, leapCount, leadingQuiet}
 use Rattle.machine.specs.Calls.{leapsFrom}
-use Rattle.leaps.proofs.Laws.{Lawful}
+use Rattle.leaps.proofs.Laws.{Lawful, count-one, gap-leads}
 use Rattle.gaps.specs.Events.{eventOf}
 use Rattle.gaps.specs.Gaps.{clocksOf, gapOf, passOf}
 use Rattle.gaps.proofs.Passing.{pass-driven, pass-zero, pass-add, pass-clock}
@@ -145,14 +144,9 @@ no-gap-event n w f h none = gap-event n (w .state) (w .clocks) (w .codes) (f .pi
 
 -- a run of one clock has one leap where the clock moved
 pub single-leaps : (w : World) → leapsFrom (w .state .clock) (plain w .state .clock) ≡ leapCount chip 1 w
-unfolding leapCount trail eventsIn quietEnd
-single-leaps w = by-done (doneIn w) refl
-  where
-    both : (event : Bool) → digit event + 0 + digit (not event) ≡ 1
-    both true = refl
-    both false = refl
+unfolding movedOf
+single-leaps w = sym (count-one chip lawful w)
 
-    by-done : (d : Bool) → doneIn w ≡ d
-        → leapsFrom (w .state .clock) (plain w .state .clock) ≡ leapCount chip 1 w
-    by-done true e = rw (e, done-counts w e, lt-ltb (w .state .clock) (w .state .clock + 1) (omega arith), trail) (sym (both (eventIn w)))
-    by-done false e = rw (e, undone-stays w e .0, le-ltb (w .state .clock) (w .state .clock) (omega arith), trail) refl
+-- "the gap (clocks before the next event clock, at most those left)", of the clocks that plain clocks do
+pub gap-leading : (n : ℕ) (w : World) → Fit w → runningIn w ≡ true → gapOf n (w .state) (w .clocks) .0 ≡ leadingQuiet (trail chip n w)
+gap-leading n w f on = gap-leads chip lawful Fit plain-fits no-gap-event n w f on

@@ -175,11 +175,11 @@ leap-falls-short n w gap e h = rw (← e, le-ltb (gap .0) n h)
 
 -- a leap more of a run
 module _ (memory clocks codes times words memory' times' words' : List ℕ) (at r : Leaped)
-         (l : Leaping (at .progress) (at .left .0) clocks codes times words) (some : 0 < at .left .0) (on : at .progress .stop ≡ 0)
-         (bound : at .leaps + at .left .0 ≤ lastClock)
-         (e : worldOf (r .progress) memory' clocks codes times' words' ≡ leapOf chip (at .left .0) (worldOf (at .progress) memory clocks codes times words))
-         (left : r .left ≡ clocksOf (leftAfter chip (at .left .0) (worldOf (at .progress) memory clocks codes times words)))
-         (leaps : r .leaps ≡ at .leaps + leapsFrom (at .progress .state .clock) (r .progress .state .clock)) where
+    (l : Leaping (at .progress) (at .left .0) clocks codes times words) (some : 0 < at .left .0) (on : at .progress .stop ≡ 0)
+    (bound : at .leaps + at .left .0 ≤ lastClock)
+    (e : worldOf (r .progress) memory' clocks codes times' words' ≡ leapOf chip (at .left .0) (worldOf (at .progress) memory clocks codes times words))
+    (left : r .left ≡ clocksOf (leftAfter chip (at .left .0) (worldOf (at .progress) memory clocks codes times words)))
+    (leaps : r .leaps ≡ at .leaps + leapsFrom (at .progress .state .clock) (r .progress .state .clock)) where
   abbrev before : World
   before = worldOf (at .progress) memory clocks codes times words
 

@@ -1,15 +1,20 @@
 -- P1 to P8 of document 01, "Joints, edges and proved examples", in one table under one theorem: each row cites its crate's definitions.
-use mathlib.Core.Path.{_≡_, refl}
+use mathlib.Core.Path.{_≡_, refl, ap}
 use mathlib.Core.Bool.{Bool, true, false}
 use mathlib.Core.List.{List, [], _∷_}
-use Prim.Native.Nat.{ℕ, _≤_, _<_}
+use Prim.Native.Nat.{ℕ, zero, suc, _≤_, _<_}
+use native.Mathlib.Omega.{arith}
 use lib.ListN.{length, getD, replicate}
 use Rattle.words.specs.Lists.{tabulate}
 use Rattle.opcodes.specs.Decode.{decodeOf, countDefined}
 use Rattle.opcodes.proofs.Laws as opcodes
 use Rattle.alu.specs.Arithmetic.{adcOf}
 use Rattle.alu.proofs.Examples as alu
-use Rattle.counters.specs.Counters.{loadA}
+use Rattle.words.specs.Bits.{low, high, word}
+use Rattle.counters.specs.declared.b.CounterB.{CounterB}
+use Rattle.counters.specs.Counters.{lowerA, upperA, loadA, clockB, downB, reloadB, loadB}
+use Rattle.chip.specs.declared.state.Peripherals.{Peripherals}
+use Rattle.registers.specs.Write.{writeOf, writeCounterA, startA}
 use Rattle.counters.proofs.Examples as counters
 use Rattle.serial.specs.declared.receiver.Receiver.{Receiver}
 use Rattle.serial.specs.Transmitter.{sending, idleTransmitter}
@@ -21,11 +26,37 @@ use Rattle.machine.specs.Fit.{Fit}
 use Rattle.run.specs.Lists.{runFor, calls}
 use Rattle.run.proofs.Cut.{first-half}
 
+-- the underflows of n clocks of counter B in mode 00, first clock first
+abbrev underflowsB : ℕ → CounterB → List Bool
+underflowsB zero c = []
+underflowsB (suc n) c = clockB c 0 false .underflow ∷ underflowsB n (clockB c 0 false .counter)
+
+abbrev counterB : ℕ → ℕ → ℕ → Bool → CounterB
+counterB n b c turn = record { count = n; latchb = b; latchc = c; turnc = turn }
+
+every-clock-b : (n m c : ℕ) (turn : Bool) → underflowsB n (loadB (counterB m 0 c turn)) ≡ replicate n true
+unfolding clockB downB reloadB loadB
+every-clock-b zero m c turn = refl
+every-clock-b (suc n) m c turn = ap (λ l. true ∷ l) (every-clock-b n m c turn)
+
+sixth-clock-b : (m c : ℕ) (turn : Bool) → underflowsB 6 (loadB (counterB m 5 c turn)) ≡ false ∷ false ∷ false ∷ false ∷ false ∷ true ∷ []
+unfolding clockB downB reloadB loadB
+sixth-clock-b m c turn = refl
+
+-- 05h written at 18h and 00h at 1Ah load counter A with 5
+loaded : (p : Peripherals) → writeOf (writeOf p 0x18 5) 0x1A 0 .countera ≡ loadA (counters.counterA 0 5)
+unfolding writeOf writeCounterA startA lowerA upperA loadA
+loaded p =
+    let five : low (word (high (p .countera .latch)) 5) ≡ 5 = omega arith in
+    rw five
+
 pub record Examples : Type 0 where
   -- "L = 0: underflow each clock."
   pub p1 : (n m : ℕ) → counters.underflows n (loadA (counters.counterA m 0)) ≡ replicate n true
-  -- "L = 5 loaded on clock t: underflow on t + 6."
-  pub p2 : (n : ℕ) → counters.underflows 6 (loadA (counters.counterA n 5)) ≡ false ∷ false ∷ false ∷ false ∷ false ∷ true ∷ []
+  pub p1-b : (n m c : ℕ) (turn : Bool) → underflowsB n (loadB (counterB m 0 c turn)) ≡ replicate n true
+  -- "L = 5 loaded on clock t: underflow on t + 6.": the six clocks after the writes of 18h and 1Ah in step 4 of clock t; and counter B
+  pub p2 : (p : Peripherals) → counters.underflows 6 (writeOf (writeOf p 0x18 5) 0x1A 0 .countera) ≡ false ∷ false ∷ false ∷ false ∷ false ∷ true ∷ []
+  pub p2-b : (m c : ℕ) (turn : Bool) → underflowsB 6 (loadB (counterB m 5 c turn)) ≡ false ∷ false ∷ false ∷ false ∷ false ∷ true ∷ []
   -- "decimal 58h + 46h + C: 05h, C."
   pub p3 : (n v i z : Bool) → adcOf 0x58 0x46 (record { n = n; v = v; d = true; i = i; z = z; c = true })
       ≡ record { value = 0x05; status = record { n = true; v = true; d = true; i = i; z = false; c = true } }
@@ -50,7 +81,9 @@ pub record Examples : Type 0 where
 pub examples : Examples
 examples = record {
   p1 = counters.p1;
-  p2 = counters.p2;
+  p1-b = every-clock-b;
+  p2 = λ p. rw (loaded p) (counters.p2 0);
+  p2-b = sixth-clock-b;
   p3 = alu.p3;
   p4 = alu.p4;
   p5-start = serial.p5-start;

@@ -1,14 +1,12 @@
 // The leaping run: from event clock to event clock.
 ghost use mathlib.Core.Path.{_≡_};
-ghost use mathlib.Core.Bool.{true, _&&_};
-ghost use Prim.Native.Nat.{_+_, _-_, _≤_, _<_, _^_};
-ghost use lib.Dec.{ltb, eqb};
+ghost use Prim.Native.Nat.{_+_, _-_, _≤_, _<_};
 ghost use lib.ListN.{length, drop};
 ghost use Rattle.opcodes.specs.Table.{opcodeTable};
 ghost use Rattle.gaps.specs.Gaps.{gapOf, clocksOf};
 ghost use Rattle.machine.specs.World.{worldOf};
 ghost use Rattle.machine.specs.Calls.{handed, begin, leapsFrom};
-ghost use Rattle.leaps.specs.Leaps.{leapOf, leftAfter, movedOf};
+ghost use Rattle.leaps.specs.Leaps.{leapOf, leftAfter};
 ghost use Rattle.run.specs.System.{chip};
 ghost use Rattle.run.specs.Run.{runOf, plainRunOf};
 ghost use Rattle.run.specs.Leap.{passedBy, goesOn, runFrom, runEnded, beginRun, Leaping};
