@@ -39,7 +39,7 @@ handedBack leaps w =
     (w .memory) (w .times) (w .words)
 
 -- 01, Run and leaps, for one clock: "Leaps = event clocks done, plus 1 if the last clock done isn't an event clock; 0 if no clock is
--- done", so 1 where the clock moved
+-- done", so 1 where the clock moved (`single-run` of run/proofs/Fair.antt ties it to the count of a run of 1)
 abbrev pub leapsFrom : ℕ → ℕ → ℕ
 leapsFrom before now = digit (ltb before now)
 

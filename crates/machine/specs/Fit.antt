@@ -1,4 +1,4 @@
--- What demand 3 starts from, and every plain clock keeps: document 01's rules for state, memory and lists.
+-- What a call that is not refused starts from, and every plain clock keeps: document 01's rules for state, memory and lists.
 use mathlib.Core.Path.{_≡_}
 use mathlib.Core.Bool.{true}
 use Prim.Native.Nat.{_≤_}
