@@ -85,15 +85,16 @@ turned goOn (Over x) = x
 turned goOn (Answered r) = goOn r
 
 -- "All its reads and writes happen now, each once": each question is answered in turn, and the instruction worked on with the answer.
--- No instruction asks more than five times, so that what stands for a sixth question is never met (`asks-served`).
-unfoldable pub instructionFrom : ℕ → State → Peripherals → List ℕ → List ℕ → Processed
-instructionFrom zero s p answers memory = Undefined
-instructionFrom (suc n) s p answers memory =
-    turned (λ (r : Reading). instructionFrom n s (r .peripherals) (answers ++ (r .value ∷ [])) memory) (turnOf s p answers memory)
+-- No instruction asks more than five times (`asks-end`): what stands for a sixth question, `spent`, is never met, and may be anything
+-- (`bound-unmet`).
+unfoldable pub instructionFrom : Processed → ℕ → State → Peripherals → List ℕ → List ℕ → Processed
+instructionFrom spent zero s p answers memory = spent
+instructionFrom spent (suc n) s p answers memory =
+    turned (λ (r : Reading). instructionFrom spent n s (r .peripherals) (answers ++ (r .value ∷ [])) memory) (turnOf s p answers memory)
 
 -- "one whole instruction"
 unfoldable pub wholeInstruction : State → List ℕ → Processed
-wholeInstruction s memory = instructionFrom 6 s (s .peripherals) [] memory
+wholeInstruction s memory = instructionFrom Undefined 6 s (s .peripherals) [] memory
 
 -- "IRQ (I clear, IFR AND IER nonzero)"
 unfoldable pub irqDue : State → Bool
