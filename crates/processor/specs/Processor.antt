@@ -18,7 +18,7 @@ use Rattle.registers.specs.Write.{writeOf}
 use Rattle.bus.specs.declared.Registers.{Registers}
 use Rattle.bus.specs.declared.stack.Write.{Write}
 use Rattle.bus.specs.declared.stack.Writes.{Writes}
-use Rattle.bus.specs.Bus.{isRegister}
+use Rattle.bus.specs.Bus.{isRegister, memoryByte}
 use Rattle.bus.specs.Stack.{noWrites}
 use Rattle.operations.specs.declared.Worked.{Worked}
 use Rattle.cpu.specs.declared.Ask.{Ask}
@@ -95,6 +95,12 @@ instructionFrom spent (suc n) s p answers memory =
 -- "one whole instruction"
 unfoldable pub wholeInstruction : State → List ℕ → Processed
 wholeInstruction s memory = instructionFrom Undefined 6 s (s .peripherals) [] memory
+
+-- The opcode is the byte at PC: a register's, a port's by step 1's levels, or the memory's. The instruction is undefined just where this
+-- opcode is (`undefined-opcode`, `defined-opcode`).
+unfoldable pub opcodeAt : State → List ℕ → ℕ
+opcodeAt s memory =
+    cond (isRegister (s .cpu .pc)) (registerValue (s .peripherals) (s .last .ports) false (s .cpu .pc)) (memoryByte memory (s .cpu .pc))
 
 -- "IRQ (I clear, IFR AND IER nonzero)"
 unfoldable pub irqDue : State → Bool
