@@ -13,20 +13,21 @@ use Rattle.cpu.specs.declared.Outcome.the-variants as outcome
 use Rattle.cpu.specs.Instruction.{instructionOf}
 use Rattle.cpu.proofs.Laws.{asks-end}
 use Rattle.processor.specs.declared.Processed.{Processed}
+use Rattle.processor.specs.declared.Processed.the-variants.{Undefined}
 use Rattle.processor.specs.declared.Turn.{Turn}
 use Rattle.processor.specs.declared.Turn.the-variants.{Over, Answered}
 use Rattle.processor.specs.Processor.{registersOf, turnBy, turned, turnOf, instructionFrom, wholeInstruction}
 
-module _ (s : State) (p : Peripherals) (answers memory : List ℕ) where
+module _ (spent : Processed) (s : State) (p : Peripherals) (answers memory : List ℕ) where
   -- the last turn
-  pub turn-over : (n : ℕ) (x : Processed) → 0 < n → turnOf s p answers memory ≡ Over x → instructionFrom n s p answers memory ≡ x
+  pub turn-over : (n : ℕ) (x : Processed) → 0 < n → turnOf s p answers memory ≡ Over x → instructionFrom spent n s p answers memory ≡ x
   unfolding instructionFrom
   turn-over zero x h e = absurd (omega arith)
   turn-over (suc n) x h e = rw (e)
 
   -- a turn with a question
   pub turn-answered : (n m : ℕ) (r : Reading) → n ≡ suc m → turnOf s p answers memory ≡ Answered r
-      → instructionFrom n s p answers memory ≡ instructionFrom m s (r .peripherals) (answers ++ (r .value ∷ [])) memory
+      → instructionFrom spent n s p answers memory ≡ instructionFrom spent m s (r .peripherals) (answers ++ (r .value ∷ [])) memory
   unfolding instructionFrom
   turn-answered n m r h e = rw (h, e)
 
@@ -43,17 +44,19 @@ module _ (s : State) (p : Peripherals) (answers memory : List ℕ) (goOn goOn' :
       by-outcome (outcome.Asked q) e = same q _ e
       by-outcome (outcome.Done w) e = refl
 
--- with five answers a turn is the last, so that a larger bound changes nothing
-more-turns : (k n : ℕ) (s : State) (p : Peripherals) (answers memory : List ℕ) → 6 ≤ suc n + length answers
-    → instructionFrom (suc (n + k)) s p answers memory ≡ instructionFrom (suc n) s p answers memory
+-- with five answers a turn is the last, so that neither a larger bound nor what stands for a spent one changes anything
+more-turns : (spent other : Processed) (k n : ℕ) (s : State) (p : Peripherals) (answers memory : List ℕ) → 6 ≤ suc n + length answers
+    → instructionFrom spent (suc (n + k)) s p answers memory ≡ instructionFrom other (suc n) s p answers memory
 unfolding instructionFrom
-more-turns k zero s p answers memory h =
+more-turns spent other k zero s p answers memory h =
     same-turn s p answers memory _ _ (λ q r e. absurd (asks-end (registersOf (s .cpu)) answers memory (omega arith) q e))
-more-turns k (suc n) s p answers memory h =
+more-turns spent other k (suc n) s p answers memory h =
     same-turn s p answers memory _ _
-    (λ q r e. (let m : suc n + k ≡ suc (n + k) = omega arith in rw m (more-turns k n s (r .peripherals) (answers ++ (r .value ∷ [])) memory (rw (length-append answers (r .value ∷ [])) (omega arith)))))
+    (λ q r e. (let m : suc n + k ≡ suc (n + k) = omega arith in rw m (more-turns spent other k n s (r .peripherals) (answers ++ (r .value ∷ [])) memory (rw (length-append answers (r .value ∷ [])) (omega arith)))))
 
 -- no instruction asks more than five times: what stands for a sixth question is never met
-pub asks-served : (k : ℕ) (s : State) (memory : List ℕ) → instructionFrom (6 + k) s (s .peripherals) [] memory ≡ wholeInstruction s memory
+pub bound-unmet :
+    (spent : Processed) (k : ℕ) (s : State) (memory : List ℕ) → instructionFrom spent (6 + k) s (s .peripherals) [] memory ≡ wholeInstruction s memory
 unfolding wholeInstruction
-asks-served k s memory = let e : 6 + k ≡ suc (5 + k) = omega arith in rw e (more-turns k 5 s (s .peripherals) [] memory (omega arith))
+bound-unmet spent k s memory =
+    let e : 6 + k ≡ suc (5 + k) = omega arith in rw e (more-turns spent Undefined k 5 s (s .peripherals) [] memory (omega arith))

@@ -91,7 +91,7 @@ module _ (s : State) (memory : List ℕ) (Q : Peripherals → Type 0) (P : Next 
       by-outcome (outcome.Asked ask) e = on _ (reads p (ask .address) q)
       by-outcome (outcome.Done w) e = ends (s .due) p w q (done-fits (registersOf (s .cpu)) answers memory w e)
 
-  instruction-ends : (n : ℕ) (p : Peripherals) (answers : List ℕ) → Q p → Ends P (instructionFrom n s p answers memory)
+  instruction-ends : (n : ℕ) (p : Peripherals) (answers : List ℕ) → Q p → Ends P (instructionFrom Undefined n s p answers memory)
   unfolding instructionFrom
   instruction-ends zero p answers q = tt
   instruction-ends (suc n) p answers q =

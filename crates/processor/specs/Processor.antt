@@ -18,7 +18,7 @@ use Rattle.registers.specs.Write.{writeOf}
 use Rattle.bus.specs.declared.Registers.{Registers}
 use Rattle.bus.specs.declared.stack.Write.{Write}
 use Rattle.bus.specs.declared.stack.Writes.{Writes}
-use Rattle.bus.specs.Bus.{isRegister}
+use Rattle.bus.specs.Bus.{isRegister, memoryByte}
 use Rattle.bus.specs.Stack.{noWrites}
 use Rattle.operations.specs.declared.Worked.{Worked}
 use Rattle.cpu.specs.declared.Ask.{Ask}
@@ -85,15 +85,22 @@ turned goOn (Over x) = x
 turned goOn (Answered r) = goOn r
 
 -- "All its reads and writes happen now, each once": each question is answered in turn, and the instruction worked on with the answer.
--- No instruction asks more than five times, so that what stands for a sixth question is never met (`asks-served`).
-unfoldable pub instructionFrom : ℕ → State → Peripherals → List ℕ → List ℕ → Processed
-instructionFrom zero s p answers memory = Undefined
-instructionFrom (suc n) s p answers memory =
-    turned (λ (r : Reading). instructionFrom n s (r .peripherals) (answers ++ (r .value ∷ [])) memory) (turnOf s p answers memory)
+-- No instruction asks more than five times (`asks-end`): what stands for a sixth question, `spent`, is never met, and may be anything
+-- (`bound-unmet`).
+unfoldable pub instructionFrom : Processed → ℕ → State → Peripherals → List ℕ → List ℕ → Processed
+instructionFrom spent zero s p answers memory = spent
+instructionFrom spent (suc n) s p answers memory =
+    turned (λ (r : Reading). instructionFrom spent n s (r .peripherals) (answers ++ (r .value ∷ [])) memory) (turnOf s p answers memory)
 
 -- "one whole instruction"
 unfoldable pub wholeInstruction : State → List ℕ → Processed
-wholeInstruction s memory = instructionFrom 6 s (s .peripherals) [] memory
+wholeInstruction s memory = instructionFrom Undefined 6 s (s .peripherals) [] memory
+
+-- The opcode is the byte at PC: a register's, a port's by step 1's levels, or the memory's. The instruction is undefined just where this
+-- opcode is (`undefined-opcode`, `defined-opcode`).
+unfoldable pub opcodeAt : State → List ℕ → ℕ
+opcodeAt s memory =
+    cond (isRegister (s .cpu .pc)) (registerValue (s .peripherals) (s .last .ports) false (s .cpu .pc)) (memoryByte memory (s .cpu .pc))
 
 -- "IRQ (I clear, IFR AND IER nonzero)"
 unfoldable pub irqDue : State → Bool

@@ -6,6 +6,7 @@ use native.Mathlib.Numerals.{add-one}
 use lib.ListN.{length, take, length-set}
 use lib.Seq.{length-take-le, take-suc-set}
 use borrow.Author.Needs.{needs}
+use Rattle.processor.specs.declared.Processed.the-variants.{Undefined}
 use Rattle.processor.specs.Processor.{instructionFrom}
 use Rattle.processor.proofs.Asks.{turn-over, turn-answered}
 use Rattle.processor.proofs.whole_instruction.Statement.{statement}
@@ -16,7 +17,7 @@ use Rattle.processor.proofs.take_turn.Reads as take-turn-reads
 
 abbrev Inv-loop : tie.InvT-loop
 Inv-loop s memory entries answers₀ peripherals₀ count₀ answers peripherals count =
-    (count ≤ 6) × (length answers ≡ 6) × (instructionFrom (6 - count) s peripherals (take count answers) memory ≡ wholeInstruction s memory)
+    (count ≤ 6) × (length answers ≡ 6) × (instructionFrom Undefined (6 - count) s peripherals (take count answers) memory ≡ wholeInstruction s memory)
 
 abbrev μ-loop : tie.MeasureT-loop
 μ-loop s memory entries answers₀ peripherals₀ count₀ answers peripherals count = 6 - count
@@ -48,7 +49,7 @@ returns c =
     let at = c .before .before .before .before .before .before .loop in
     let left : 0 < 6 - at .count = omega arith in
     let over = sym (c .before .before .before .take-turn .ensures) ∙ c .before .turned .given .1 in
-    sym (turn-over _ _ _ _ _ _ left over) ∙ at .inv .2
+    sym (turn-over _ _ _ _ _ _ _ left over) ∙ at .inv .2
 
 -- src/lib.rt:153:28
 enum-known-turned-2 : tie.Need-enum-known-turned-2 Inv-loop μ-loop
@@ -73,7 +74,7 @@ loop-again c =
     let left : 6 - at .count ≡ suc (6 - suc (at .count)) = omega arith in
     let room : at .count < length (at .answers) = rw (at .inv .1) (omega arith) in
     let asked = sym (c .before .before .before .before .take-turn .ensures) ∙ c .before .before .turned2 .given .1 in
-    (omega arith, rw (length-set (at .answers) (at .count) (c .before .before .turned2 .given .0 .0 .value)) (at .inv .1), rw (add-one (at .count), take-suc-set (at .answers) (at .count) _ room) (sym (turn-answered _ _ _ _ _ _ _ left asked) ∙ at .inv .2))
+    (omega arith, rw (length-set (at .answers) (at .count) (c .before .before .turned2 .given .0 .0 .value)) (at .inv .1), rw (add-one (at .count), take-suc-set (at .answers) (at .count) _ room) (sym (turn-answered _ _ _ _ _ _ _ _ left asked) ∙ at .inv .2))
 
 -- src/lib.rt:140:1
 returns-2 : tie.Need-returns-2 Inv-loop μ-loop
