@@ -12,8 +12,8 @@
 use chip::state::fresh_state;
 use libc::STDIN_FILENO;
 use machine::Progress;
-use print::print_end;
-use print::print_records;
+use records::print_end;
+use records::print_records;
 use scenario::INPUTS;
 use scenario::RECORDS;
 use scenario::SETTINGS_MARK;
@@ -25,7 +25,6 @@ ghost use mathlib.Core.Path.{_≡_};
 ghost use Prim.Native.Nat.{_≤_};
 ghost use lib.ListN.{length};
 
-mod print; // print.rt: the lines of a scenario's outcome
 mod scenario; // scenario.rt: the parts of a scenario's text
 
 // What a scenario comes to: the clocks done, the records written, and the number that ended it, or 0.

@@ -2,8 +2,8 @@ use Prim.Native.Nat.{_≤_}
 use mathlib.Core.Path.{_≡_, sym}
 use lib.ListN.{length}
 use borrow.Author.Needs.{needs}
-use Rattle.single_clocks.proofs.print.print_word.Statement.{statement}
-use Rattle.single_clocks.proofs.print.print_word.Tie as tie
+use Rattle.records.proofs.print_word.Statement.{statement}
+use Rattle.records.proofs.print_word.Tie as tie
 
 abbrev Inv-loop : tie.InvT-loop
 Inv-loop word text₀ rest₀ i₀ text rest i = (i ≤ 8) × (length text ≡ 8)

@@ -1,7 +1,7 @@
 use Prim.Native.Nat.{_-_, _≤_}
 use borrow.Author.Needs.{needs}
-use Rattle.single_clocks.proofs.print.print_records.Statement.{statement}
-use Rattle.single_clocks.proofs.print.print_records.Tie as tie
+use Rattle.records.proofs.print_records.Statement.{statement}
+use Rattle.records.proofs.print_records.Tie as tie
 
 abbrev Inv-loop : tie.InvT-loop
 Inv-loop written times words i₀ i = i ≤ written

@@ -1,4 +1,4 @@
-// The lines of a scenario's outcome.
+// What a run of clocks recorded, as lines on standard output.
 use libc::STDOUT_FILENO;
 ghost use Prim.Native.Nat.{_≤_, _<_};
 ghost use lib.ListN.{length};
