@@ -1,4 +1,4 @@
-use mathlib.Core.Path.{sym, _∙_}
+use mathlib.Core.Path.{refl, sym, _∙_}
 use Prim.Native.Nat.{_+_}
 use native.Mathlib.Omega.{arith}
 use lib.Seq.{drop-drop}
@@ -58,7 +58,7 @@ returns : tie.Need-returns
 returns c =
     let root = c .before .before .before .before .before .before .before .before .before .before .before .before .before .before .before in
     rw (c .stop-at .ensures)
-    (plain-stops _ _ (root .pre .0 .stop) (c .before .before .before .before .before .before .before .due-from .ensures) _ (sym (c .before .before .before .before .outcome-from .ensures) ∙ c .before .before .clocked .given .1))
+    (plain-stops _ _ _ (root .pre .0 .stop) (c .before .before .before .before .before .before .before .due-from .ensures) _ (sym (c .before .before .before .before .outcome-from .ensures) ∙ c .before .before .clocked .given .1) refl)
 
 -- src/lib.rt:128:1
 same-length-2 : tie.Need-same-length-2
@@ -78,7 +78,7 @@ returns-2 c =
     let root = c .before .before .before .before .before .before .before .before .before .before .before .before .before .before .before .before .before .before .before .before .before .before .before .before in
     let done = c .before .before .before .before .before .before .complete .ensures in
     rw (done .0, done .1 .0, done .1 .1 .0, done .1 .1 .1, ← (drop-drop (c .before .before .before .before .before .before .before .before .before .before .before .before .before .before .before .before .due-from .result) (root .args .p .read) (now (root .args .clocks))), ← (drop-drop (c .before .before .before .before .before .before .before .before .before .before .before .before .before .before .before .before .due-from .result) (root .args .p .read) (now (root .args .codes))))
-    (plain-moves _ _ (root .pre .0 .stop) (c .before .before .before .before .before .before .before .before .before .before .before .before .before .before .before .before .due-from .ensures) _ (sym (c .before .before .before .before .before .before .before .before .before .before .before .before .before .outcome-from .ensures) ∙ c .before .before .before .before .before .before .before .before .before .before .before .clocked2 .given .1))
+    (plain-moves _ _ _ (root .pre .0 .stop) (c .before .before .before .before .before .before .before .before .before .before .before .before .before .before .before .before .due-from .ensures) _ (sym (c .before .before .before .before .before .before .before .before .before .before .before .before .before .outcome-from .ensures) ∙ c .before .before .before .before .before .before .before .before .before .before .before .clocked2 .given .1) refl)
 
 pub advance-spec : {M : Type 1} → statement M
 advance-spec =
