@@ -26,7 +26,7 @@ digit8-requires c κs = search needs
 
 -- src/lib.rt:63:1
 returns : tie.Need-returns
-returns c = rw (← (c .before .before .before .flags-fit .ensures), ← (c .before .before .state-of .ensures), ← (c .before .well-formed .ensures), ← (c .digit8 .ensures))
+returns c = rw (c .digit8 .ensures, c .before .well-formed .ensures, c .before .before .state-of .ensures, c .before .before .before .flags-fit .ensures)
 
 pub r6501q-well-formed-spec : {M : Type 1} → statement M
 r6501q-well-formed-spec =

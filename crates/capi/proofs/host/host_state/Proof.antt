@@ -27,7 +27,7 @@ host-levels-requires-2 c κs = search needs
 -- src/host.rt:233:1
 returns : tie.Need-returns
 unfolding hostState
-returns c = rw (← (c .before .before .before .host-due .ensures), ← (c .before .before .host-peripherals .ensures), ← (c .before .host-levels .ensures), ← (c .host-levels2 .ensures))
+returns c = rw (c .host-levels2 .ensures, c .before .host-levels .ensures, c .before .before .host-peripherals .ensures, c .before .before .before .host-due .ensures)
 
 pub host-state-spec : {M : Type 1} → statement M
 host-state-spec =

@@ -27,7 +27,7 @@ levels-of-requires-2 c κs = search needs
 -- src/host.rt:147:1
 returns : tie.Need-returns
 unfolding stateOf
-returns c = rw (← (c .before .before .before .due-of .ensures), ← (c .before .before .peripherals-of .ensures), ← (c .before .levels-of .ensures), ← (c .levels-of2 .ensures))
+returns c = rw (c .levels-of2 .ensures, c .before .levels-of .ensures, c .before .before .peripherals-of .ensures, c .before .before .before .due-of .ensures)
 
 pub state-of-spec : {M : Type 1} → statement M
 state-of-spec =
