@@ -1,5 +1,5 @@
-// Busy firmware: it never waits. Counter A goes round every 1,000 clocks in interval mode; each time its flag is found set,
-// port A is written.
+// Firmware that does ordinary work. Counter A goes round every 1,000 clocks in interval mode; each time its flag is found
+// set, port A is written.
 
 // Where the program begins.
 const START: u16 = 0x0800;

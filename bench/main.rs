@@ -1,9 +1,10 @@
-// How fast the leaping run is, beside repeated single clocks: the same busy firmware by both, in pieces by turns. What they
+// How fast the leaping run is, beside repeated single clocks: the same firmware by both, in pieces by turns. What they
 // hand back, leave in memory and write must be the same.
 mod chip;
 mod firmware;
+mod processor_time;
 
-use std::time::{Duration, Instant};
+use std::time::Duration;
 
 // The clocks of a piece, and the pieces.
 const PIECE: u32 = 1_000_000;
@@ -40,9 +41,15 @@ impl Bench {
 
     // A piece by one run.
     fn run(&mut self) {
-        let begun = Instant::now();
-        let told = chip::run(self.state, &mut self.memory, &mut self.times, &mut self.words, PIECE);
-        self.spent += begun.elapsed();
+        let begun = processor_time::now();
+        let told = chip::run(
+            self.state,
+            &mut self.memory,
+            &mut self.times,
+            &mut self.words,
+            PIECE,
+        );
+        self.spent += processor_time::now() - begun;
         assert_eq!(told.number, 0);
         self.state = told.state;
         self.written = told.written;
@@ -52,7 +59,7 @@ impl Bench {
 
     // A piece by single clocks, each lent the free part of the output lists.
     fn steps(&mut self) {
-        let begun = Instant::now();
+        let begun = processor_time::now();
         let mut written = 0;
         for _ in 0..PIECE {
             let (times, words) = (&mut self.times[written..], &mut self.words[written..]);
@@ -62,7 +69,7 @@ impl Bench {
             written += told.written;
             self.leaps += u64::from(told.leaps);
         }
-        self.spent += begun.elapsed();
+        self.spent += processor_time::now() - begun;
         self.written = written;
         self.records += written;
     }
@@ -82,26 +89,30 @@ fn compare(a: &Bench, b: &Bench) {
     assert_eq!(a.words[..a.written], b.words[..b.written]);
 }
 
+// With no argument both ways are timed and compared. `run` or `step` does that one alone and prints nothing, for a profiler.
 fn main() {
-    let only = std::env::args().nth(1).unwrap_or_default();
+    let alone = std::env::args().nth(1).unwrap_or_default();
     let mut run = Bench::new();
     let mut steps = Bench::new();
     for _ in 0..PIECES {
-        if only != "step" {
+        if alone != "step" {
             run.run();
         }
-        if only != "run" {
+        if alone != "run" {
             steps.steps();
         }
-        if only.is_empty() {
+        if alone.is_empty() {
             compare(&run, &steps);
         }
     }
-    if !only.is_empty() {
+    if !alone.is_empty() {
         return;
     }
     let clocks = u64::from(PIECE) * u64::from(PIECES);
-    println!("{clocks} clocks, {} leaps, {} records", run.leaps, run.records);
+    println!(
+        "{clocks} clocks, {} leaps, {} records",
+        run.leaps, run.records
+    );
     println!("run   {:>12.0} clocks per second", run.speed());
     println!("step  {:>12.0} clocks per second", steps.speed());
     println!("ratio {:>12.2}", run.speed() / steps.speed());
