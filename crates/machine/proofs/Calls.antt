@@ -4,13 +4,13 @@ use mathlib.Core.List.{List}
 use Prim.Native.Nat.{ℕ, _+_, _≤_, _<_}
 use native.Mathlib.Omega.{arith}
 use lib.ListN.{length}
-use borrow.Author.Tests.{eq-eqb}
+use borrow.Author.Tests.{eq-eqb, ne-eqb}
 use Rattle.chip.specs.declared.state.State.{State}
 use Rattle.refusals.specs.Refusals.{lastClock, refusalOf}
 use Rattle.refusals.proofs.Accepted.{accepted}
 use Rattle.machine.specs.declared.Progress.{Progress}
 use Rattle.machine.specs.World.{worldOf, plain, Going}
-use Rattle.machine.specs.Calls.{handed, begin, toldOf, leapsFrom, steppedFrom, refusalIn, stepOf}
+use Rattle.machine.specs.Calls.{handed, begin, refusedWith, toldOf, leapsFrom, steppedFrom, refusalIn, stepOf}
 
 module _ (s : State) (memory clocks codes times words : List ℕ) (good : refusalOf s (length memory) clocks codes (length times) (length words) 1 ≡ 0) where
   -- a call that is not refused may go on
@@ -32,3 +32,10 @@ module _ (s : State) (memory clocks codes times words : List ℕ) (good : refusa
       → handed (toldOf (leapsFrom (s .clock) (p .state .clock)) p) memory' times' words' ≡ stepOf (worldOf (begin s) memory clocks codes times words)
   unfolding stepOf
   steps p memory' times' words' e = rw (eq-eqb _ 0 good) (ap (steppedFrom (s .clock)) e)
+
+-- a call that is refused hands back what it got
+pub refuses : (s : State) (memory clocks codes times words : List ℕ) (number : ℕ)
+    → number ≡ refusalOf s (length memory) clocks codes (length times) (length words) 1 → (number ≡ 0 → ⊥)
+    → handed (refusedWith number s) memory times words ≡ stepOf (worldOf (begin s) memory clocks codes times words)
+unfolding stepOf
+refuses s memory clocks codes times words number e some = rw (← e, ne-eqb number 0 some)

@@ -1,5 +1,6 @@
 -- One plain clock, by what it comes to.
 use mathlib.Core.Path.{_≡_, refl, sym, _∙_}
+use mathlib.Core.Bool.{Bool}
 use mathlib.Core.List.{List}
 use Prim.Native.Nat.{ℕ, _+_, _-_, _≤_}
 use native.Mathlib.Omega.{arith}
@@ -11,18 +12,21 @@ use Rattle.refusals.specs.PinLists.{dueCount}
 use Rattle.refusals.proofs.PinLists.{due-within}
 use Rattle.machine.specs.declared.outcome.Ended.{Ended}
 use Rattle.machine.specs.declared.outcome.Clocked.the-variants.{Stopped, Done}
-use Rattle.machine.specs.World.{World, stoppedAt, movedTo, dueIn, outcomeIn, plain}
+use Rattle.machine.specs.Outcome.{clockOf}
+use Rattle.machine.specs.World.{World, stoppedAt, movedTo, dueIn, plain}
 
-module _ (w : World) (due : ℕ) (on : w .stop ≡ 0) (counted : due ≡ dueIn w) where
+module _ (w : World) (due : ℕ) (free : Bool) (on : w .stop ≡ 0) (counted : due ≡ dueIn w) where
   -- a clock that stops
-  pub plain-stops : (number : ℕ) → outcomeIn w due ≡ Stopped number → stoppedAt number w ≡ plain w
+  pub plain-stops : (number : ℕ) → clockOf (w .state) (take due (w .codes)) (w .memory) free ≡ Stopped number
+      → free ≡ ltb (w .written) (length (w .times)) → stoppedAt number w ≡ plain w
   unfolding plain
-  plain-stops number e = rw (eq-eqb (w .stop) 0 on, ← counted, e)
+  plain-stops number e room = rw (eq-eqb (w .stop) 0 on, ← counted, ← room, e)
 
   -- a clock that is done
-  pub plain-moves : (e : Ended) → outcomeIn w due ≡ Done e → movedTo e due w ≡ plain w
+  pub plain-moves : (e : Ended) → clockOf (w .state) (take due (w .codes)) (w .memory) free ≡ Done e
+      → free ≡ ltb (w .written) (length (w .times)) → movedTo e due w ≡ plain w
   unfolding plain
-  plain-moves ended e = rw (eq-eqb (w .stop) 0 on, ← counted, e)
+  plain-moves ended e room = rw (eq-eqb (w .stop) 0 on, ← counted, ← room, e)
 
 -- the part of a list that begins at an index, as it is lent
 pub lent-part : (l : List ℕ) (n : ℕ) → take (length l - n) (drop n l) ≡ drop n l

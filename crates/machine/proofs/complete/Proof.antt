@@ -1,3 +1,4 @@
+use mathlib.Core.Path.{refl}
 use native.Mathlib.Omega.{arith}
 use Rattle.machine.specs.World.{putRecord}
 use Rattle.machine.specs.Outcome.{committed}
@@ -45,7 +46,7 @@ same-length-3 c = search needs
 -- src/lib.rt:77:1
 returns : tie.Need-returns
 returns c =
-    (rw (c .written-after .ensures), (c .before .before .before .before .before .before .before .before .before .before .before .before .commit .ensures, (c .before .before .before .before .before .before .before .before .put-record .ensures, c .before .before .before .before .put-record2 .ensures)))
+    (rw (c .written-after .ensures) refl, (c .before .before .before .before .before .before .before .before .before .before .before .before .commit .ensures, (c .before .before .before .before .before .before .before .before .put-record .ensures, c .before .before .before .before .put-record2 .ensures)))
 
 pub complete-spec : {M : Type 1} → statement M
 complete-spec =

@@ -1,8 +1,6 @@
 use mathlib.Core.Path.{sym, _∙_}
 use denote.Ref.{now}
-use Rattle.machine.proofs.Calls.{begins, steps}
-use Rattle.machine.specs.Calls.{stepOf}
-use borrow.Author.Tests.{lt-ltb, le-ltb, le-leb, lt-leb, eq-eqb, ne-eqb}
+use Rattle.machine.proofs.Calls.{begins, steps, refuses}
 use borrow.Author.Needs.{needs}
 use Rattle.machine.proofs.step.Statement.{statement}
 use Rattle.machine.proofs.step.Tie as tie
@@ -26,8 +24,10 @@ refused-requires c κs = search needs
 
 -- src/lib.rt:157:9
 returns : tie.Need-returns
-unfolding stepOf
-returns c = rw (← (c .before .before .refusal .ensures), ← (c .refused .ensures), ne-eqb _ _ (c .before .if1 .taken))
+returns c =
+    let root = c .before .before .before .before .before .before .before .before .args in
+    rw (c .refused .ensures)
+    (refuses (root .state) (now (root .memory)) (now (root .clocks)) (now (root .codes)) (now (root .times)) (now (root .words)) _ (c .before .before .refusal .ensures) (c .before .if1 .taken))
 
 -- src/lib.rt:159:19
 opcode-table-requires : tie.Need-opcode-table-requires

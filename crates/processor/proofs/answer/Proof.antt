@@ -1,4 +1,5 @@
 use Rattle.processor.specs.Processor.{answerOf}
+use mathlib.Core.Path.{refl}
 use borrow.Author.Needs.{needs}
 use Rattle.processor.proofs.answer.Statement.{statement}
 use Rattle.processor.proofs.answer.Tie as tie
@@ -23,7 +24,7 @@ after-read-requires c κs = search needs
 -- src/lib.rt:99:1
 returns : tie.Need-returns
 unfolding answerOf
-returns c = rw (← (c .before .before .registers-after .ensures), ← (c .before .value .ensures), ← (c .after-read .ensures))
+returns c = rw (c .after-read .ensures, c .before .value .ensures, c .before .before .registers-after .ensures) refl
 
 pub answer-spec : {M : Type 1} → statement M
 answer-spec =

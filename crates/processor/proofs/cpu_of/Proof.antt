@@ -1,3 +1,4 @@
+use mathlib.Core.Path.{refl}
 use borrow.Author.Needs.{needs}
 use Rattle.processor.proofs.cpu_of.Statement.{statement}
 use Rattle.processor.proofs.cpu_of.Tie as tie
@@ -16,7 +17,7 @@ one-fewer-requires c κs = search needs
 
 -- src/lib.rt:64:1
 returns : tie.Need-returns
-returns c = rw (← (c .before .pack .ensures), ← (c .one-fewer .ensures))
+returns c = rw (c .before .pack .ensures, ← (c .one-fewer .ensures)) refl
 
 pub cpu-of-spec : {M : Type 1} → statement M
 cpu-of-spec = tie.close (tie.spec pack-requires one-fewer-requires returns)

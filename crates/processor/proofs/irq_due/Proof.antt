@@ -1,4 +1,5 @@
 use Rattle.processor.specs.Processor.{irqDue}
+use mathlib.Core.Path.{refl}
 use borrow.Author.Needs.{needs}
 use Rattle.processor.proofs.irq_due.Statement.{statement}
 use Rattle.processor.proofs.irq_due.Tie as tie
@@ -13,7 +14,7 @@ flags-requires c κs = search needs
 -- src/lib.rt:164:1
 returns : tie.Need-returns
 unfolding irqDue
-returns c = rw (← (c .before .before .flags .ensures))
+returns c = rw (c .before .before .flags .ensures) refl
 
 pub irq-due-spec : {M : Type 1} → statement M
 irq-due-spec = tie.close (tie.spec flags-requires returns)

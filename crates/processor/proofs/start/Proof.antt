@@ -1,4 +1,7 @@
 use Rattle.processor.specs.Processor.{startOf}
+use mathlib.Core.Path.{ap}
+use Rattle.words.proofs.Cond.{cond-yes, cond-no}
+use Rattle.processor.specs.declared.Processed.the-variants.{Done}
 use borrow.Author.Needs.{needs}
 use Rattle.processor.proofs.start.Statement.{statement}
 use Rattle.processor.proofs.start.Tie as tie
@@ -17,7 +20,7 @@ start-reset-requires c κs = search needs
 -- src/lib.rt:206:9
 returns : tie.Need-returns
 unfolding startOf
-returns c = rw (← (c .start-reset .ensures), c .before .if1 .taken)
+returns c = rw (cond-yes _ _ _ (c .before .if1 .taken)) (ap Done (search needs))
 
 -- src/lib.rt:209:32
 start-nmi-requires : tie.Need-start-nmi-requires
@@ -26,7 +29,7 @@ start-nmi-requires c κs = search needs
 -- src/lib.rt:209:9
 returns-2 : tie.Need-returns-2
 unfolding startOf
-returns-2 c = rw (← (c .start-nmi .ensures), c .before .if2 .taken, c .before .before .if1 .left)
+returns-2 c = rw (cond-no _ _ _ (c .before .before .if1 .left), cond-yes _ _ _ (c .before .if2 .taken)) (ap Done (search needs))
 
 -- src/lib.rt:211:8
 irq-due-requires : tie.Need-irq-due-requires

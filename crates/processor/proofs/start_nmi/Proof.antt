@@ -1,4 +1,5 @@
 use Rattle.processor.specs.Processor.{nmiStart}
+use mathlib.Core.Path.{refl}
 use borrow.Author.Needs.{needs}
 use Rattle.processor.proofs.start_nmi.Statement.{statement}
 use Rattle.processor.proofs.start_nmi.Tie as tie
@@ -23,7 +24,7 @@ next-state-requires c κs = search needs
 -- src/lib.rt:182:1
 returns : tie.Need-returns
 unfolding nmiStart
-returns c = rw (← (c .before .before .registers-of .ensures), ← (c .before .interrupt-entry .ensures), ← (c .next-state .ensures))
+returns c = rw (c .next-state .ensures, c .before .interrupt-entry .ensures, c .before .before .registers-of .ensures) refl
 
 pub start-nmi-spec : {M : Type 1} → statement M
 start-nmi-spec =

@@ -1,4 +1,5 @@
 use Rattle.machine.specs.Outcome.{clockOf}
+use mathlib.Core.Path.{refl, _∙_}
 use borrow.Author.Needs.{needs}
 use Rattle.machine.proofs.outcome.clock.Statement.{statement}
 use Rattle.machine.proofs.outcome.clock.Tie as tie
@@ -40,12 +41,12 @@ finish-requires c κs = search needs
 -- src/outcome.rt:52:1
 returns : tie.Need-returns
 unfolding clockOf
-returns c = rw (← (c .before .before .before .before .driven-word .ensures), ← (c .before .before .before .ready .ensures), ← (c .before .before .process .ensures), c .enum-told .given .1)
+returns c = rw (← (c .before .before .before .before .driven-word .ensures), ← (c .before .before .before .ready .ensures), ← (c .before .before .process .ensures), c .enum-told .given .1) refl
 
 -- src/outcome.rt:52:1
 returns-2 : tie.Need-returns-2
 unfolding clockOf
-returns-2 c = rw (c .finish .ensures, c .before .driven-word2 .ensures, ← (c .before .before .before .before .before .before .before .driven-word .ensures), ← (c .before .before .before .before .before .before .ready .ensures), ← (c .before .before .before .before .before .process .ensures), c .before .before .before .processed .given .1)
+returns-2 c = c .finish .ensures ∙ rw (c .before .driven-word2 .ensures, ← (c .before .before .before .before .before .before .before .driven-word .ensures), ← (c .before .before .before .before .before .before .ready .ensures), ← (c .before .before .before .before .before .process .ensures), c .before .before .before .processed .given .1) refl
 
 pub clock-spec : {M : Type 1} → statement M
 clock-spec =

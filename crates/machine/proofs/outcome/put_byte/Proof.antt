@@ -1,3 +1,4 @@
+use mathlib.Core.Path.{refl}
 use lib.Seq.{set-out}
 use Rattle.machine.specs.Outcome.{putByte}
 use borrow.Author.Tests.{lt-ltb, le-ltb, le-leb, lt-leb, eq-eqb, ne-eqb}
@@ -27,7 +28,7 @@ same-length c = search needs
 -- src/outcome.rt:69:1
 returns : tie.Need-returns
 unfolding putByte
-returns c = rw (← (c .before .before .is-register .ensures), c .before .if1 .taken)
+returns c = rw (← (c .before .before .is-register .ensures), c .before .if1 .taken) refl
 
 -- src/outcome.rt:69:1
 returns-2 : tie.Need-returns-2
