@@ -1,6 +1,7 @@
 use mathlib.Core.Path.{refl, sym, _∙_}
-use Prim.Native.Nat.{_+_}
+use Prim.Native.Nat.{_+_, _≤_}
 use native.Mathlib.Omega.{arith}
+use lib.ListN.{length}
 use lib.Seq.{drop-drop}
 use denote.Ref.{now}
 use Rattle.machine.proofs.Worlds.{plain-stops, plain-moves, due-fits}
@@ -46,8 +47,9 @@ complete-requires : tie.Need-complete-requires
 complete-requires c κs =
     let root = c .before .before .before .before .before .before .before .before .before .before .before .before .before .before .before .before .before in
     let going = root .pre .0 in
-    let fits = due-fits (root .args .p .state .clock + 1) _ (now (root .args .clocks)) (now (root .args .codes)) (going .read) (going .inputs) in
-    (omega (arith, fits, root .good, c .before .before .before .before .before .before .before .before .before .due-from .ensures), omega (arith, going .written, root .good))
+    let due = c .before .before .before .before .before .before .before .before .before .due-from in
+    let fits : root .args .p .read + due .result ≤ length (now (root .args .codes)) = rw (due .ensures) (due-fits _ _ (now (root .args .clocks)) (now (root .args .codes)) (going .read) (going .inputs)) in
+    (omega (arith, fits, root .good), omega (arith, going .written, root .good))
 
 -- src/lib.rt:128:1
 same-length : tie.Need-same-length

@@ -1,4 +1,4 @@
-use mathlib.Core.Path.{sym}
+use mathlib.Core.Path.{refl, sym}
 use native.Mathlib.Nat.{add-zero}
 use borrow.Author.Needs.{needs}
 use Rattle.machine.proofs.written_after.Statement.{statement}
@@ -12,7 +12,7 @@ add-result c = search needs
 
 -- src/lib.rt:51:1
 returns : tie.Need-returns
-returns c = rw (c .if1 .taken)
+returns c = rw (c .if1 .taken) refl
 
 -- src/lib.rt:51:1
 returns-2 : tie.Need-returns-2
