@@ -2,26 +2,10 @@
 // loader hands back, in decimal, then the bytes at 3Fh, 40h, 0200h and FFFDh of that memory, in hex.
 use libc::STDIN_FILENO;
 use libc::STDOUT_FILENO;
-ghost use Prim.Native.Nat.{_≤_};
-ghost use lib.ListN.{length};
+use marks::next_mark;
 
 // Stands between two tapes: neither `;` nor a digit.
 const SEPARATOR: u8 = b'=';
-
-// The index of the first separator from `from` on, or the text's length.
-fn tape_end(text: &[u8], from: usize) -> usize
-    requires { ⌜ from ≤ length (now text) ⌝ }
-    ensures { λ r. ⌜ (from ≤ r) × (r ≤ length (now (text .entry))) ⌝ }
-{
-    let mut i = from;
-    while i < text.len() {
-        if text[i] == SEPARATOR {
-            return i;
-        }
-        i += 1;
-    }
-    i
-}
 
 fn print_byte(b: u8) {
     io::write_all(STDOUT_FILENO, b" ");
@@ -44,7 +28,7 @@ fn print_load(tape: &[u8]) {
 fn print_tapes(text: &[u8]) {
     let mut from = 0;
     while from <= text.len() {
-        let end = tape_end(text, from);
+        let end = next_mark(text, from, SEPARATOR);
         print_load(&text[from..end]);
         from = end + 1;
     }

@@ -1,8 +1,17 @@
-// Replays the tape on standard input, of which the first 16,384 characters count, and prints each change of the driven word.
+// Replays the tape on standard input: loads it into a memory of zeros, runs 100 clocks from fresh, no inputs, and prints a line
+// `clock WORD` for each record, then `end K S`: K clocks done, and S the number that ended them or refused the tape, or 0.
 use libc::STDIN_FILENO;
+use libc::STDOUT_FILENO;
+use replaying::TEXT_LENGTH;
+use replaying::replay;
+
+// The most characters of a tape; what follows them is not read.
+const TAPE_LENGTH: usize = 16384;
 
 fn main() {
-    let mut text = [0u8; 16384];
-    let got = io::read_full(STDIN_FILENO, &mut text);
-    replaying::replay(&text[..got]);
+    let mut tape = [0u8; TAPE_LENGTH];
+    let got = io::read_full(STDIN_FILENO, &mut tape);
+    let mut text = [0u8; TEXT_LENGTH];
+    let put = replay(&tape[..got], &mut text);
+    io::write_all(STDOUT_FILENO, &text[..put]);
 }

@@ -1,42 +1,35 @@
-// Replays tapes from standard input, one after another, as `replay` does with one: document 01's example, damaged copies of it (8: no
-// digit; 9: check sum; 10: wrong count, last record missing), no tape at all, firmware that stops at an undefined opcode on clock
-// 13, a pulse train on PA4 (counter A in mode 01 with latch 0), and a count on port B. 100 clocks need at most 100 records, so that none
-// here can be stopped by a full list. The expected lines were made by an independent plain-clock model, never by this program;
-// those of the example are document 01's, and those of the undefined opcode were worked out by hand (entry on clocks 1 to 7, LDA
-// on 8 and 9, STA from 10 to 12).
+// Replays several tapes from standard input, each as the program `replay` does, and prints what each comes to. A `=` stands between
+// two tapes; lines that begin with `#` are titles, which a tape skips.
+//
+// The expected output was never made by this program. It was worked out from the documents, as the titles say (on which clock an
+// instruction starts, when a counter underflows), and an independent model, written from the documents alone, which does one
+// plain clock after another, gives the same. Stop 7 is not among it: 100 clocks write 100 records at most, and so many are free.
 use libc::STDIN_FILENO;
-ghost use Prim.Native.Nat.{_≤_};
-ghost use lib.ListN.{length};
+use libc::STDOUT_FILENO;
+use marks::next_mark;
+use replaying::TEXT_LENGTH;
+use replaying::replay;
 
 // Stands between two tapes: neither `;` nor a digit.
 const SEPARATOR: u8 = b'=';
 
-// The index of the first separator from `from` on, or the text's length.
-fn tape_end(text: &[u8], from: usize) -> usize
-    requires { ⌜ from ≤ length (now text) ⌝ }
-    ensures { λ r. ⌜ (from ≤ r) × (r ≤ length (now (text .entry))) ⌝ }
-{
-    let mut i = from;
-    while i < text.len() {
-        if text[i] == SEPARATOR {
-            return i;
-        }
-        i += 1;
-    }
-    i
+fn print_replay(tape: &[u8]) {
+    let mut text = [0u8; TEXT_LENGTH];
+    let put = replay(tape, &mut text);
+    io::write_all(STDOUT_FILENO, &text[..put]);
 }
 
-fn replay_tapes(text: &[u8]) {
+fn print_replays(tapes: &[u8]) {
     let mut from = 0;
-    while from <= text.len() {
-        let end = tape_end(text, from);
-        replaying::replay(&text[from..end]);
+    while from <= tapes.len() {
+        let end = next_mark(tapes, from, SEPARATOR);
+        print_replay(&tapes[from..end]);
         from = end + 1;
     }
 }
 
 fn main() {
-    let mut text = [0u8; 16384];
-    let got = io::read_full(STDIN_FILENO, &mut text);
-    replay_tapes(&text[..got]);
+    let mut tapes = [0u8; 16384];
+    let got = io::read_full(STDIN_FILENO, &mut tapes);
+    print_replays(&tapes[..got]);
 }

@@ -11,14 +11,16 @@
 // model": by that model alone.
 use chip::state::fresh_state;
 use libc::STDIN_FILENO;
+use libc::STDOUT_FILENO;
 use machine::Progress;
-use records::print_end;
-use records::print_records;
+use marks::next_mark;
+use records::LINE_LENGTH;
+use records::put_end;
+use records::put_outcome;
 use scenario::INPUTS;
 use scenario::RECORDS;
 use scenario::SETTINGS_MARK;
 use scenario::Settings;
-use scenario::next_mark;
 use scenario::read_inputs;
 use scenario::read_settings;
 ghost use mathlib.Core.Path.{_≡_};
@@ -26,6 +28,9 @@ ghost use Prim.Native.Nat.{_≤_};
 ghost use lib.ListN.{length};
 
 mod scenario; // scenario.rt: the parts of a scenario's text
+
+// The most characters that a scenario prints: a line for each record, and the end line.
+const TEXT_LENGTH: usize = LINE_LENGTH * (RECORDS + 1);
 
 // What a scenario comes to: the clocks done, the records written, and the number that ended it, or 0.
 struct Outcome {
@@ -126,6 +131,29 @@ fn run_clocks(
     }
 }
 
+// The line of a scenario whose tape is refused.
+fn print_refused(number: u8) {
+    let mut text = [0u8; LINE_LENGTH];
+    let put = put_end(0, number, &mut text, 0);
+    io::write_all(STDOUT_FILENO, &text[..put]);
+}
+
+// The lines of a scenario's outcome.
+fn print_outcome(outcome: Outcome, times: &[u32], words: &[u32])
+    requires { ⌜ (outcome .written ≤ length (now times)) × (outcome .written ≤ length (now words)) × (outcome .written ≤ 64) ⌝ }
+{
+    let written = outcome.written;
+    let mut text = [0u8; TEXT_LENGTH];
+    let put = put_outcome(
+        &times[..written],
+        &words[..written],
+        outcome.done,
+        outcome.number,
+        &mut text,
+    );
+    io::write_all(STDOUT_FILENO, &text[..put]);
+}
+
 // Runs a scenario on the lent lists and prints what it comes to.
 fn run_lent(
     limit: u32,
@@ -136,11 +164,10 @@ fn run_lent(
     words: &mut [u32],
 )
     requires { ⌜ length (now clocks) ≡ length (now codes) ⌝ }
-    requires { ⌜ length (now times) ≡ length (now words) ⌝ }
+    requires { ⌜ (length (now times) ≡ length (now words)) × (length (now times) ≤ 64) ⌝ }
 {
     let outcome = run_clocks(limit, memory, clocks, codes, times, words);
-    print_records(outcome.written, times, words);
-    print_end(outcome.done, outcome.number);
+    print_outcome(outcome, times, words);
 }
 
 // Runs a scenario whose tape is loaded; its inputs stand in `text` from `place` on.
@@ -170,7 +197,7 @@ fn run_scenario(text: &[u8], settings: Settings)
     let mut memory = [0u8; 65536];
     let loaded = tape::load(text, &mut memory);
     if loaded.number != 0 {
-        print_end(0, loaded.number);
+        print_refused(loaded.number);
         return;
     }
     run_loaded(&mut memory, text, loaded.place, settings);

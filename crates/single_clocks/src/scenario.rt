@@ -1,4 +1,5 @@
 // The parts of a scenario's text: its inputs `+CCCCCCCC KK` and its settings `=NNNN RR`.
+use marks::next_mark;
 ghost use mathlib.Core.Path.{_≡_};
 ghost use Prim.Native.Nat.{_≤_, _<_};
 ghost use lib.ListN.{length};
@@ -17,20 +18,6 @@ pub const RECORDS: usize = 64;
 pub struct Settings {
     pub clocks: u32,
     pub records: usize,
-}
-
-// The first place from `from` on at which the mark stands or no text is left.
-pub fn next_mark(text: &[u8], from: usize, mark: u8) -> usize
-    ensures { λ r. ⌜ from ≤ r ⌝ }
-{
-    let mut i = from;
-    while i < text.len() {
-        if text[i] == mark {
-            return i;
-        }
-        i += 1;
-    }
-    i
 }
 
 // The value of a hex digit; 0 of any other character.

@@ -1,7 +1,9 @@
-use lib.ListN.{length}
+use denote.Ref.{now}
+use Rattle.marks.proofs.Laws.{mark-within}
 use Prim.Native.Nat.{_+_, _-_, _≤_}
-use borrow.Author.Needs.{needs}
 use native.Mathlib.Omega.{arith}
+use lib.ListN.{length}
+use borrow.Author.Needs.{needs}
 use Rattle.load_tapes.proofs.print_tapes.Statement.{statement}
 use Rattle.load_tapes.proofs.print_tapes.Tie as tie
 
@@ -14,8 +16,8 @@ abbrev μ-loop : tie.MeasureT-loop
 loop-holds : tie.Need-loop-holds Inv-loop μ-loop
 loop-holds c = omega arith
 
-tape-end-requires : tie.Need-tape-end-requires Inv-loop μ-loop
-tape-end-requires c κs = omega arith
+next-mark-requires : tie.Need-next-mark-requires Inv-loop μ-loop
+next-mark-requires c κs = search needs
 
 sub-print-load : tie.Need-sub-print-load Inv-loop μ-loop
 sub-print-load c = omega arith
@@ -24,19 +26,19 @@ part-print-load-start : tie.Need-part-print-load-start Inv-loop μ-loop
 part-print-load-start c = omega arith
 
 part-print-load-end : tie.Need-part-print-load-end Inv-loop μ-loop
-part-print-load-end c = omega arith
+part-print-load-end c = omega (arith, mark-within 61 (now (c .before .before .before .before .args .text)) (c .before .before .loop .from) (c .before .loop-test .taken))
 
 print-load-requires : tie.Need-print-load-requires Inv-loop μ-loop
 print-load-requires c κs = search needs
 
 add-from : tie.Need-add-from Inv-loop μ-loop
-add-from c = search needs
+add-from c = omega (arith, mark-within 61 (now (c .before .before .before .before .before .before .args .text)) (c .before .before .before .before .loop .from) (c .before .before .before .loop-test .taken))
 
 loop-less : tie.Need-loop-less Inv-loop μ-loop
-loop-less c = search needs
+loop-less c = omega (arith, mark-within 61 (now (c .before .before .before .before .before .before .args .text)) (c .before .before .before .before .loop .from) (c .before .before .before .loop-test .taken))
 
 loop-again : tie.Need-loop-again Inv-loop μ-loop
-loop-again c = search needs
+loop-again c = omega (arith, mark-within 61 (now (c .before .before .before .before .before .before .args .text)) (c .before .before .before .before .loop .from) (c .before .before .before .loop-test .taken))
 
 returns : tie.Need-returns Inv-loop μ-loop
 returns c = search needs
@@ -48,7 +50,7 @@ print-tapes-spec =
     Inv-loop
     μ-loop
     loop-holds
-    tape-end-requires
+    next-mark-requires
     sub-print-load
     part-print-load-start
     part-print-load-end

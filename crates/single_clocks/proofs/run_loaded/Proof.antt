@@ -1,3 +1,4 @@
+use native.Mathlib.Omega.{arith}
 use mathlib.Core.Path.{_∙_, refl, sym}
 use lib.Seq.{length-take-le}
 use borrow.Author.Needs.{needs}
@@ -38,7 +39,7 @@ slice-aggregate-run-lent-4 : tie.Need-slice-aggregate-run-lent-4
 slice-aggregate-run-lent-4 c = sym (length-take-le _ _ (array-borrow-prefix-words (c .before)))
 
 run-lent-requires : tie.Need-run-lent-requires
-run-lent-requires c κs = (sym (slice-aggregate-run-lent (c .before .before .before)) ∙ slice-aggregate-run-lent-2 (c .before .before), refl)
+run-lent-requires c κs = let t = slice-aggregate-run-lent-3 (c .before) in (sym (slice-aggregate-run-lent (c .before .before .before)) ∙ slice-aggregate-run-lent-2 (c .before .before), (refl, omega arith))
 
 same-length : tie.Need-same-length
 same-length c = search needs
