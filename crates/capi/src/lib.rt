@@ -25,7 +25,7 @@ pub mod host;
 // The bytes of a memory.
 const MEMORY_SPAN: usize = 65536;
 
-// A memory of another length is number 1, a flag that is a byte above 1 number 2, and 0 leaves the rest to the call.
+// Where a flag is a byte above 1: number 2, or 1 where the memory is of another length. 0 leaves the rest to the call.
 fn flag_refusal(state: HostState, span: usize) -> u8
     ensures { λ r. ⌜ r ≡ flagRefusal state span ⌝ }
 {

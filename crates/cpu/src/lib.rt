@@ -3,6 +3,7 @@
 ghost use mathlib.Core.Path.{_≡_};
 ghost use Prim.Native.Nat.{_≤_};
 ghost use Rattle.opcodes.specs.Table.{opcodeTable};
+ghost use Rattle.operations.specs.Operations.{accessOf};
 ghost use Rattle.cpu.specs.Instruction.{askWith, outcomeOf, operandByte, operandOf, carriedOut, writesAsked, callOf, executeOf, instructionOf};
 use bus::Bus;
 use bus::Got;
@@ -21,6 +22,7 @@ use operations::effects;
 use operations::registers;
 
 pub mod entries; // entries.rt: reset, NMI and IRQ
+pub mod quiet; // quiet.rt: instructions one after the other
 
 // The register that an instruction has to read next; a read-modify-write instruction takes a port's latch. The answer is
 // what is there after the writes, which only JSR has.
@@ -91,14 +93,21 @@ fn operand_of(length: u8, place: Place, got: Got) -> Operand
 }
 
 // The operand's place, its byte, and the operation.
-fn carried_out(answers: &[u8], memory: &[u8], entry: Entry, registers: Registers, bus: Bus) -> Ended
+fn carried_out(
+    answers: &[u8],
+    memory: &[u8],
+    entry: Entry,
+    access: Access,
+    registers: Registers,
+    bus: Bus,
+) -> Ended
     requires { ⌜ entry .length ≤ 7 ⌝ }
+    requires { ⌜ access ≡ accessOf (entry .operation) ⌝ }
     ensures { λ r. ⌜ r ≡ carriedOut (now (answers .entry)) (now (memory .entry)) entry registers bus ⌝ }
 {
     let operation = entry.operation;
     let mode = entry.mode;
     let place = bus::modes::locate(answers, memory, mode, registers, bus);
-    let access = operations::access_of(operation);
     let got = operand_byte(answers, memory, access, registers.a, place);
     let operand = operand_of(entry.length, place, got);
     let moved = registers::with_pc(registers, place.pc);
@@ -137,17 +146,18 @@ fn execute(answers: &[u8], memory: &[u8], entry: Entry, registers: Registers, bu
     ensures { λ r. ⌜ r ≡ executeOf (now (answers .entry)) (now (memory .entry)) entry registers bus ⌝ }
 {
     let operation = entry.operation;
-    if operations::calls(operations::access_of(operation)) {
+    let access = operations::access_of(operation);
+    if operations::calls(access) {
         return call(answers, memory, registers, entry.length, bus);
     }
     outcome_of(
         no_writes(),
-        carried_out(answers, memory, entry, registers, bus),
+        carried_out(answers, memory, entry, access, registers, bus),
     )
 }
 
 // One instruction. `entries` is what `opcodes::opcode_table` gave.
-pub fn instruction(registers: Registers, answers: &[u8], memory: &[u8], entries: &[u16]) -> Outcome
+fn instruction(registers: Registers, answers: &[u8], memory: &[u8], entries: &[u16]) -> Outcome
     requires { ⌜ now entries ≡ opcodeTable ⌝ }
     ensures { λ r. ⌜ r ≡ instructionOf registers (now (answers .entry)) (now (memory .entry)) ⌝ }
 {

@@ -29,7 +29,7 @@ gap-le n s clocks = omega arith
 -- ---- a gap above 0
 
 -- a distance above 0, of an event that the next clock brings, or that a count brings
-no-event : (t : Bool) (n : ℕ) → 0 < cond t 0 n → t ≡ false
+pub no-event : (t : Bool) (n : ℕ) → 0 < cond t 0 n → t ≡ false
 no-event true n h = absurd (omega arith)
 no-event false n h = refl
 
@@ -48,7 +48,7 @@ gap-quiet n s clocks h = record {
   waits = count-above (s .last .res) (s .cpu .wait) n (omega arith);
 }
 
-not-due : (n clock : ℕ) (clocks : List ℕ) → 0 < toInput n clock clocks → dueCount (clock + 1) clocks ≡ 0
+pub not-due : (n clock : ℕ) (clocks : List ℕ) → 0 < toInput n clock clocks → dueCount (clock + 1) clocks ≡ 0
 unfolding toInput dueCount
 not-due n clock [] h = refl
 not-due n clock (t ∷ ts) h = rw (ne-eqb t (clock + 1) (λ e. omega arith))

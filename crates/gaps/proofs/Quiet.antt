@@ -117,6 +117,14 @@ pub both-no : (r t : Bool) → (not r && not t) ≡ false → r ≡ false → t 
 both-no true t e z = absurd (false≢true (sym z))
 both-no false t e z = not-false t e
 
+-- ---- what is known of a state whose next clock, without an input, is no event clock, or one by the CPU's start alone
+
+pub record Still (s : State) : Type 0 where
+  pub levels : levelsOf s ≡ s .last
+  pub above-a : runningA (s .peripherals .control) (s .last .ports) ≡ true → 0 < s .peripherals .countera .count
+  pub above-b : runningB (s .peripherals .control) ≡ true → 0 < s .peripherals .counterb .count
+  pub reset : s .last .res ≡ false → isReset s ≡ true
+
 -- ---- what is known of a state whose next clock, without an input, is no event clock
 
 pub record Quiet (s : State) : Type 0 where
@@ -197,13 +205,17 @@ worked-quiet p x a b =
 
 -- ---- the whole clock
 
-abbrev workedTo : State → Peripherals → State
+abbrev pub workedTo : State → Peripherals → State
 workedTo s p = record { cpu = s .cpu; due = s .due; peripherals = p; external = s .external; last = s .last; clock = s .clock }
 
-ready-quiet : (s : State) → Quiet s → readyOf s [] ≡ workedTo (ahead s) (passCounters (s .peripherals) (s .last .ports) (clocksOf 1))
+-- steps 1 to 3
+pub ready-still : (s : State) → Still s → readyOf s [] ≡ workedTo (ahead s) (passCounters (s .peripherals) (s .last .ports) (clocksOf 1))
 unfolding readyOf
-ready-quiet s q =
+ready-still s q =
     rw (begun-ahead s, sensed-ahead s (q .levels) (q .reset), worked-quiet (s .peripherals) (s .last .ports) (q .above-a) (q .above-b))
+
+ready-quiet : (s : State) → Quiet s → readyOf s [] ≡ workedTo (ahead s) (passCounters (s .peripherals) (s .last .ports) (clocksOf 1))
+ready-quiet s q = ready-still s (record { levels = q .levels; above-a = q .above-a; above-b = q .above-b; reset = q .reset })
 
 -- steps 1 to 4 of a clock without inputs
 pub clock-quiet : (s : State) (memory : List ℕ) → Quiet s → processorOf (readyOf s []) memory ≡ quietly (passOf s (clocksOf 1))

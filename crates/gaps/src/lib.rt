@@ -22,7 +22,7 @@ use distances::to_underflow_a;
 use distances::to_underflow_b;
 
 // The lesser of two distances.
-fn nearer(a: Clocks, b: Clocks) -> Clocks
+pub fn nearer(a: Clocks, b: Clocks) -> Clocks
     ensures { λ r. ⌜ r ≡ clocksOf (min (a .0) (b .0)) ⌝ }
 {
     if a.0 <= b.0 {

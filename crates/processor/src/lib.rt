@@ -19,6 +19,7 @@ use cpu::entries::IRQ_VECTOR;
 use cpu::entries::NMI_VECTOR;
 use cpu::entries::interrupt_entry;
 use cpu::entries::reset_entry;
+use cpu::quiet::one_outcome;
 use operations::Worked;
 use registers::read::Reading;
 
@@ -47,7 +48,7 @@ const INTERRUPT_DISABLE: u8 = 4;
 const ANSWERS: usize = 6;
 
 // The CPU's registers as an instruction has them.
-fn registers_of(c: Cpu) -> Registers
+pub fn registers_of(c: Cpu) -> Registers
     ensures { λ r. ⌜ r ≡ registersOf c ⌝ }
 {
     Registers {
@@ -128,7 +129,7 @@ fn take_turn(s: State, p: Peripherals, answers: &[u8], memory: &[u8], entries: &
     requires { ⌜ now entries ≡ opcodeTable ⌝ }
     ensures { λ r. ⌜ r ≡ turnOf s p (now (answers .entry)) (now (memory .entry)) ⌝ }
 {
-    let outcome = cpu::instruction(registers_of(s.cpu), answers, memory, entries);
+    let outcome = one_outcome(registers_of(s.cpu), answers, memory, entries);
     match outcome {
         Outcome::Undefined => Turn::Over(Processed::Undefined),
         Outcome::Asked(ask) => Turn::Answered(answer(p, s.last.ports, ask)),

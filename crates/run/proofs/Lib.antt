@@ -1,5 +1,6 @@
 pub mod Laws
 pub mod Runs
+pub mod Spanned
 pub mod Parts
 pub mod Rest
 pub mod Fair

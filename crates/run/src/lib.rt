@@ -9,9 +9,12 @@ ghost use Rattle.machine.specs.Calls.{handed, begin, leapsFrom};
 ghost use Rattle.leaps.specs.Leaps.{leapOf, leftAfter};
 ghost use Rattle.run.specs.System.{chip};
 ghost use Rattle.run.specs.Run.{runOf, plainRunOf};
+ghost use Rattle.spans.specs.Spans.{spanOf};
 ghost use Rattle.run.specs.Leap.{passedBy, goesOn, runFrom, runEnded, beginRun, Leaping};
+ghost use Rattle.run.specs.Spanned.{spanFrom, spannedTo, SameRun};
 use chip::state::State;
 use counters::time::Clocks;
+use cpu::quiet::Work;
 use machine::Progress;
 use machine::Told;
 use machine::advance;
@@ -20,6 +23,8 @@ use machine::leaps_from;
 use machine::refused;
 use machine::tell;
 use refusals::refusal;
+use spans::begin_work;
+use spans::work_once;
 
 // How far a run has come: the clocks left, and the leaps done.
 pub struct Leaped {
@@ -123,6 +128,74 @@ fn leap_once(
     }
 }
 
+// The clocks in which only the CPU acts; none where the run has stopped.
+fn span_from(at: Leaped, clocks: &[u32]) -> Clocks
+    requires { ⌜ at .progress .read ≤ length (now clocks) ⌝ }
+    ensures { λ r. ⌜ r ≡ spanFrom at (now (clocks .entry)) ⌝ }
+{
+    if at.progress.stop != 0 {
+        return Clocks(0);
+    }
+    let from = at.progress.read;
+    spans::span(at.progress.state, at.left, &clocks[from..])
+}
+
+// A run after the leaps of a span.
+fn spanned_to(at: Leaped, w: Work) -> Leaped
+    requires { ⌜ (at .progress .state .clock + w .gone .0 ≤ 4294967295) × (at .leaps + w .leaps ≤ 4294967295) × (w .gone .0 ≤ at .left .0) ⌝ }
+    ensures { λ r. ⌜ r ≡ spannedTo at w ⌝ }
+{
+    let state = spans::working_state(at.progress.state, w);
+    let progress = Progress {
+        state: state,
+        read: at.progress.read,
+        written: at.progress.written,
+        stop: at.progress.stop,
+    };
+    Leaped {
+        progress: progress,
+        left: Clocks(at.left.0 - w.gone.0),
+        leaps: at.leaps + w.leaps,
+    }
+}
+
+// The leaps of a span, one for each instruction that starts in it, up to the first that is not the CPU's alone.
+fn leap_within(
+    at: Leaped,
+    span: Clocks,
+    memory: &mut [u8],
+    clocks: &[u32],
+    entries: &[u16],
+) -> Leaped
+    requires { ⌜ (at .progress .state .clock + at .left .0 ≤ 4294967295) × (at .leaps + at .left .0 ≤ 4294967295) ⌝ }
+    requires { ⌜ (span ≡ spanFrom at (now clocks)) × (0 < span .0) ⌝ }
+    requires { ⌜ now entries ≡ opcodeTable ⌝ }
+    ensures { λ r. ⌜ SameRun at (now (memory .entry)) r (now (memory .exit)) (now (clocks .entry)) ⌝ }
+{
+    let mut w = begin_work(at.progress.state);
+    let mut on = true;
+    while on {
+        let next = work_once(w, span, memory, entries);
+        on = w.gone.0 < next.gone.0;
+        w = next;
+    }
+    spanned_to(at, w)
+}
+
+// The leaps of a span, if there is one. That each is a leap is `work-leap` of proofs/Spanned; the contract says that the run ahead stays.
+fn leap_span(at: Leaped, memory: &mut [u8], clocks: &[u32], entries: &[u16]) -> Leaped
+    requires { ⌜ (at .progress .state .clock + at .left .0 ≤ 4294967295) × (at .leaps + at .left .0 ≤ 4294967295) ⌝ }
+    requires { ⌜ at .progress .read ≤ length (now clocks) ⌝ }
+    requires { ⌜ now entries ≡ opcodeTable ⌝ }
+    ensures { λ r. ⌜ SameRun at (now (memory .entry)) r (now (memory .exit)) (now (clocks .entry)) ⌝ }
+{
+    let span = span_from(at, clocks);
+    if span.0 == 0 {
+        return at;
+    }
+    leap_within(at, span, memory, clocks, entries)
+}
+
 // Leaps, until no clock is left or one stops.
 fn leap_on(
     start: Leaped,
@@ -141,6 +214,7 @@ fn leap_on(
     let mut at = start;
     while goes_on(at) {
         at = leap_once(at, memory, clocks, codes, times, words, entries);
+        at = leap_span(at, memory, clocks, entries);
     }
     at
 }

@@ -6,9 +6,6 @@ use Rattle.cpu.proofs.carried_out.Tie as tie
 locate-requires : tie.Need-locate-requires
 locate-requires c κs = search needs
 
-access-of-requires : tie.Need-access-of-requires
-access-of-requires c κs = search needs
-
 operand-byte-requires : tie.Need-operand-byte-requires
 operand-byte-requires c κs = search needs
 
@@ -23,14 +20,13 @@ work-requires c κs = rw (c .before .operand-of .ensures) (search needs)
 
 returns : tie.Need-returns
 unfolding carriedOut
-returns c = rw (← (c .before .before .before .before .before .locate .ensures), ← (c .before .before .before .before .access-of .ensures), ← (c .before .before .before .operand-byte .ensures), ← (c .before .before .operand-of .ensures), ← (c .before .with-pc .ensures), ← (c .work .ensures))
+returns c = rw (← (c .before .before .before .before .locate .ensures), ← (c .before .before .before .before .before .before .before .pre .1), ← (c .before .before .before .operand-byte .ensures), ← (c .before .before .operand-of .ensures), ← (c .before .with-pc .ensures), ← (c .work .ensures))
 
 pub carried-out-spec : {M : Type 1} → statement M
 carried-out-spec =
     tie.close
     (tie.spec
     locate-requires
-    access-of-requires
     operand-byte-requires
     operand-of-requires
     with-pc-requires

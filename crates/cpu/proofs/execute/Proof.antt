@@ -20,7 +20,7 @@ no-writes-requires : tie.Need-no-writes-requires
 no-writes-requires c κs = search needs
 
 carried-out-requires : tie.Need-carried-out-requires
-carried-out-requires c κs = search needs
+carried-out-requires c κs = (c .before .before .before .before .before .before .pre, c .before .before .before .access-of .ensures)
 
 outcome-of-requires : tie.Need-outcome-of-requires
 outcome-of-requires c κs = search needs

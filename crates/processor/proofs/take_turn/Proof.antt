@@ -4,7 +4,7 @@ use Rattle.processor.proofs.take_turn.Statement.{statement}
 use Rattle.processor.proofs.take_turn.Tie as tie
 use Rattle.processor.proofs.take_turn.Reads as reads
 use Rattle.processor.proofs.take_turn.Lts as lts
-use Rattle.cpu.proofs.instruction.Reads as instruction-reads
+use Rattle.cpu.proofs.quiet.one_outcome.Reads as one-outcome-reads
 use Rattle.processor.proofs.answer.Reads as answer-reads
 use Rattle.processor.proofs.next_state.Reads as next-state-reads
 use Rattle.processor.proofs.registers_of.Reads as registers-of-reads
@@ -14,8 +14,8 @@ registers-of-requires : tie.Need-registers-of-requires
 registers-of-requires c κs = search needs
 
 -- src/lib.rt:131:9
-instruction-requires : tie.Need-instruction-requires
-instruction-requires c κs = search needs
+one-outcome-requires : tie.Need-one-outcome-requires
+one-outcome-requires c κs = search needs
 
 -- src/lib.rt:133:42
 enum-told : tie.Need-enum-told
@@ -40,24 +40,24 @@ next-state-requires c κs = search needs
 -- src/lib.rt:127:1
 returns : tie.Need-returns
 unfolding turnOf
-returns c = rw (← (c .before .before .before .registers-of .ensures), ← (c .before .before .instruction .ensures), c .enum-told .given .1)
+returns c = rw (← (c .before .before .before .registers-of .ensures), ← (c .before .before .one-outcome .ensures), c .enum-told .given .1)
 
 -- src/lib.rt:127:1
 returns-2 : tie.Need-returns-2
 unfolding turnOf
-returns-2 c = rw (c .answer .ensures, ← (c .before .before .before .before .before .registers-of .ensures), ← (c .before .before .before .before .instruction .ensures), c .before .before .outcome .given .1)
+returns-2 c = rw (c .answer .ensures, ← (c .before .before .before .before .before .registers-of .ensures), ← (c .before .before .before .before .one-outcome .ensures), c .before .before .outcome .given .1)
 
 -- src/lib.rt:127:1
 returns-3 : tie.Need-returns-3
 unfolding turnOf
-returns-3 c = rw (c .next-state .ensures, ← (c .before .before .before .before .before .registers-of .ensures), ← (c .before .before .before .before .instruction .ensures), c .before .before .outcome2 .given .1)
+returns-3 c = rw (c .next-state .ensures, ← (c .before .before .before .before .before .registers-of .ensures), ← (c .before .before .before .before .one-outcome .ensures), c .before .before .outcome2 .given .1)
 
 pub take-turn-spec : {M : Type 1} → statement M
 take-turn-spec =
     tie.close
     (tie.spec
     registers-of-requires
-    instruction-requires
+    one-outcome-requires
     enum-told
     enum-known-outcome
     answer-requires

@@ -2,12 +2,15 @@ use borrow.Author.Needs.{needs}
 use denote.Ref.{now}
 use mathlib.Core.Path.{refl, sym, _∙_}
 use Rattle.run.proofs.Runs.{Running, goes-some, goes-unstopped, later-run, later-leaping, later-bound, run-ended}
+use native.Mathlib.Omega.{arith}
+use Rattle.run.proofs.Spanned.{leaping-later}
 use Rattle.run.proofs.leap_on.Statement.{statement}
 use Rattle.run.proofs.leap_on.Tie as tie
 use Rattle.run.proofs.leap_on.Reads as reads
 use Rattle.run.proofs.leap_on.Lts as lts
 use Rattle.run.proofs.goes_on.Reads as goes-on-reads
 use Rattle.run.proofs.leap_once.Reads as leap-once-reads
+use Rattle.run.proofs.leap_span.Reads as leap-span-reads
 
 abbrev Inv-loop : tie.InvT-loop
 Inv-loop memory₀ clocks codes times₀ words₀ entries at₀ memory times words at = Running at₀ memory₀ clocks codes times₀ words₀ memory times words at
@@ -33,30 +36,43 @@ leap-once-requires c κs =
     (at .inv .leaping, ((goes-some (at .at) on, goes-unstopped (at .at) on), (at .inv .bound, c .before .before .before .before .before .before .before .before .before .before .before .before .pre .1 .1)))
 
 -- src/lib.rt:144:5
-loop-less : tie.Need-loop-less Inv-loop μ-loop
-loop-less c =
-    let root = c .before .before .before .before .before .before .before .before .before .before .before .before .before .before .before .before .before .before .before .args in
-    let at = c .before .before .before .before .before .before .before .before .before .before .before .before .loop in
-    let done = c .before .before .before .before .before .before .leap-once in
-    let on = sym (c .before .before .before .before .before .before .before .before .before .before .before .goes-on .ensures) ∙ c .before .before .before .before .before .before .before .before .before .before .if1 .taken in
+leap-span-requires : tie.Need-leap-span-requires Inv-loop μ-loop
+leap-span-requires c κs =
+    let root = c .before .before .before .before .before .before .before .before .before .before .before .before .before .before .before .before .before .before .before .before in
+    let at = c .before .before .before .before .before .before .before .before .before .before .before .before .before .loop in
+    let done = c .before .before .before .before .before .before .before .leap-once in
+    let on = sym (c .before .before .before .before .before .before .before .before .before .before .before .before .goes-on .ensures) ∙ c .before .before .before .before .before .before .before .before .before .before .before .if1 .taken in
     let some = goes-some (at .at) on in
     let unstopped = goes-unstopped (at .at) on in
-    (later-bound (at .memory) (now (root .clocks)) (now (root .codes)) (at .times) (at .words) _ _ _ (at .at) (done .result) (at .inv .leaping) some unstopped (at .inv .bound) (done .ensures .0) (done .ensures .1 .0) (done .ensures .1 .1)) .1
+    let l = later-leaping (at .memory) (now (root .args .clocks)) (now (root .args .codes)) (at .times) (at .words) _ _ _ (at .at) (done .result) (at .inv .leaping) some unstopped (at .inv .bound) (done .ensures .0) (done .ensures .1 .0) (done .ensures .1 .1) in
+    ((l .clock, later-bound (at .memory) (now (root .args .clocks)) (now (root .args .codes)) (at .times) (at .words) _ _ _ (at .at) (done .result) (at .inv .leaping) some unstopped (at .inv .bound) (done .ensures .0) (done .ensures .1 .0) (done .ensures .1 .1) .0), (l .read, root .pre .1 .1))
+
+-- src/lib.rt:144:5
+loop-less : tie.Need-loop-less Inv-loop μ-loop
+loop-less c =
+    let root = c .before .before .before .before .before .before .before .before .before .before .before .before .before .before .before .before .before .before .before .before .before .before .before in
+    let at = c .before .before .before .before .before .before .before .before .before .before .before .before .before .before .before .before .loop in
+    let done = c .before .before .before .before .before .before .before .before .before .before .leap-once in
+    let on = sym (c .before .before .before .before .before .before .before .before .before .before .before .before .before .before .before .goes-on .ensures) ∙ c .before .before .before .before .before .before .before .before .before .before .before .before .before .before .if1 .taken in
+    let some = goes-some (at .at) on in
+    let unstopped = goes-unstopped (at .at) on in
+    omega (arith, c .before .before .leap-span .ensures .left, later-bound (at .memory) (now (root .args .clocks)) (now (root .args .codes)) (at .times) (at .words) _ _ _ (at .at) (done .result) (at .inv .leaping) some unstopped (at .inv .bound) (done .ensures .0) (done .ensures .1 .0) (done .ensures .1 .1) .1)
 
 -- src/lib.rt:144:5
 loop-again : tie.Need-loop-again Inv-loop μ-loop
 loop-again c =
-    let root = c .before .before .before .before .before .before .before .before .before .before .before .before .before .before .before .before .before .before .before .args in
-    let at = c .before .before .before .before .before .before .before .before .before .before .before .before .loop in
-    let done = c .before .before .before .before .before .before .leap-once in
-    let on = sym (c .before .before .before .before .before .before .before .before .before .before .before .goes-on .ensures) ∙ c .before .before .before .before .before .before .before .before .before .before .if1 .taken in
+    let root = c .before .before .before .before .before .before .before .before .before .before .before .before .before .before .before .before .before .before .before .before .before .before .before in
+    let at = c .before .before .before .before .before .before .before .before .before .before .before .before .before .before .before .before .loop in
+    let done = c .before .before .before .before .before .before .before .before .before .before .leap-once in
+    let on = sym (c .before .before .before .before .before .before .before .before .before .before .before .before .before .before .before .goes-on .ensures) ∙ c .before .before .before .before .before .before .before .before .before .before .before .before .before .before .if1 .taken in
     let some = goes-some (at .at) on in
     let unstopped = goes-unstopped (at .at) on in
+    let span = c .before .before .leap-span in
     record {
-      run = (later-run (at .memory) (now (root .clocks)) (now (root .codes)) (at .times) (at .words) _ _ _ (at .at) (done .result) (at .inv .leaping) some unstopped (at .inv .bound) (done .ensures .0) (done .ensures .1 .0) (done .ensures .1 .1)) ∙ at .inv .run;
-      leaping = (later-leaping (at .memory) (now (root .clocks)) (now (root .codes)) (at .times) (at .words) _ _ _ (at .at) (done .result) (at .inv .leaping) some unstopped (at .inv .bound) (done .ensures .0) (done .ensures .1 .0) (done .ensures .1 .1));
-      bound = (later-bound (at .memory) (now (root .clocks)) (now (root .codes)) (at .times) (at .words) _ _ _ (at .at) (done .result) (at .inv .leaping) some unstopped (at .inv .bound) (done .ensures .0) (done .ensures .1 .0) (done .ensures .1 .1)) .0;
-      memory-kept = done .kept .1 .0 ∙ at .inv .memory-kept;
+      run = span .ensures .run (now (root .args .codes)) _ _ ∙ later-run (at .memory) (now (root .args .clocks)) (now (root .args .codes)) (at .times) (at .words) _ _ _ (at .at) (done .result) (at .inv .leaping) some unstopped (at .inv .bound) (done .ensures .0) (done .ensures .1 .0) (done .ensures .1 .1) ∙ at .inv .run;
+      leaping = leaping-later (done .result) (span .result) _ _ (now (root .args .clocks)) (now (root .args .codes)) _ _ (span .ensures) (later-leaping (at .memory) (now (root .args .clocks)) (now (root .args .codes)) (at .times) (at .words) _ _ _ (at .at) (done .result) (at .inv .leaping) some unstopped (at .inv .bound) (done .ensures .0) (done .ensures .1 .0) (done .ensures .1 .1));
+      bound = omega (arith, span .ensures .leaps, later-bound (at .memory) (now (root .args .clocks)) (now (root .args .codes)) (at .times) (at .words) _ _ _ (at .at) (done .result) (at .inv .leaping) some unstopped (at .inv .bound) (done .ensures .0) (done .ensures .1 .0) (done .ensures .1 .1) .0);
+      memory-kept = span .kept .1 .0 ∙ done .kept .1 .0 ∙ at .inv .memory-kept;
       times-kept = done .kept .1 .1 .1 .1 .0 ∙ at .inv .times-kept;
       words-kept = done .kept .1 .1 .1 .1 .1 .0 ∙ at .inv .words-kept;
     }
@@ -89,6 +105,7 @@ leap-on-spec =
     loop-holds
     goes-on-requires
     leap-once-requires
+    leap-span-requires
     loop-less
     loop-again
     same-length

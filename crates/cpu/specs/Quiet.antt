@@ -1,0 +1,29 @@
+-- Instructions one after the other, as long as they write nothing and start within a span.
+use mathlib.Core.Path.{_≡_}
+use mathlib.Core.List.{List}
+use Prim.Native.Nat.{ℕ, _+_, _-_, _≤_, _<_}
+use Rattle.operations.specs.declared.Worked.{Worked}
+use Rattle.cpu.specs.declared.Outcome.the-variants.{Done}
+use Rattle.cpu.specs.declared.quiet.Work.{Work}
+use Rattle.cpu.specs.Instruction.{instructionOf}
+
+-- what is gone lies in the span, and each leap took a clock at least
+pub record Room (w : Work) (span : ℕ) : Type 0 where
+  pub gone : w .gone .0 ≤ span
+  pub leaps : w .leaps ≤ w .gone .0
+
+-- an instruction more: the clocks waited for it, and the one that it starts on
+abbrev pub nextWork : Work → Worked → Work
+nextWork w worked = record {
+  registers = worked .registers;
+  wait = worked .length - 1;
+  gone = record { 0 = w .gone .0 + w .wait + 1 };
+  leaps = w .leaps + 1;
+}
+
+-- what is reached from `start` by instructions that write nothing, each of which starts within the span
+pub data Quietly (span : ℕ) (answers memory : List ℕ) (start : Work) : Work → Type 0 where
+  none : Quietly span answers memory start start
+  more : {w : Work} (worked : Worked) → Quietly span answers memory start w → w .gone .0 + w .wait < span
+      → instructionOf (w .registers) answers memory ≡ Done worked → worked .writes .count ≡ 0
+      → Quietly span answers memory start (nextWork w worked)
