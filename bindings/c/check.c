@@ -1,0 +1,377 @@
+/* Calls the library through include/r6501q.h and compares what comes back with literal outcomes. The header asserts the layout that it
+ * declares; here each field is told apart from its neighbors by what the library does with it. Builds as C99 and as C++. */
+#include "r6501q.h"
+
+#include <stdio.h>
+#include <stdlib.h>
+#include <string.h>
+
+static int faults;
+
+#define SAME(got, expected) same(#got, (unsigned long long)(got), (unsigned long long)(expected), __LINE__)
+
+static void same(const char *what, unsigned long long got, unsigned long long expected, int line)
+{
+    if (got != expected) {
+        printf("check.c:%d: %s is %llXh, not %llXh\n", line, what, got, expected);
+        faults++;
+    }
+}
+
+static uint8_t memory[R6501Q_MEMORY_LENGTH];
+static uint32_t times[100];
+static uint32_t words[100];
+
+/* A memory of zeros but for the program at 0200h and the reset vector to it. */
+static void place(const uint8_t *program, size_t length)
+{
+    memset(memory, 0, sizeof memory);
+    memcpy(memory + 0x200, program, length);
+    memory[0xFFFD] = 2;
+}
+
+static r6501q_told run(r6501q_state state, uint32_t n)
+{
+    return r6501q_run(state, memory, sizeof memory, NULL, 0, NULL, 0, times, 100, words, 100, n);
+}
+
+/* Document 01, "Fresh". */
+static void check_fresh(void)
+{
+    const r6501q_state s = r6501q_fresh();
+    SAME(s.cpu.a, 0);
+    SAME(s.cpu.x, 0);
+    SAME(s.cpu.y, 0);
+    SAME(s.cpu.sp, 0xFF);
+    SAME(s.cpu.p, 4);
+    SAME(s.cpu.pc, 0);
+    SAME(s.cpu.wait, 0);
+    SAME(s.due.reset, 1);
+    SAME(s.due.nmi, 0);
+    SAME(s.peripherals.ports.a, 0xFF);
+    SAME(s.peripherals.ports.b, 0xFF);
+    SAME(s.peripherals.ports.c, 0xFF);
+    SAME(s.peripherals.ports.d, 0xFF);
+    SAME(s.peripherals.countera.count, 0xFFFF);
+    SAME(s.peripherals.countera.latch, 0xFFFF);
+    SAME(s.peripherals.counterb.count, 0xFFFF);
+    SAME(s.peripherals.counterb.latchb, 0xFFFF);
+    SAME(s.peripherals.counterb.latchc, 0xFFFF);
+    SAME(s.peripherals.counterb.turnc, 1);
+    SAME(s.peripherals.control.ifr, 0);
+    SAME(s.peripherals.control.ier, 0);
+    SAME(s.peripherals.control.mcr, 0);
+    SAME(s.peripherals.control.sccr, 0);
+    SAME(s.peripherals.control.scsr, 0x40);
+    SAME(s.peripherals.serial.sent, 0);
+    SAME(s.peripherals.serial.received, 0);
+    SAME(s.peripherals.transmitter.left, 0);
+    SAME(s.peripherals.transmitter.phase, 0);
+    SAME(s.peripherals.transmitter.register_, 0);
+    SAME(s.peripherals.receiver.subinterval, 0);
+    SAME(s.peripherals.receiver.half, 0);
+    SAME(s.peripherals.receiver.left, 0);
+    SAME(s.peripherals.receiver.register_, 0);
+    SAME(s.external.ports, 0xFFFFFFFF);
+    SAME(s.external.nmi, 1);
+    SAME(s.external.res, 1);
+    SAME(s.last.ports, 0xFFFFFFFF);
+    SAME(s.last.nmi, 1);
+    SAME(s.last.res, 1);
+    SAME(s.clock, 0);
+    SAME(r6501q_well_formed(s), 1);
+}
+
+/* Each field with a range: its highest value is well-formed, the next one is refused. */
+static void check_ranges(void)
+{
+    r6501q_state s;
+#define RANGE(field, highest)                \
+    do {                                     \
+        s = r6501q_fresh();                  \
+        s.field = (highest);                 \
+        SAME(r6501q_well_formed(s), 1);      \
+        s.field = (highest) + 1;             \
+        SAME(r6501q_well_formed(s), 0);      \
+        SAME(run(s, 1).number, 2);           \
+        SAME(run(s, 1).state.field, (highest) + 1); \
+    } while (0)
+    RANGE(cpu.p, 0x0F);
+    RANGE(cpu.p, 0xCF);
+    RANGE(cpu.wait, 6);
+    RANGE(due.reset, 1);
+    RANGE(due.nmi, 1);
+    RANGE(peripherals.counterb.turnc, 1);
+    RANGE(peripherals.control.ifr, 63);
+    RANGE(peripherals.transmitter.left, 12);
+    RANGE(peripherals.transmitter.phase, 15);
+    RANGE(peripherals.transmitter.register_, 4095);
+    RANGE(peripherals.receiver.subinterval, 7);
+    RANGE(peripherals.receiver.half, 1);
+    RANGE(peripherals.receiver.left, 11);
+    RANGE(peripherals.receiver.register_, 2047);
+    RANGE(external.nmi, 1);
+    RANGE(external.res, 1);
+    RANGE(last.nmi, 1);
+    RANGE(last.res, 1);
+#undef RANGE
+}
+
+/* A program that puts a value of its own into each register that has a field. */
+static void check_registers(void)
+{
+    static const uint8_t program[] = {
+        0xA2, 0x11, /* LDX #11h */
+        0xA0, 0x92, /* LDY #92h: N */
+        0xA9, 0xA1, 0x85, 0x00, /* port A */
+        0xA9, 0xB2, 0x85, 0x01, /* port B */
+        0xA9, 0xC3, 0x85, 0x02, /* port C */
+        0xA9, 0xD4, 0x85, 0x03, /* port D */
+        0xA9, 0x0F, 0x85, 0x12, /* IER */
+        0xA9, 0x20, 0x85, 0x14, /* MCR: port D is an output, both counters in interval mode */
+        0xA9, 0x43, 0x85, 0x15, /* SCCR: receiver on, even parity */
+        0xA9, 0x34, 0x85, 0x1C, /* lower latch B */
+        0xA9, 0x12, 0x85, 0x1D, /* upper latch B, and latch C from B */
+        0xA9, 0x78, 0x85, 0x1C, /* lower latch B */
+        0xA9, 0x56, 0x85, 0x1E, /* upper latch B, counter B loaded */
+        0xA9, 0xBC, 0x85, 0x18, /* lower latch A */
+        0xA9, 0x9A, 0x85, 0x1A, /* upper latch A, counter A loaded */
+        0xA9, 0x5A, 0x85, 0x17, /* serial data: SCSR6 falls */
+        0xA9, 0x30, 0x85, 0x16, /* SCSR4, SCSR5 */
+        0x48, /* PHA: SP is FEh */
+        0xA9, 0x66, /* LDA #66h */
+        0x4C, 0x43, 0x02 /* JMP here */
+    };
+    r6501q_told told;
+    r6501q_state s;
+    place(program, sizeof program);
+    /* Reset 7, LDX and LDY 4, fifteen pairs of LDA and STA 75, PHA 3, LDA 2, and the first clock of JMP. */
+    told = run(r6501q_fresh(), 7 + 4 + 75 + 3 + 2 + 1);
+    SAME(told.number, 0);
+    s = told.state;
+    SAME(s.clock, 92);
+    SAME(s.cpu.a, 0x66);
+    SAME(s.cpu.x, 0x11);
+    SAME(s.cpu.y, 0x92);
+    SAME(s.cpu.sp, 0xFE);
+    SAME(s.cpu.p, 4); /* I; N is clear after LDA #66h */
+    SAME(s.cpu.pc, 0x243);
+    SAME(s.cpu.wait, 2);
+    SAME(memory[0xFF], 0x30);
+    SAME(s.due.reset, 0);
+    SAME(s.due.nmi, 0);
+    SAME(s.peripherals.ports.a, 0xA1);
+    SAME(s.peripherals.ports.b, 0xB2);
+    SAME(s.peripherals.ports.c, 0xC3);
+    SAME(s.peripherals.ports.d, 0xD4);
+    SAME(s.peripherals.control.ifr, 0x0C); /* PA2, PA3 fell with port A's A1h */
+    SAME(s.peripherals.control.ier, 0x0F);
+    SAME(s.peripherals.control.mcr, 0x20);
+    SAME(s.peripherals.control.sccr, 0x43);
+    SAME(s.peripherals.control.scsr, 0x30);
+    SAME(s.peripherals.serial.sent, 0x5A);
+    SAME(s.peripherals.serial.received, 0);
+    /* Counter A is loaded on clock 74, the start of its STA: 18 clocks counted. B on clock 64: 28. */
+    SAME(s.peripherals.countera.latch, 0x9ABC);
+    SAME(s.peripherals.countera.count, 0x9ABC - 18);
+    SAME(s.peripherals.counterb.latchb, 0x5678);
+    SAME(s.peripherals.counterb.latchc, 0x1234);
+    SAME(s.peripherals.counterb.count, 0x5678 - 28);
+    SAME(s.peripherals.counterb.turnc, 1);
+    SAME(s.external.ports, 0xFFFFFFFF);
+    SAME(s.last.ports, 0xD4C3B2A1);
+    /* Port A on clock 14, B on 19, C on 24; D's latch shows once MCR5 is set, on 39. */
+    SAME(told.written, 4);
+    SAME(times[0], 14);
+    SAME(words[0], 0xFFFFFFA1);
+    SAME(times[1], 19);
+    SAME(words[1], 0xFFFFB2A1);
+    SAME(times[2], 24);
+    SAME(words[2], 0xFFC3B2A1);
+    SAME(times[3], 39);
+    SAME(words[3], 0xD4C3B2A1);
+}
+
+/* The serial halves' progress, the turn and NMI due: from a state that is lent, one clock on. */
+static void check_progress(void)
+{
+    r6501q_state s = r6501q_fresh();
+    r6501q_told told;
+    memset(memory, 0, sizeof memory);
+    s.due.reset = 0;
+    s.due.nmi = 1;
+    s.cpu.wait = 5;
+    s.peripherals.control.sccr = 0xC0; /* both halves on: 8 bits, no parity */
+    s.peripherals.control.mcr = 0x04; /* B in pulse mode */
+    s.peripherals.countera.count = 0; /* a tick */
+    s.peripherals.countera.latch = 9;
+    s.peripherals.counterb.count = 0;
+    s.peripherals.counterb.latchb = 0x1111;
+    s.peripherals.counterb.latchc = 0x2222;
+    s.peripherals.transmitter.left = 5;
+    s.peripherals.transmitter.phase = 15;
+    s.peripherals.transmitter.register_ = 0xABC;
+    s.peripherals.receiver.subinterval = 7;
+    s.peripherals.receiver.half = 1;
+    s.peripherals.receiver.left = 3;
+    s.peripherals.receiver.register_ = 0x2AA;
+    s.peripherals.serial.received = 0x77;
+    s.clock = 1000;
+    told = run(s, 1);
+    SAME(told.number, 0);
+    SAME(told.leaps, 1);
+    s = told.state;
+    SAME(s.clock, 1001);
+    SAME(s.cpu.wait, 4);
+    SAME(s.due.reset, 0);
+    SAME(s.due.nmi, 1);
+    SAME(s.peripherals.control.ifr, 0x30); /* both underflows */
+    SAME(s.peripherals.countera.count, 9);
+    SAME(s.peripherals.counterb.count, 0x2222);
+    SAME(s.peripherals.counterb.turnc, 0);
+    SAME(s.peripherals.ports.a, 0xDF); /* the pulse inverts PA5's latch */
+    SAME(s.peripherals.transmitter.left, 4);
+    SAME(s.peripherals.transmitter.phase, 0);
+    SAME(s.peripherals.transmitter.register_, 0x55E);
+    SAME(s.peripherals.receiver.subinterval, 0);
+    SAME(s.peripherals.receiver.half, 0);
+    SAME(s.peripherals.receiver.left, 2);
+    SAME(s.peripherals.receiver.register_, 0x555); /* PA7 high comes in at bit 10 */
+    SAME(s.peripherals.serial.received, 0x77);
+    /* The line was ABCh's bit 0, low, and is 55Eh's, low; PA5 fell: one record. */
+    SAME(told.written, 1);
+    SAME(times[0], 1001);
+    SAME(words[0], 0xFFFFFF9F);
+}
+
+/* Inputs: levels before and after, NMI due, RES low. */
+static void check_inputs(void)
+{
+    static const uint32_t clocks[] = {3, 3, 5, 200};
+    static const uint8_t codes[] = {31, R6501Q_PIN_NMI, R6501Q_PIN_RES, 31 + R6501Q_HIGH};
+    r6501q_told told;
+    memset(memory, 0, sizeof memory);
+    told = r6501q_run(r6501q_fresh(), memory, sizeof memory, clocks, 4, codes, 4, times, 0, words, 0, 3);
+    SAME(told.number, 0);
+    SAME(told.read, 2);
+    SAME(told.state.external.ports, 0x7FFFFFFF);
+    SAME(told.state.last.ports, 0x7FFFFFFF);
+    SAME(told.state.external.nmi, 0);
+    SAME(told.state.last.nmi, 0);
+    SAME(told.state.external.res, 1);
+    SAME(told.state.last.res, 1);
+    SAME(told.state.due.reset, 0);
+    SAME(told.state.due.nmi, 1);
+    told = r6501q_run(told.state, memory, sizeof memory, clocks + 2, 2, codes + 2, 2, times, 0, words, 0, 2);
+    SAME(told.number, 0);
+    SAME(told.read, 1);
+    SAME(told.state.external.res, 0);
+    SAME(told.state.last.res, 0);
+    SAME(told.state.due.reset, 1);
+    SAME(told.state.due.nmi, 0);
+    SAME(told.state.cpu.wait, 0);
+}
+
+/* Document 01's example, by a run, by single clocks and with damage. */
+static void check_example(void)
+{
+    static const char text[] = ";070200A95585004C040201DE\n;02FFFC000201FF\n;0000030003\n";
+    char damaged[sizeof text];
+    r6501q_loaded loaded;
+    r6501q_told told;
+    int clock;
+
+    memset(memory, 0, sizeof memory);
+    loaded = r6501q_load((const uint8_t *)text, strlen(text), memory, sizeof memory);
+    SAME(loaded.number, R6501Q_DONE);
+    SAME(loaded.place, 53);
+    SAME(memory[0x1FF], 0);
+    SAME(memory[0x200], 0xA9);
+    SAME(memory[0x206], 0x02);
+    SAME(memory[0x207], 0);
+    SAME(memory[0xFFFD], 2);
+
+    memset(times, 0xEE, sizeof times);
+    memset(words, 0xEE, sizeof words);
+    told = run(r6501q_fresh(), 100);
+    SAME(told.number, R6501Q_DONE);
+    SAME(told.state.clock, 100);
+    SAME(told.read, 0);
+    SAME(told.written, 1);
+    SAME(times[0], 10);
+    SAME(words[0], 0xFFFFFF55);
+    SAME(times[1], 0xEEEEEEEE);
+    SAME(words[1], 0xEEEEEEEE);
+    /* Starts: reset 1, LDA 8, STA 10, JMP on 13, 16, .. 100; levels differ on clock 11. */
+    SAME(told.leaps, 34);
+
+    told.state = r6501q_fresh();
+    for (clock = 1; clock <= 100; clock++) {
+        told = r6501q_step(told.state, memory, sizeof memory, NULL, 0, NULL, 0, times, 1, words, 1);
+        SAME(told.number, R6501Q_DONE);
+        SAME(told.state.clock, clock);
+        SAME(told.leaps, 1);
+        SAME(told.written, clock == 10);
+    }
+    SAME(told.state.cpu.pc, 0x204);
+    SAME(told.state.cpu.wait, 2);
+
+    told = r6501q_run(r6501q_fresh(), memory, sizeof memory, NULL, 0, NULL, 0, NULL, 0, NULL, 0, 100);
+    SAME(told.number, R6501Q_NO_FREE_RECORD);
+    SAME(told.state.clock, 9);
+
+    memcpy(damaged, text, sizeof text);
+    damaged[40] = '0'; /* the second record's check sum */
+    memset(memory, 0x99, sizeof memory);
+    loaded = r6501q_load((const uint8_t *)damaged, strlen(text), memory, sizeof memory);
+    SAME(loaded.number, R6501Q_WRONG_CHECK_SUM);
+    SAME(loaded.place, 26);
+    SAME(memory[0x200], 0x99);
+    loaded = r6501q_load((const uint8_t *)text, strlen(text) - 2, memory, sizeof memory);
+    SAME(loaded.number, R6501Q_MALFORMED_RECORD);
+    SAME(loaded.place, 42);
+    loaded = r6501q_load((const uint8_t *)text, 42, memory, sizeof memory);
+    SAME(loaded.number, R6501Q_WRONG_LAST_RECORD);
+    SAME(loaded.place, 42);
+    loaded = r6501q_load((const uint8_t *)text, strlen(text), memory, sizeof memory - 1);
+    SAME(loaded.number, R6501Q_WRONG_MEMORY_LENGTH);
+    SAME(loaded.place, 0);
+}
+
+/* Each refusal of a run, and the order. */
+static void check_refusals(void)
+{
+    static const uint32_t clocks[] = {7, 6};
+    static const uint8_t codes[] = {1, 2};
+    r6501q_state s = r6501q_fresh();
+    memset(memory, 0, sizeof memory);
+    SAME(r6501q_run(s, memory, 65535, clocks, 2, codes, 1, times, 2, words, 2, 5).number, R6501Q_WRONG_MEMORY_LENGTH);
+    SAME(r6501q_run(s, memory, 65536, clocks, 2, codes, 1, times, 2, words, 2, 5).number, R6501Q_UNEQUAL_LISTS);
+    SAME(r6501q_run(s, memory, 65536, clocks, 2, codes, 2, times, 1, words, 2, 5).number, R6501Q_UNEQUAL_LISTS);
+    SAME(r6501q_run(s, memory, 65536, clocks, 2, codes, 2, times, 2, words, 2, 5).number, R6501Q_WRONG_PIN_LIST);
+    s.clock = 0xFFFFFFF0;
+    SAME(r6501q_run(s, memory, 65536, clocks, 2, codes, 2, times, 2, words, 2, 16).number, R6501Q_CLOCK_TOO_HIGH);
+    SAME(r6501q_run(s, memory, 65536, clocks, 0, codes, 0, times, 2, words, 2, 15).number, R6501Q_DONE);
+    s.due.nmi = 2;
+    SAME(r6501q_run(s, memory, 65536, clocks, 2, codes, 1, times, 2, words, 2, 16).number, R6501Q_STATE_NOT_WELL_FORMED);
+    memory[0xFFFD] = 2;
+    memory[0x200] = 2;
+    SAME(run(r6501q_fresh(), 7).number, R6501Q_DONE);
+    SAME(run(r6501q_fresh(), 8).number, R6501Q_UNDEFINED_OPCODE);
+}
+
+int main(void)
+{
+    check_fresh();
+    check_ranges();
+    check_registers();
+    check_progress();
+    check_inputs();
+    check_example();
+    check_refusals();
+    if (faults != 0) {
+        printf("%d faults\n", faults);
+        return EXIT_FAILURE;
+    }
+    return EXIT_SUCCESS;
+}

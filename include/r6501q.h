@@ -1,0 +1,325 @@
+/* The R6501Q, clock by clock: the library `libcapi.a` for programs in C and C++.
+ *
+ * The library holds nothing between calls: the caller keeps the chip's state, its memory and its lists, and lends them to each
+ * call. A struct goes by value. A lent list is a pointer and then its length in entries; with a length of 0 the pointer is not
+ * used. Every call comes back, whatever state, memory, lists and counts it is given, good or damaged, and touches nothing
+ * outside the lists that it is lent. What is left to the caller: a pointer whose list is not empty is aligned for its type, the lengths
+ * are true, the lists do not overlap, `times`, `words` and `memory` may be written, and while a call goes on nobody else writes any of
+ * the lists, the memory or the tape, or reads those three.
+ *
+ * Rules and numbers are those of document 01. Hexadecimal ends in h.
+ */
+#ifndef R6501Q_H
+#define R6501Q_H
+
+#include <stddef.h>
+#include <stdint.h>
+
+#ifdef __cplusplus
+extern "C" {
+#endif
+
+/* The bytes of a memory, and the pins: 0 to 31 are A0 to D7, 32 is NMI, 33 is RES. */
+#define R6501Q_MEMORY_LENGTH 65536
+#define R6501Q_PIN_NMI 32
+#define R6501Q_PIN_RES 33
+
+/* Added to a pin's number in an input code where the new level is high. */
+#define R6501Q_HIGH 64
+
+/* What a call tells by its field `number` (document 01, "What is handed back"). */
+enum r6501q_number {
+    /* Run and step: all clocks done. Load: the tape is in memory. */
+    R6501Q_DONE = 0,
+
+    /* Refused. The state given comes back, nothing is read, counted or changed. Of several, the lowest is told. */
+    R6501Q_WRONG_MEMORY_LENGTH = 1, /* memory is not 65,536 bytes (the only one of these five that a load has) */
+    R6501Q_STATE_NOT_WELL_FORMED = 2, /* a field of the state is out of its range */
+    R6501Q_UNEQUAL_LISTS = 3, /* clocks and codes, or times and words, differ in length */
+    R6501Q_CLOCK_TOO_HIGH = 4, /* clock + n is above 4,294,967,295 */
+    R6501Q_WRONG_PIN_LIST = 5, /* the input list breaks its rule somewhere, be it past the last clock */
+
+    /* Stopped before the clock after the state's. State, memory and lists are as reached; that clock's inputs stay unread. */
+    R6501Q_UNDEFINED_OPCODE = 6, /* the clock would start an undefined opcode */
+    R6501Q_NO_FREE_RECORD = 7, /* the clock needs an output record and none is free */
+
+    /* A refused tape. Memory is unchanged; `place` is the index of the faulty record's `;`. */
+    R6501Q_MALFORMED_RECORD = 8, /* a digit missing or wrong, a count above 18h, or an address + count above 65,536 */
+    R6501Q_WRONG_CHECK_SUM = 9, /* the record's check sum is not the sum of its bytes */
+    R6501Q_WRONG_LAST_RECORD = 10 /* the last record's count is wrong, or it is missing: then `place` is the tape's length */
+};
+
+/* The machine state (document 01, "Machine state"). The range of a field is that of its type where none is given. */
+
+/* The CPU's registers, and the clocks that the present instruction or entry (reset, NMI, IRQ) still takes. */
+typedef struct r6501q_cpu {
+    uint8_t a;
+    uint8_t x;
+    uint8_t y;
+    uint8_t sp;
+    uint8_t p; /* bits 4 and 5 are 0 */
+    uint16_t pc;
+    uint8_t wait; /* 0 to 6 */
+} r6501q_cpu;
+
+/* The entries that are due. */
+typedef struct r6501q_due {
+    uint8_t reset; /* 0 or 1 */
+    uint8_t nmi; /* 0 or 1 */
+} r6501q_due;
+
+/* The port output latches. */
+typedef struct r6501q_ports {
+    uint8_t a;
+    uint8_t b;
+    uint8_t c;
+    uint8_t d;
+} r6501q_ports;
+
+/* Counter A and its latch. */
+typedef struct r6501q_counter_a {
+    uint16_t count;
+    uint16_t latch;
+} r6501q_counter_a;
+
+/* Counter B, latches B and C, and whether the next reload in mode 01 takes latch C. */
+typedef struct r6501q_counter_b {
+    uint16_t count;
+    uint16_t latchb;
+    uint16_t latchc;
+    uint8_t turnc; /* 0 or 1 */
+} r6501q_counter_b;
+
+/* Interrupt flags and enables, mode control, serial control and status. */
+typedef struct r6501q_control {
+    uint8_t ifr; /* bits 0 to 5; bits 6 and 7 follow from scsr and are 0 here */
+    uint8_t ier;
+    uint8_t mcr;
+    uint8_t sccr;
+    uint8_t scsr;
+} r6501q_control;
+
+/* The serial data to be sent and the data received. */
+typedef struct r6501q_serial_data {
+    uint8_t sent;
+    uint8_t received;
+} r6501q_serial_data;
+
+/* The bits left of the frame that is sent, the phase within a bit, and the bits, the present one lowest. */
+typedef struct r6501q_transmitter {
+    uint8_t left; /* 0 to 12 */
+    uint8_t phase; /* 0 to 15 */
+    uint16_t register_; /* 12 bits; `register` is a word of the language */
+} r6501q_transmitter;
+
+/* The sub-interval, whether the next tick makes a look at PA7, the bits left of the frame, and the bits, the last in bit 10. */
+typedef struct r6501q_receiver {
+    uint8_t subinterval; /* 0 to 7 */
+    uint8_t half; /* 0 or 1 */
+    uint8_t left; /* 0 to 11 */
+    uint16_t register_; /* 11 bits */
+} r6501q_receiver;
+
+/* All that stands behind the registers at 0 to 3Fh. */
+typedef struct r6501q_peripherals {
+    r6501q_ports ports;
+    r6501q_counter_a countera;
+    r6501q_counter_b counterb;
+    r6501q_control control;
+    r6501q_serial_data serial;
+    r6501q_transmitter transmitter;
+    r6501q_receiver receiver;
+} r6501q_peripherals;
+
+/* The levels of the 34 pins: PA0 in bit 0 of ports, PD7 in bit 31. */
+typedef struct r6501q_levels {
+    uint32_t ports;
+    uint8_t nmi; /* 0 or 1 */
+    uint8_t res; /* 0 or 1 */
+} r6501q_levels;
+
+/* The whole chip. */
+typedef struct r6501q_state {
+    r6501q_cpu cpu;
+    r6501q_due due;
+    r6501q_peripherals peripherals;
+    r6501q_levels external; /* what the inputs have set */
+    r6501q_levels last; /* the levels of the last clock done */
+    uint32_t clock; /* the clocks done since fresh; any value is well-formed */
+} r6501q_state;
+
+/* What a run or a step hands back. */
+typedef struct r6501q_told {
+    uint8_t number; /* R6501Q_DONE, or 1 to 7 of enum r6501q_number */
+    r6501q_state state;
+    uint32_t leaps; /* event clocks done, and 1 more where the last clock done is no event clock; 0 if no clock is done */
+    size_t read; /* the input entries read: the first so many of clocks and codes */
+    size_t written; /* the records written: the first so many of times and words */
+} r6501q_told;
+
+/* What a load hands back. */
+typedef struct r6501q_loaded {
+    uint8_t number; /* R6501Q_DONE, 1, or 8 to 10 of enum r6501q_number */
+    size_t place;
+} r6501q_loaded;
+
+/* A chip that has not run yet: reset due, clock 0, all levels high. Always well-formed. */
+r6501q_state r6501q_fresh(void);
+
+/* 1 where every field of the state is within its range, 0 where one is not. There is no rule across fields. */
+uint8_t r6501q_well_formed(r6501q_state state);
+
+/* n clocks, by leaps from event to event.
+ *
+ * In:   state      any; one that is not well-formed is refused with 2
+ *       memory     the 65,536 bytes; those at 0 to 3Fh, the registers' addresses, are never read or written
+ *       clocks     the input list, first of the pair: absolute clocks. They never fall, and the first is above the state's
+ *       codes      second of the pair: a pin's number, plus R6501Q_HIGH where its new level is high. Within a clock pins rise
+ *                  strictly. Inputs past the last clock are checked too and stay unread
+ *       times      space for output records, first of the pair: the clock after which the driven word differs
+ *       words      second of the pair: the driven word, PA0 in bit 0, PD7 in bit 31
+ *       n          how many clocks; with 0 all checks are made and nothing is done
+ *
+ * Back: 0          all n clocks done: state, memory and records are those of n single clocks
+ *       1 to 5     refused: the state given, leaps, read and written 0, everything unchanged
+ *       6, 7       stopped: state, memory, leaps, read and written as reached
+ *
+ * Entries of times and words from `written` on are never changed. The next call is lent the rest, clocks + read and
+ * times + written with their pairs, and the state handed back. Where no call is refused, all but the leaps come out the same
+ * however a stretch of clocks is cut into calls.
+ */
+r6501q_told r6501q_run(r6501q_state state,
+    uint8_t *memory, size_t memory_length,
+    const uint32_t *clocks, size_t clocks_length,
+    const uint8_t *codes, size_t codes_length,
+    uint32_t *times, size_t times_length,
+    uint32_t *words, size_t words_length,
+    uint32_t n);
+
+/* A single clock: what r6501q_run hands back and leaves for n = 1, `leaps` 1 where the clock is done and else 0. */
+r6501q_told r6501q_step(r6501q_state state,
+    uint8_t *memory, size_t memory_length,
+    const uint32_t *clocks, size_t clocks_length,
+    const uint8_t *codes, size_t codes_length,
+    uint32_t *times, size_t times_length,
+    uint32_t *words, size_t words_length);
+
+/* A paper tape into memory (document 01, "Tape"). The tape is checked whole before a byte is stored.
+ *
+ * In:   tape       the text, any bytes; characters between records and behind the last one are skipped
+ *       memory     the 65,536 bytes; bytes of the tape for 0 to 3Fh are dropped
+ *
+ * Back: 0          loaded; place is the index past the last record
+ *       1          memory is not 65,536 bytes; place 0, memory unchanged
+ *       8, 9, 10   refused for the earliest faulty record, its faults in this order; place is the index of its `;`, or the
+ *                  tape's length where the last record is missing; memory unchanged
+ */
+r6501q_loaded r6501q_load(const uint8_t *tape, size_t tape_length, uint8_t *memory, size_t memory_length);
+
+/* The layout that the library was built with, on x86-64 Linux. */
+#if defined(__cplusplus) && __cplusplus >= 201103L
+#define R6501Q_ASSERT(name, holds) static_assert(holds, #name)
+#elif defined(__STDC_VERSION__) && __STDC_VERSION__ >= 201112L
+#define R6501Q_ASSERT(name, holds) _Static_assert(holds, #name)
+#else
+#define R6501Q_ASSERT(name, holds) typedef char r6501q_assert_##name[(holds) ? 1 : -1]
+#endif
+#define R6501Q_SIZE(type, bytes) R6501Q_ASSERT(size_of_##type, sizeof(r6501q_##type) == (bytes))
+#define R6501Q_AT(type, field, bytes) R6501Q_ASSERT(type##_##field, offsetof(r6501q_##type, field) == (bytes))
+
+R6501Q_ASSERT(size_of_a_length, sizeof(size_t) == 8);
+R6501Q_ASSERT(size_of_a_pointer, sizeof(void *) == 8);
+
+R6501Q_SIZE(cpu, 10);
+R6501Q_AT(cpu, a, 0);
+R6501Q_AT(cpu, x, 1);
+R6501Q_AT(cpu, y, 2);
+R6501Q_AT(cpu, sp, 3);
+R6501Q_AT(cpu, p, 4);
+R6501Q_AT(cpu, pc, 6);
+R6501Q_AT(cpu, wait, 8);
+
+R6501Q_SIZE(due, 2);
+R6501Q_AT(due, reset, 0);
+R6501Q_AT(due, nmi, 1);
+
+R6501Q_SIZE(ports, 4);
+R6501Q_AT(ports, a, 0);
+R6501Q_AT(ports, b, 1);
+R6501Q_AT(ports, c, 2);
+R6501Q_AT(ports, d, 3);
+
+R6501Q_SIZE(counter_a, 4);
+R6501Q_AT(counter_a, count, 0);
+R6501Q_AT(counter_a, latch, 2);
+
+R6501Q_SIZE(counter_b, 8);
+R6501Q_AT(counter_b, count, 0);
+R6501Q_AT(counter_b, latchb, 2);
+R6501Q_AT(counter_b, latchc, 4);
+R6501Q_AT(counter_b, turnc, 6);
+
+R6501Q_SIZE(control, 5);
+R6501Q_AT(control, ifr, 0);
+R6501Q_AT(control, ier, 1);
+R6501Q_AT(control, mcr, 2);
+R6501Q_AT(control, sccr, 3);
+R6501Q_AT(control, scsr, 4);
+
+R6501Q_SIZE(serial_data, 2);
+R6501Q_AT(serial_data, sent, 0);
+R6501Q_AT(serial_data, received, 1);
+
+R6501Q_SIZE(transmitter, 4);
+R6501Q_AT(transmitter, left, 0);
+R6501Q_AT(transmitter, phase, 1);
+R6501Q_AT(transmitter, register_, 2);
+
+R6501Q_SIZE(receiver, 6);
+R6501Q_AT(receiver, subinterval, 0);
+R6501Q_AT(receiver, half, 1);
+R6501Q_AT(receiver, left, 2);
+R6501Q_AT(receiver, register_, 4);
+
+R6501Q_SIZE(peripherals, 34);
+R6501Q_AT(peripherals, ports, 0);
+R6501Q_AT(peripherals, countera, 4);
+R6501Q_AT(peripherals, counterb, 8);
+R6501Q_AT(peripherals, control, 16);
+R6501Q_AT(peripherals, serial, 21);
+R6501Q_AT(peripherals, transmitter, 24);
+R6501Q_AT(peripherals, receiver, 28);
+
+R6501Q_SIZE(levels, 8);
+R6501Q_AT(levels, ports, 0);
+R6501Q_AT(levels, nmi, 4);
+R6501Q_AT(levels, res, 5);
+
+R6501Q_SIZE(state, 68);
+R6501Q_AT(state, cpu, 0);
+R6501Q_AT(state, due, 10);
+R6501Q_AT(state, peripherals, 12);
+R6501Q_AT(state, external, 48);
+R6501Q_AT(state, last, 56);
+R6501Q_AT(state, clock, 64);
+
+R6501Q_SIZE(told, 96);
+R6501Q_AT(told, number, 0);
+R6501Q_AT(told, state, 4);
+R6501Q_AT(told, leaps, 72);
+R6501Q_AT(told, read, 80);
+R6501Q_AT(told, written, 88);
+
+R6501Q_SIZE(loaded, 16);
+R6501Q_AT(loaded, number, 0);
+R6501Q_AT(loaded, place, 8);
+
+#undef R6501Q_AT
+#undef R6501Q_SIZE
+#undef R6501Q_ASSERT
+
+#ifdef __cplusplus
+}
+#endif
+
+#endif
