@@ -1,8 +1,10 @@
 //! 01, One clock, in this order; and 01, Run and leaps, "Plain clocks ...".
 
-use crate::counters::{step_counter_a, step_counter_b};
-use crate::cpu::{start_on, starts_undefined, step_cpu};
+use crate::accesses::Accesses;
+use crate::counters::{mode_a, mode_b, step_counter_a, step_counter_b, Mode};
+use crate::cpu::{opcode_started, start_on, starts_undefined, step_cpu, undefined_at_pc, Start};
 use crate::pins::{apply_reset, detect_edges, driven_word, level, pin_levels, rises, set_external, PIN_RES};
+use crate::registers::REGISTERS_END;
 use crate::serial::tick;
 use crate::state::State;
 
@@ -23,18 +25,35 @@ pub struct World {
     pub stop: u8,
 }
 
+/// What steps 1 to 3 of a clock met.
+#[derive(Clone, Copy, PartialEq, Eq, Debug)]
+pub struct Met {
+    /// Inputs of this clock.
+    pub inputs: usize,
+    pub levels_differ: bool,
+    /// "where RES low changes any field"
+    pub reset_changes: bool,
+    /// The counters' modes in force in step 2.
+    pub modes: (Mode, Mode),
+    pub underflow_a: bool,
+    pub underflow_b: bool,
+}
+
 /// What one done clock was.
-#[derive(Clone, Copy, PartialEq, Eq, Debug, Default)]
+#[derive(Clone, Copy, PartialEq, Eq, Debug)]
 pub struct ClockReport {
     /// "An event clock is one with an input, with pin levels unlike the last ones, with an underflow, where RES low changes any
     /// field, or where the CPU starts."
     pub event: bool,
-}
-
-/// What steps 1 to 3 of a clock met.
-struct Met {
-    inputs: usize,
-    event: bool,
+    pub met: Met,
+    pub start: Option<Start>,
+    /// The opcode, where an instruction was started.
+    pub opcode: Option<u8>,
+    /// An undefined opcode is at PC, but RES low, wait or an entry kept it from being started.
+    pub undefined_kept: bool,
+    pub accesses: Accesses,
+    /// A record was written.
+    pub record: bool,
 }
 
 /// One plain clock: "Each, after a stop, does nothing. Where its clock meets 6, else 7, that is the stop and nothing else changes.
@@ -49,41 +68,35 @@ pub fn plain(world: &mut World) -> Option<ClockReport> {
         world.stop = 6;
         return None;
     }
-    let starts = start_on(&next).is_some();
-    if world.written == world.output_clocks.len() {
-        finish_without_free_record(world, next, met.inputs);
-    } else {
-        finish_with_free_record(world, next, met.inputs);
-    }
-    if world.stop != 0 {
+    let start = start_on(&next);
+    let opcode = opcode_started(&next, &world.memory);
+    let undefined_kept = undefined_at_pc(&next, &world.memory);
+    let mut accesses = Accesses::none();
+    step_cpu(&mut next, &mut world.memory, &mut accesses);
+    let record = driven_word(&next) != driven_word(&world.state);
+    if record && world.written == world.output_clocks.len() {
+        accesses.undo(&mut world.memory, REGISTERS_END);
+        world.stop = 7;
         return None;
     }
-    Some(ClockReport { event: met.event || starts })
-}
-
-/// Step 4 on a copy of the memory: a record that finds no free entry is stop 7, and then nothing changes.
-fn finish_without_free_record(world: &mut World, mut next: State, inputs: usize) {
-    let mut memory = world.memory.clone();
-    step_cpu(&mut next, &mut memory);
-    if driven_word(&next) != driven_word(&world.state) {
-        world.stop = 7;
-        return;
-    }
-    world.memory = memory;
-    world.state = next;
-    world.read += inputs;
-}
-
-/// Steps 4 and 5. "One record follows each clock after which the word differs."
-fn finish_with_free_record(world: &mut World, mut next: State, inputs: usize) {
-    step_cpu(&mut next, &mut world.memory);
-    if driven_word(&next) != driven_word(&world.state) {
-        world.output_clocks[world.written] = next.clock;
-        world.output_words[world.written] = driven_word(&next);
-        world.written += 1;
+    if record {
+        write_record(world, &next);
     }
     world.state = next;
-    world.read += inputs;
+    world.read += met.inputs;
+    Some(ClockReport { event: is_event(&met, start), met, start, opcode, undefined_kept, accesses, record })
+}
+
+fn is_event(met: &Met, start: Option<Start>) -> bool {
+    let underflow = met.underflow_a || met.underflow_b;
+    met.inputs > 0 || met.levels_differ || underflow || met.reset_changes || start.is_some()
+}
+
+/// Step 5. "One record follows each clock after which the word differs."
+fn write_record(world: &mut World, next: &State) {
+    world.output_clocks[world.written] = next.clock;
+    world.output_words[world.written] = driven_word(next);
+    world.written += 1;
 }
 
 fn steps_1_to_3(state: &mut State, clocks: &[u32], codes: &[u8]) -> Met {
@@ -97,14 +110,14 @@ fn steps_1_to_3(state: &mut State, clocks: &[u32], codes: &[u8]) -> Met {
     let reset_changes = !level(levels, PIN_RES) && reset_changes_field(state);
     state.last = levels;
     // Step 2. "Counter A, then B."
+    let modes = (mode_a(state), mode_b(state));
     let underflow_a = step_counter_a(state, risen, levels);
     let underflow_b = step_counter_b(state, risen);
     // Step 3. "Serial, at each underflow of A; that is a tick."
     if underflow_a {
         tick(state, levels);
     }
-    let event = inputs > 0 || levels_differ || reset_changes || underflow_a || underflow_b;
-    Met { inputs, event }
+    Met { inputs, levels_differ, reset_changes, modes, underflow_a, underflow_b }
 }
 
 /// Sets the external levels of the inputs of this clock and gives their number.

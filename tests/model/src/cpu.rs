@@ -1,5 +1,6 @@
 //! 01, One clock, 4, and 01, Instructions.
 
+use crate::accesses::{AccessKind, Accesses};
 use crate::opcodes::{defined, Addressing, Operation, TABLE};
 use crate::pins::{level, PIN_RES};
 use crate::registers::{
@@ -48,11 +49,21 @@ fn look(state: &State, memory: &[u8], address: u16) -> u8 {
 
 /// 01, What is handed back, 6: "the next clock would start an undefined opcode", judged after steps 1 to 3.
 pub fn starts_undefined(state: &State, memory: &[u8]) -> bool {
-    start_on(state) == Some(Start::Instruction) && !defined(look(state, memory, state.pc))
+    opcode_started(state, memory).is_some_and(|opcode| !defined(opcode))
 }
 
-/// 01, One clock, 4. The opcode, if one is started, is defined.
-pub fn step_cpu(state: &mut State, memory: &mut [u8]) {
+/// Whether the byte at PC is an undefined opcode, be it started or not.
+pub fn undefined_at_pc(state: &State, memory: &[u8]) -> bool {
+    !defined(look(state, memory, state.pc))
+}
+
+/// The opcode that the clock starts, if it starts an instruction; `state` is that after steps 1 to 3.
+pub fn opcode_started(state: &State, memory: &[u8]) -> Option<u8> {
+    (start_on(state) == Some(Start::Instruction)).then(|| look(state, memory, state.pc))
+}
+
+/// 01, One clock, 4. The opcode, if one is started, is defined. The accesses are put into `accesses`.
+pub fn step_cpu(state: &mut State, memory: &mut [u8], accesses: &mut Accesses) {
     if !level(state.last, PIN_RES) {
         return;
     }
@@ -60,7 +71,7 @@ pub fn step_cpu(state: &mut State, memory: &mut [u8]) {
         state.wait -= 1;
         return;
     };
-    let mut bus = Bus { state, memory };
+    let mut bus = Bus { state, memory, accesses };
     let length = match start {
         Start::Reset => enter_reset(&mut bus),
         Start::Nmi => enter_nmi(&mut bus),
@@ -75,26 +86,32 @@ pub fn step_cpu(state: &mut State, memory: &mut [u8]) {
 struct Bus<'a> {
     state: &'a mut State,
     memory: &'a mut [u8],
+    accesses: &'a mut Accesses,
 }
 
 impl Bus<'_> {
     fn read(&mut self, address: u16) -> u8 {
-        if address < REGISTERS_END {
+        let value = if address < REGISTERS_END {
             read_register(self.state, address as u8)
         } else {
             self.memory[usize::from(address)]
-        }
+        };
+        self.accesses.add(AccessKind::Read, address, value, 0);
+        value
     }
 
     fn read_to_modify(&mut self, address: u16) -> u8 {
-        if address < REGISTERS_END {
+        let value = if address < REGISTERS_END {
             read_register_to_modify(self.state, address as u8)
         } else {
             self.memory[usize::from(address)]
-        }
+        };
+        self.accesses.add(AccessKind::ReadToModify, address, value, 0);
+        value
     }
 
     fn write(&mut self, address: u16, value: u8) {
+        self.accesses.add(AccessKind::Write, address, value, self.memory[usize::from(address)]);
         if address < REGISTERS_END {
             write_register(self.state, address as u8, value);
         } else {

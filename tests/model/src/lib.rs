@@ -2,6 +2,7 @@
 //!
 //! It is written for comparison only. It never skips a clock; the leap count is obtained by looking at each clock.
 
+pub mod accesses;
 pub mod clock;
 pub mod counters;
 pub mod cpu;
@@ -14,8 +15,8 @@ pub mod serial;
 pub mod state;
 pub mod tape;
 
-pub use clock::{plain, ClockReport, World};
-pub use run::{refusal, run, Outcome};
+pub use clock::{plain, ClockReport, Met, World};
+pub use run::{refusal, run, run_observed, Outcome};
 pub use state::{fresh, well_formed, Receiver, State, Transmitter, Turn};
 pub use tape::load_tape;
 

@@ -1,6 +1,6 @@
 //! 01, Run and leaps, and 01, What is handed back (1 to 7).
 
-use crate::clock::{plain, World};
+use crate::clock::{plain, ClockReport, World};
 use crate::state::{well_formed, State};
 
 /// 01, Machine state: "Memory: a lent slice of 65,536 bytes."
@@ -64,6 +64,11 @@ fn in_order(clock: u32, code: u8, next_clock: u32, next_code: u8) -> bool {
 /// The lists of the call are the inputs from `read` on and the output entries from `written` on.
 /// "Leaps = event clocks done, plus 1 if the last clock done isn't an event clock; 0 if no clock is done."
 pub fn run(world: &mut World, n: u64) -> Outcome {
+    run_observed(world, n, |_, _, _| {})
+}
+
+/// A run that shows each done clock: the state before it, the state after it and its report.
+pub fn run_observed(world: &mut World, n: u64, mut observe: impl FnMut(&State, &State, &ClockReport)) -> Outcome {
     let number = refusal(
         &world.state,
         world.memory.len(),
@@ -81,7 +86,9 @@ pub fn run(world: &mut World, n: u64) -> Outcome {
     let mut leaps = 0;
     let mut last_was_event = true;
     for _ in 0..n {
+        let before = world.state.clone();
         let Some(report) = plain(world) else { break };
+        observe(&before, &world.state, &report);
         leaps += u64::from(report.event);
         last_was_event = report.event;
     }

@@ -194,7 +194,7 @@ fn end_character(state: &mut State) {
 }
 
 /// The data bits and the fault bits (SCSR2, SCSR3) of the receiver's register.
-fn judge_character(sccr: u8, register: u16) -> (u8, u8) {
+pub fn judge_character(sccr: u8, register: u16) -> (u8, u8) {
     let mut faults = 0;
     if register >> 10 & 1 == 0 {
         faults |= SCSR_FRAMING;

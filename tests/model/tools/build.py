@@ -1,4 +1,6 @@
-"""Builds scenarios.txt and expected.txt. Hand-derived outcomes stand here and are compared with the model's."""
+"""Builds target/model/scenarios.txt and expected.txt. Hand-derived outcomes stand here and are compared with the model's, whose programs
+cargo has built with --release below target/model.
+"""
 import os
 import subprocess
 import sys
@@ -7,7 +9,8 @@ HERE = os.path.dirname(os.path.abspath(__file__))
 sys.path.insert(0, HERE)
 from asm import assemble, tape
 
-WALK = os.path.join(HERE, '..', 'target', 'release', 'walk')
+OUT = os.path.join(HERE, '..', '..', '..', 'target', 'model')
+WALK = os.path.join(OUT, 'release', 'walk')
 SCENARIOS = []
 
 
@@ -47,7 +50,6 @@ for title, text, hand in SCENARIOS:
         print('   model', got)
 together = subprocess.run([WALK], input=whole, capture_output=True, text=True, check=True).stdout
 assert together == expected, 'whole file differs from single scenarios'
-OUT = os.path.join(HERE, '..')
 open(os.path.join(OUT, 'scenarios.txt'), 'w').write(whole)
 open(os.path.join(OUT, 'expected.txt'), 'w').write(expected)
 by_hand = sum(1 for s in SCENARIOS if s[2] is not None)

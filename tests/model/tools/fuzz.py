@@ -1,6 +1,6 @@
 """Writes scenario files of random firmware and inputs, and what the model prints for them.
 
-usage: fuzz.py directory number-of-files first-seed
+usage: fuzz.py walk directory number-of-files first-seed; walk is the model's program (tests/random builds it).
 """
 import os
 import random
@@ -11,7 +11,6 @@ HERE = os.path.dirname(os.path.abspath(__file__))
 sys.path.insert(0, HERE)
 from asm import T, tape
 
-WALK = os.path.join(HERE, '..', 'target', 'release', 'walk')
 LIMIT = 16384
 NAMES = sorted(T)
 DEFINED = sorted(o for modes in T.values() for o in modes.values())
@@ -185,7 +184,10 @@ def scenario(r, title):
 
 
 def main():
-    directory, files, seed = sys.argv[1], int(sys.argv[2]), int(sys.argv[3])
+    if len(sys.argv) != 5 or not (sys.argv[3].isdecimal() and sys.argv[4].isdecimal() and int(sys.argv[3]) > 0):
+        print('usage: fuzz.py walk directory number-of-files first-seed', file=sys.stderr)
+        sys.exit(2)
+    walk, directory, files, seed = sys.argv[1], sys.argv[2], int(sys.argv[3]), int(sys.argv[4])
     os.makedirs(directory, exist_ok=True)
     for n in range(files):
         r = random.Random(seed + n)
@@ -197,7 +199,7 @@ def main():
             text += one
             k += 1
         base = os.path.join(directory, 'random_%04d' % (seed + n))
-        out = subprocess.run([WALK], input=text, capture_output=True, text=True, check=True).stdout
+        out = subprocess.run([walk], input=text, capture_output=True, text=True, check=True).stdout
         open(base + '.txt', 'w').write(text)
         open(base + '.expected', 'w').write(out)
 

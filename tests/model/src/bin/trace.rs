@@ -3,15 +3,20 @@
 use plain_clock::scenario::{read_file, single_clocks};
 use plain_clock::{State, Turn, World};
 use std::io::Read;
+use std::process::ExitCode;
 
-fn main() {
-    let number: usize = std::env::args().nth(1).and_then(|text| text.parse().ok()).unwrap_or(1);
+fn main() -> ExitCode {
     let mut text = Vec::new();
     std::io::stdin().read_to_end(&mut text).expect("standard input");
     let mut scenarios = read_file(&text);
-    let scenario = &mut scenarios[number - 1];
+    let number = std::env::args().nth(1).and_then(|text| text.parse::<usize>().ok());
+    let Some(scenario) = number.and_then(|number| scenarios.get_mut(number.checked_sub(1)?)) else {
+        eprintln!("usage: trace number, from 1 to the number of scenarios in standard input");
+        return ExitCode::from(2);
+    };
     let (done, number) = single_clocks(scenario, print_world);
     println!("end {done} {number}");
+    ExitCode::SUCCESS
 }
 
 fn print_world(world: &World) {

@@ -1,0 +1,10 @@
+#include "library.h"
+
+typedef void any_call(void);
+
+const library right = {
+    (run_call *)(any_call *)r6501q_run,
+    (step_call *)(any_call *)r6501q_step,
+    r6501q_load,
+    r6501q_well_formed,
+};

@@ -1,0 +1,137 @@
+//! One scenario in detail: what it is, what each side says after each call, and the first clock on which the two differ.
+
+use crate::compare::{list_difference, Difference, Sides};
+use crate::convert::{first_difference, library_state};
+use crate::coverage::Coverage;
+use crate::scenario::{Maker, Scenario};
+use plain_clock::{run, run_observed, World};
+
+pub fn print_scenario(scenario: &Scenario) {
+    println!("theme {:?}", scenario.theme);
+    println!("start {:X?}", scenario.state);
+    if let Some(damage) = scenario.flag_damage {
+        println!("damaged flag {} is {:X}h", damage.flag, damage.byte);
+    }
+    println!("memory of {} bytes", scenario.memory.len());
+    print_bytes(scenario, "code at PC", usize::from(scenario.state.pc), 48);
+    print_bytes(scenario, "page zero", 0x40, 0xC0);
+    print_bytes(scenario, "vectors", 0xFFFA, 6);
+    for vector in [0xFFFA, 0xFFFC, 0xFFFE] {
+        if let Some(&[low, high]) = scenario.memory.get(vector..vector + 2) {
+            let target = u16::from_le_bytes([low, high]);
+            print_bytes(scenario, "code at a vector", usize::from(target), 48);
+        }
+    }
+    let inputs = scenario.input_clocks.iter().zip(&scenario.input_codes);
+    let inputs: Vec<String> = inputs.map(|(clock, code)| format!("{clock}:{code:02X}h")).collect();
+    let (clocks, codes) = (scenario.input_clocks.len(), scenario.input_codes.len());
+    println!("inputs, {clocks} clocks and {codes} codes: {}", inputs.join(" "));
+    println!("free entries: {} clocks, {} words", scenario.output_clocks.len(), scenario.output_words.len());
+    println!("calls {:?}", scenario.calls);
+}
+
+fn print_bytes(scenario: &Scenario, name: &str, from: usize, number: usize) {
+    let memory = &scenario.memory;
+    let end = (from + number).min(memory.len());
+    if from < end {
+        let bytes: Vec<String> = memory[from..end].iter().map(|byte| format!("{byte:02X}")).collect();
+        println!("{name}, {from:04X}h: {}", bytes.join(" "));
+    }
+}
+
+/// Does one scenario again in detail. Gives whether the sides agree.
+pub fn replay(seed: u64, index: u64) -> bool {
+    let mut scenario = Scenario::empty();
+    Maker::new(seed).make(index, &mut scenario);
+    print_scenario(&scenario);
+    let outcome = Sides::new().check(&scenario, &mut Coverage::new());
+    print_calls(&scenario);
+    let Err(difference) = outcome else {
+        println!("no difference");
+        return true;
+    };
+    print_difference(&difference);
+    if scenario.flag_damage.is_none() {
+        print_first_clock(&scenario);
+    }
+    false
+}
+
+pub fn print_difference(difference: &Difference) {
+    match difference.call {
+        Some(call) => println!("call {call} differs: {}", difference.text),
+        None => println!("the single clocks differ: {}", difference.text),
+    }
+}
+
+fn world_of(scenario: &Scenario) -> World {
+    World {
+        state: scenario.state.clone(),
+        memory: scenario.memory.clone(),
+        input_clocks: scenario.input_clocks.clone(),
+        input_codes: scenario.input_codes.clone(),
+        read: 0,
+        output_clocks: scenario.output_clocks.clone(),
+        output_words: scenario.output_words.clone(),
+        written: 0,
+        stop: 0,
+    }
+}
+
+/// What the model says of each call.
+fn print_calls(scenario: &Scenario) {
+    if scenario.flag_damage.is_some() {
+        return;
+    }
+    let mut world = world_of(scenario);
+    for call in &scenario.calls {
+        let outcome = run(&mut world, u64::from(call.clocks()));
+        println!("{call:?}: {outcome:?}");
+        println!("    {:X?}", world.state);
+        if outcome.number > 5 {
+            break;
+        }
+    }
+    for record in 0..world.written {
+        println!("record {} {:08X}", world.output_clocks[record], world.output_words[record]);
+    }
+}
+
+/// Walks both sides by single clocks and shows the first clock after which they differ.
+fn print_first_clock(scenario: &Scenario) {
+    let mut world = world_of(scenario);
+    let clocks: u64 = scenario.calls.iter().map(|call| u64::from(call.clocks())).sum();
+    for _ in 0..clocks {
+        let before = world.clone();
+        let mut memory = before.memory.clone();
+        let (mut times, mut words) = (before.output_clocks.clone(), before.output_words.clone());
+        let told = r6501q::step(
+            library_state(&before.state),
+            &mut memory,
+            &before.input_clocks[before.read..],
+            &before.input_codes[before.read..],
+            &mut times[before.written..],
+            &mut words[before.written..],
+        );
+        let mut report = None;
+        let outcome = run_observed(&mut world, 1, |_, _, met| report = Some(*met));
+        let number = u8::from(told.number);
+        let different = first_difference(&told.state, &library_state(&world.state))
+            .or_else(|| list_difference("memory", &memory, &world.memory))
+            .or_else(|| list_difference("output clocks", &times, &world.output_clocks))
+            .or_else(|| list_difference("output words", &words, &world.output_words))
+            .or_else(|| (number != outcome.number).then(|| format!("number: library {number}, model {}", outcome.number)));
+        if let Some(text) = different {
+            println!("the clock after {} differs: {text}", before.state.clock);
+            println!("before  {:X?}", library_state(&before.state));
+            println!("library {:X?}", told.state);
+            println!("model   {:X?}", library_state(&world.state));
+            println!("model's clock {report:X?}");
+            return;
+        }
+        if outcome.number != 0 {
+            break;
+        }
+    }
+    println!("by single clocks the sides agree: the difference is of the run, of a refusal or of a count");
+}

@@ -1,0 +1,103 @@
+//! A test image on the chip: it says what it found by the address at which the program counter stays.
+
+use r6501q::{run, Number, State};
+
+use crate::registers::Registers;
+
+/// The clocks of a piece, and the free records that it is lent: a clock needs one at most.
+const PIECE: u32 = 1_000_000;
+const RECORDS: usize = PIECE as usize;
+
+/// The most clocks that can be asked for: the instruction that is looked at behind them, 7 clocks at most, ends within the clock's range.
+pub const MOST: u32 = u32::MAX - 7;
+
+/// How a test image ended.
+#[derive(Clone, Copy, PartialEq, Eq, Debug)]
+pub enum Ending {
+    /// An instruction goes to itself, at this address.
+    Stays(u16),
+    /// An undefined opcode is at this address.
+    Undefined(u16),
+    /// None of these.
+    GoesOn,
+}
+
+/// The chip with the image in its memory.
+pub struct Image {
+    state: State,
+    memory: Vec<u8>,
+    times: Vec<u32>,
+    words: Vec<u32>,
+}
+
+impl Image {
+    /// A fresh chip that has no reset due and starts at an address; the vectors are the image's own.
+    pub fn new(file: &[u8], load: u16, start: u16) -> Result<Image, String> {
+        let mut memory = vec![0; 0x10000];
+        let load = usize::from(load);
+        memory
+            .get_mut(load..load + file.len())
+            .ok_or("it reaches past the memory")?
+            .copy_from_slice(file);
+        let mut state = State::fresh();
+        state.due.reset = 0;
+        state.cpu.pc = start;
+        Ok(Image {
+            state,
+            memory,
+            times: vec![0; RECORDS],
+            words: vec![0; RECORDS],
+        })
+    }
+
+    /// Runs for so many clocks, `MOST` or fewer. After each piece it looks whether the next instruction goes to itself, which takes up to 7
+    /// clocks more.
+    pub fn run(&mut self, clocks: u32) -> Ending {
+        assert!(clocks <= MOST);
+        while self.state.clock < clocks {
+            let piece = PIECE.min(clocks - self.state.clock);
+            if let Some(ending) = self.go(piece).or_else(|| self.stays()) {
+                return ending;
+            }
+        }
+        Ending::GoesOn
+    }
+
+    pub fn clock(&self) -> u32 {
+        self.state.clock
+    }
+
+    pub fn registers(&self) -> Registers {
+        Registers::from(&self.state)
+    }
+
+    /// So many clocks. With as many records as clocks, no inputs and a clock that stays within its range, an undefined opcode alone ends them
+    /// early.
+    fn go(&mut self, clocks: u32) -> Option<Ending> {
+        let (times, words) = (&mut self.times, &mut self.words);
+        let told = run(self.state, &mut self.memory, &[], &[], times, words, clocks);
+        self.state = told.state;
+        match told.number {
+            Number::Done => None,
+            Number::UndefinedOpcode => Some(Ending::Undefined(self.state.cpu.pc)),
+            other => unreachable!("{other}"),
+        }
+    }
+
+    /// Whether the next instruction goes to itself.
+    fn stays(&mut self) -> Option<Ending> {
+        let at = self.state.cpu.pc;
+        let ending = self.go(u32::from(self.state.cpu.wait) + 1);
+        ending.or((self.state.cpu.pc == at).then_some(Ending::Stays(at)))
+    }
+}
+
+impl std::fmt::Display for Ending {
+    fn fmt(&self, f: &mut std::fmt::Formatter<'_>) -> std::fmt::Result {
+        match self {
+            Ending::Stays(address) => write!(f, "the program counter stays at {address:04X}h"),
+            Ending::Undefined(address) => write!(f, "undefined opcode at {address:04X}h"),
+            Ending::GoesOn => write!(f, "the program counter stays nowhere"),
+        }
+    }
+}
