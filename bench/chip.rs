@@ -1,181 +1,99 @@
-// The library as Rust calls it: `r6501q_..` of the crate `capi`, with safe functions over them.
+// A chip with its memory and its output lists, which each piece writes anew. Its clocks go by one run, or by single clocks.
 
-#[repr(C)]
-#[derive(Clone, Copy, PartialEq, Debug)]
-pub struct Cpu {
-    pub a: u8,
-    pub x: u8,
-    pub y: u8,
-    pub sp: u8,
-    pub p: u8,
-    pub pc: u16,
-    pub wait: u8,
-}
+use std::time::Duration;
 
-#[repr(C)]
-#[derive(Clone, Copy, PartialEq, Debug)]
-pub struct Due {
-    pub reset: u8,
-    pub nmi: u8,
-}
+use r6501q::{run, step, State};
 
-#[repr(C)]
-#[derive(Clone, Copy, PartialEq, Debug)]
-pub struct CounterA {
-    pub count: u16,
-    pub latch: u16,
-}
+use crate::processor_time;
 
-#[repr(C)]
-#[derive(Clone, Copy, PartialEq, Debug)]
-pub struct CounterB {
-    pub count: u16,
-    pub latchb: u16,
-    pub latchc: u16,
-    pub turnc: u8,
-}
+// The entries of each output list: more records than a piece writes.
+const ENTRIES: usize = 65_536;
 
-#[repr(C)]
-#[derive(Clone, Copy, PartialEq, Debug)]
-pub struct Control {
-    pub ifr: u8,
-    pub ier: u8,
-    pub mcr: u8,
-    pub sccr: u8,
-    pub scsr: u8,
-}
-
-#[repr(C)]
-#[derive(Clone, Copy, PartialEq, Debug)]
-pub struct Transmitter {
-    pub left: u8,
-    pub phase: u8,
-    pub register: u16,
-}
-
-#[repr(C)]
-#[derive(Clone, Copy, PartialEq, Debug)]
-pub struct Receiver {
-    pub subinterval: u8,
-    pub half: u8,
-    pub left: u8,
-    pub register: u16,
-}
-
-#[repr(C)]
-#[derive(Clone, Copy, PartialEq, Debug)]
-pub struct Peripherals {
-    pub ports: [u8; 4],
-    pub countera: CounterA,
-    pub counterb: CounterB,
-    pub control: Control,
-    pub serial: [u8; 2], // sent, received
-    pub transmitter: Transmitter,
-    pub receiver: Receiver,
-}
-
-#[repr(C)]
-#[derive(Clone, Copy, PartialEq, Debug)]
-pub struct Levels {
-    pub ports: u32,
-    pub nmi: u8,
-    pub res: u8,
-}
-
-#[repr(C)]
-#[derive(Clone, Copy, PartialEq, Debug)]
-pub struct State {
-    pub cpu: Cpu,
-    pub due: Due,
-    pub peripherals: Peripherals,
-    pub external: Levels,
-    pub last: Levels,
-    pub clock: u32,
-}
-
-#[repr(C)]
-#[derive(Clone, Copy, PartialEq, Debug)]
-pub struct Told {
-    pub number: u8,
+pub struct Chip {
     pub state: State,
-    pub leaps: u32,
-    pub read: usize,
-    pub written: usize,
+    pub memory: Vec<u8>,
+    times: Vec<u32>,
+    words: Vec<u32>,
+    written: usize,
+    pub records: usize,
+    pub leaps: u64,
 }
 
-extern "C" {
-    fn r6501q_fresh() -> State;
-    fn r6501q_step(
-        state: State,
-        memory: *mut u8,
-        memory_length: usize,
-        clocks: *const u32,
-        clocks_length: usize,
-        codes: *const u8,
-        codes_length: usize,
-        times: *mut u32,
-        times_length: usize,
-        words: *mut u32,
-        words_length: usize,
-    ) -> Told;
-    fn r6501q_run(
-        state: State,
-        memory: *mut u8,
-        memory_length: usize,
-        clocks: *const u32,
-        clocks_length: usize,
-        codes: *const u8,
-        codes_length: usize,
-        times: *mut u32,
-        times_length: usize,
-        words: *mut u32,
-        words_length: usize,
-        n: u32,
-    ) -> Told;
-}
+impl Chip {
+    pub fn new(memory: Vec<u8>) -> Chip {
+        Chip {
+            state: State::fresh(),
+            memory,
+            times: vec![0; ENTRIES],
+            words: vec![0; ENTRIES],
+            written: 0,
+            records: 0,
+            leaps: 0,
+        }
+    }
 
-// A chip that has not run yet.
-pub fn fresh() -> State {
-    unsafe { r6501q_fresh() }
-}
+    // A piece by one run.
+    pub fn run(&mut self, clocks: u32) -> Result<Duration, String> {
+        let (told, time) = processor_time::of(|| {
+            let (times, words) = (&mut self.times, &mut self.words);
+            run(self.state, &mut self.memory, &[], &[], times, words, clocks)
+        });
+        told.number.done().map_err(|number| number.to_string())?;
+        self.state = told.state;
+        self.leaps += u64::from(told.leaps);
+        self.wrote(told.written);
+        Ok(time)
+    }
 
-// One clock with no inputs.
-pub fn step(state: State, memory: &mut [u8], times: &mut [u32], words: &mut [u32]) -> Told {
-    let (clocks, codes): ([u32; 0], [u8; 0]) = ([], []);
-    unsafe {
-        r6501q_step(
-            state,
-            memory.as_mut_ptr(),
-            memory.len(),
-            clocks.as_ptr(),
-            0,
-            codes.as_ptr(),
-            0,
-            times.as_mut_ptr(),
-            times.len(),
-            words.as_mut_ptr(),
-            words.len(),
-        )
+    // A piece by single clocks, each lent the free part of the output lists.
+    pub fn steps(&mut self, clocks: u32) -> Result<Duration, String> {
+        let (written, time) = processor_time::of(|| {
+            let mut written = 0;
+            for _ in 0..clocks {
+                let (times, words) = (&mut self.times[written..], &mut self.words[written..]);
+                let told = step(self.state, &mut self.memory, &[], &[], times, words);
+                told.number.done()?;
+                self.state = told.state;
+                written += told.written;
+                self.leaps += u64::from(told.leaps);
+            }
+            Ok(written)
+        });
+        self.wrote(written.map_err(|number: r6501q::Number| number.to_string())?);
+        Ok(time)
+    }
+
+    fn wrote(&mut self, written: usize) {
+        self.written = written;
+        self.records += written;
+    }
+
+    // The same state, memory and records of the last piece, or what differs.
+    pub fn same(&self, other: &Chip) -> Result<(), String> {
+        if self.state != other.state {
+            return Err(format!("{:?}\n{:?}", self.state, other.state));
+        }
+        same_memory(&self.memory, &other.memory)?;
+        let records = |chip: &Chip| {
+            let written = chip.written;
+            (
+                chip.times[..written].to_vec(),
+                chip.words[..written].to_vec(),
+            )
+        };
+        if records(self) != records(other) {
+            return Err("the records differ".to_string());
+        }
+        Ok(())
     }
 }
 
-// n clocks with no inputs.
-pub fn run(state: State, memory: &mut [u8], times: &mut [u32], words: &mut [u32], n: u32) -> Told {
-    let (clocks, codes): ([u32; 0], [u8; 0]) = ([], []);
-    unsafe {
-        r6501q_run(
-            state,
-            memory.as_mut_ptr(),
-            memory.len(),
-            clocks.as_ptr(),
-            0,
-            codes.as_ptr(),
-            0,
-            times.as_mut_ptr(),
-            times.len(),
-            words.as_mut_ptr(),
-            words.len(),
-            n,
-        )
+pub fn same_memory(one: &[u8], other: &[u8]) -> Result<(), String> {
+    match one.iter().zip(other).position(|(a, b)| a != b) {
+        None => Ok(()),
+        Some(at) => Err(format!(
+            "{at:04X}h holds {:02X}h and {:02X}h",
+            one[at], other[at]
+        )),
     }
 }

@@ -1,119 +1,102 @@
-// How fast the leaping run is, beside repeated single clocks: the same firmware by both, in pieces by turns. What they
-// hand back, leave in memory and write must be the same.
+// How fast the chip is, by `run` and by `step`, beside VICE's core and sim65, and how its cost grows with lists and lengths. Whatever is timed side by
+// side must come to the same, or the program ends with 1.
+//
+// usage: bench FOLDER [--short], or for a profiler, nothing timed: bench FOLDER --only busy|firmware run|step
+mod busy;
+mod calls;
 mod chip;
+mod counter_and_port;
 mod firmware;
+mod inputs;
 mod processor_time;
+mod sim65;
+mod start;
+mod table;
+mod vice;
 
-use std::time::Duration;
+use std::path::Path;
+use std::process::ExitCode;
 
-// The clocks of a piece, and the pieces.
-const PIECE: u32 = 1_000_000;
-const PIECES: u32 = 20;
+use busy::Busy;
+use chip::Chip;
+use start::Start;
 
-// The entries of each output list: more records than a piece writes.
-const ENTRIES: usize = 65_536;
+// The clocks of a piece.
+pub const PIECE: u32 = 1_000_000;
 
-// A chip with its memory and its output lists, which are written anew each piece.
-struct Bench {
-    state: chip::State,
-    memory: Vec<u8>,
-    times: Vec<u32>,
-    words: Vec<u32>,
-    written: usize,
-    records: usize,
-    leaps: u64,
-    spent: Duration,
+// How much is measured.
+struct Extent {
+    turns: u32,
+    // Of the firmware in a turn; the busy program has its own length.
+    pieces: u32,
+    // Of the tables of growth, whose runs are short.
+    growth_turns: u32,
+    input_lists: &'static [u32],
+    longest_run: u32,
 }
 
-impl Bench {
-    fn new() -> Self {
-        Bench {
-            state: chip::fresh(),
-            memory: firmware::memory(),
-            times: vec![0; ENTRIES],
-            words: vec![0; ENTRIES],
-            written: 0,
-            records: 0,
-            leaps: 0,
-            spent: Duration::ZERO,
+const WHOLE: Extent = Extent {
+    turns: 7,
+    pieces: 20,
+    growth_turns: 15,
+    input_lists: &[0, 1_000, 10_000, 100_000, 1_000_000],
+    longest_run: 10_000_000,
+};
+
+const SHORT: Extent = Extent {
+    turns: 2,
+    pieces: 2,
+    growth_turns: 3,
+    input_lists: &[0, 1_000, 10_000, 100_000],
+    longest_run: 1_000_000,
+};
+
+fn main() -> ExitCode {
+    let arguments: Vec<String> = std::env::args().skip(1).collect();
+    let arguments: Vec<&str> = arguments.iter().map(String::as_str).collect();
+    let result = match arguments[..] {
+        [made] => measure(Path::new(made), &WHOLE),
+        [made, "--short"] => measure(Path::new(made), &SHORT),
+        [made, "--only", program @ ("busy" | "firmware"), way @ ("run" | "step")] => {
+            only(Path::new(made), program, way)
         }
-    }
-
-    // A piece by one run.
-    fn run(&mut self) {
-        let begun = processor_time::now();
-        let told = chip::run(
-            self.state,
-            &mut self.memory,
-            &mut self.times,
-            &mut self.words,
-            PIECE,
-        );
-        self.spent += processor_time::now() - begun;
-        assert_eq!(told.number, 0);
-        self.state = told.state;
-        self.written = told.written;
-        self.records += told.written;
-        self.leaps += u64::from(told.leaps);
-    }
-
-    // A piece by single clocks, each lent the free part of the output lists.
-    fn steps(&mut self) {
-        let begun = processor_time::now();
-        let mut written = 0;
-        for _ in 0..PIECE {
-            let (times, words) = (&mut self.times[written..], &mut self.words[written..]);
-            let told = chip::step(self.state, &mut self.memory, times, words);
-            assert_eq!(told.number, 0);
-            self.state = told.state;
-            written += told.written;
-            self.leaps += u64::from(told.leaps);
+        _ => {
+            eprintln!("usage: bench FOLDER [--short | --only busy|firmware run|step]");
+            return ExitCode::from(2);
         }
-        self.spent += processor_time::now() - begun;
-        self.written = written;
-        self.records += written;
-    }
-
-    // Emulated clocks per second.
-    fn speed(&self) -> f64 {
-        f64::from(PIECE) * f64::from(PIECES) / self.spent.as_secs_f64()
+    };
+    match result {
+        Ok(()) => ExitCode::SUCCESS,
+        Err(difference) => {
+            println!("{difference}");
+            ExitCode::from(1)
+        }
     }
 }
 
-// The same state, memory and records by both ways.
-fn compare(a: &Bench, b: &Bench) {
-    assert_eq!(a.state, b.state);
-    assert!(a.memory == b.memory);
-    assert_eq!(a.written, b.written);
-    assert_eq!(a.times[..a.written], b.times[..b.written]);
-    assert_eq!(a.words[..a.written], b.words[..b.written]);
+fn measure(made: &Path, extent: &Extent) -> Result<(), String> {
+    let busy = Busy::new(made).map_err(|e| format!("busy program: {e}"))?;
+    busy.print(extent.turns)
+        .map_err(|e| format!("busy program: {e}"))?;
+    counter_and_port::print(extent.pieces, extent.turns)
+        .map_err(|e| format!("counter and port: {e}"))?;
+    let start = Start::new(busy.memory())?;
+    inputs::print(&start, extent.input_lists, extent.growth_turns)
+        .map_err(|e| format!("inputs: {e}"))?;
+    calls::print(&start, extent.longest_run, extent.growth_turns).map_err(|e| format!("calls: {e}"))
 }
 
-// With no argument both ways are timed and compared. `run` or `step` does that one alone and prints nothing, for a profiler.
-fn main() {
-    let alone = std::env::args().nth(1).unwrap_or_default();
-    let mut run = Bench::new();
-    let mut steps = Bench::new();
-    for _ in 0..PIECES {
-        if alone != "step" {
-            run.run();
-        }
-        if alone != "run" {
-            steps.steps();
-        }
-        if alone.is_empty() {
-            compare(&run, &steps);
-        }
+// One program by one way, as many clocks as the firmware takes in a turn; the busy program takes some more.
+fn only(made: &Path, program: &str, way: &str) -> Result<(), String> {
+    let mut chip = Chip::new(match program {
+        "busy" => busy::program(made)?.memory(),
+        _ => firmware::memory(),
+    });
+    for _ in 0..WHOLE.pieces {
+        match way {
+            "run" => chip.run(PIECE)?,
+            _ => chip.steps(PIECE)?,
+        };
     }
-    if !alone.is_empty() {
-        return;
-    }
-    let clocks = u64::from(PIECE) * u64::from(PIECES);
-    println!(
-        "{clocks} clocks, {} leaps, {} records",
-        run.leaps, run.records
-    );
-    println!("run   {:>12.0} clocks per second", run.speed());
-    println!("step  {:>12.0} clocks per second", steps.speed());
-    println!("ratio {:>12.2}", run.speed() / steps.speed());
+    Ok(())
 }
