@@ -178,44 +178,44 @@ module _ (n : ℕ) (s : State) (clocks : List ℕ) (span : ℕ) (a : Alone n s c
   abbrev left : ℕ
   left = n - w .gone .0
 
-  abbrev now : State
-  now = workingState s w
+  abbrev there : State
+  there = workingState s w
 
   -- the distances from a state in the span
-  start-there : toStart left now ≡ w .wait
+  start-there : toStart left there ≡ w .wait
   unfolding toStart
   start-there = rw (a .res)
 
-  reset-there : toReset left now ≡ left
+  reset-there : toReset left there ≡ left
   unfolding toReset resetChanges
   reset-there = rw (a .res)
 
-  change-there : toChange left now ≡ left
+  change-there : toChange left there ≡ left
   unfolding toChange
   change-there = rw (working-change s w, a .change)
 
   rest : span - w .gone .0 ≤ left
   rest = omega (arith, a .left)
 
-  underflow-a-there : span - w .gone .0 ≤ toUnderflowA left now
+  underflow-a-there : span - w .gone .0 ≤ toUnderflowA left there
   unfolding toUnderflowA
   underflow-a-there =
-      at-least (runningA (s .peripherals .control) (s .last .ports)) (now .peripherals .countera .count) left (span - w .gone .0) rest
+      at-least (runningA (s .peripherals .control) (s .last .ports)) (there .peripherals .countera .count) left (span - w .gone .0) rest
       (λ e. omega (arith, working-a s w e, a .count-a e))
 
-  underflow-b-there : span - w .gone .0 ≤ toUnderflowB left now
+  underflow-b-there : span - w .gone .0 ≤ toUnderflowB left there
   unfolding toUnderflowB
   underflow-b-there =
-      at-least (runningB (s .peripherals .control)) (now .peripherals .counterb .count) left (span - w .gone .0) rest
+      at-least (runningB (s .peripherals .control)) (there .peripherals .counterb .count) left (span - w .gone .0) rest
       (λ e. omega (arith, working-b s w e, a .count-b e))
 
   -- its gap is its wait
-  pub working-gap : gapOf left now clocks .0 ≡ w .wait
+  pub working-gap : gapOf left there clocks .0 ≡ w .wait
   unfolding gapOf
   working-gap =
       let t = start-there in
       let input = input-later n span (s .clock) (w .gone .0) clocks (a .left) (a .input) in
-      last-least left (toInput left (now .clock) clocks) (toChange left now) (toUnderflowA left now) (toUnderflowB left now) (toReset left now) (toStart left now)
+      last-least left (toInput left (there .clock) clocks) (toChange left there) (toUnderflowA left there) (toUnderflowB left there) (toReset left there) (toStart left there)
       (omega (arith, t, rest, inside)) (omega (arith, t, input, inside)) (omega (arith, t, change-there, rest, inside))
       (omega (arith, t, underflow-a-there, inside)) (omega (arith, t, underflow-b-there, inside)) (omega (arith, t, reset-there, rest, inside))
       ∙ t

@@ -178,7 +178,7 @@ fn holds(line: &[u8], case: Case, opcode: u8, memory: &mut [u8], expected: &[u8]
 }
 
 // Whether a line is a case that holds.
-pub fn agrees(line: &[u8], opcode: u8) -> bool {
+pub(crate) fn agrees(line: &[u8], opcode: u8) -> bool {
     let mut memory = cleared();
     let case = read_case(line, &mut memory);
     let mut expected = memory;

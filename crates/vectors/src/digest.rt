@@ -108,7 +108,7 @@ fn sum_of(opcode: u8, a: u8, p: u8) -> Sum {
 }
 
 // Whether a line is a digest that is right.
-pub fn agrees(line: &[u8], opcode: u8) -> bool {
+pub(crate) fn agrees(line: &[u8], opcode: u8) -> bool {
     let p = byte_at(line, after(line, start(), DIGEST_MARK));
     let a = next_byte(line, p.rest);
     let digest = digits(line, after(line, a.rest, b' '), 8);

@@ -23,7 +23,7 @@ pub struct Group {
 }
 
 // No opcode is known, so that no case agrees.
-pub fn unknown() -> Group {
+pub(crate) fn unknown() -> Group {
     Group {
         known: false,
         opcode: 0,
@@ -33,7 +33,7 @@ pub fn unknown() -> Group {
 }
 
 // The group that a line begins. Where the line is not right, it counts as a case that does not agree.
-pub fn open(line: &[u8]) -> Group
+pub(crate) fn open(line: &[u8]) -> Group
     requires { ⌜ 1 ≤ length (now line) ⌝ }
 {
     let opcode = byte_at(line, after(line, start(), GROUP_MARK));
@@ -70,7 +70,7 @@ impl Group {
     }
 
     // One line more. A line that is nothing else counts as a case, which does not agree.
-    pub fn take(self, line: &[u8]) -> Group
+    pub(crate) fn take(self, line: &[u8]) -> Group
         requires { ⌜ 1 ≤ length (now line) ⌝ }
     {
         if line[0] == COMMENT_MARK {
@@ -83,7 +83,7 @@ impl Group {
     }
 
     // The rest of its line, whose words are printed already. Of an unknown opcode there are none, and there may be nothing to tell.
-    pub fn print(self) {
+    pub(crate) fn print(self) {
         if !self.known {
             if self.cases.all == 0 {
                 return;

@@ -36,7 +36,7 @@ fn one_later(cpu: Cpu) -> State
 }
 
 // The single-clock call with no inputs and one free output entry.
-pub fn step_alone(cpu: Cpu, memory: &mut [u8]) -> Told
+pub(crate) fn step_alone(cpu: Cpu, memory: &mut [u8]) -> Told
     ensures { λ r. ⌜ stepAlone cpu (now (memory .entry)) .told ≡ r ⌝ }
     ensures { λ _. ⌜ stepAlone cpu (now (memory .entry)) .memory ≡ now (memory .exit) ⌝ }
 {
@@ -46,7 +46,7 @@ pub fn step_alone(cpu: Cpu, memory: &mut [u8]) -> Told
 }
 
 // Whether a call did its clock, with no record, and left these registers, and all else as it has to be.
-pub fn done_with(told: Told, cpu: Cpu) -> bool
+pub(crate) fn done_with(told: Told, cpu: Cpu) -> bool
     ensures { λ r. ⌜ (r ≡ true → told ≡ doneWith cpu) ⌝ }
 {
     let state = same_state(told.state, one_later(cpu));
@@ -62,7 +62,7 @@ fn clock_alone(cpu: Cpu, memory: &[u8]) -> Clocked
 }
 
 // What an instruction writes, in order; nothing where the clock stops.
-pub fn writes_of(cpu: Cpu, memory: &[u8]) -> Writes
+pub(crate) fn writes_of(cpu: Cpu, memory: &[u8]) -> Writes
     ensures { λ r. ⌜ r ≡ writesIn (clockOf (prepared cpu) [] (now (memory .entry)) true) ⌝ }
 {
     let clocked = clock_alone(cpu, memory);

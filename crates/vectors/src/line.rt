@@ -31,7 +31,7 @@ pub struct Word {
 const BASE: u32 = 16;
 
 // Nothing is read yet.
-pub fn start() -> Cursor {
+pub(crate) fn start() -> Cursor {
     Cursor {
         place: 0,
         good: true,
@@ -39,7 +39,7 @@ pub fn start() -> Cursor {
 }
 
 // What stands at the cursor is not what has to stand there.
-pub fn bad(c: Cursor) -> Cursor
+pub(crate) fn bad(c: Cursor) -> Cursor
     ensures { λ r. ⌜ (r .good ≡ true → ⊥) ⌝ }
 {
     Cursor {
@@ -58,7 +58,7 @@ fn no_number(c: Cursor) -> Number
 }
 
 // Past a mark.
-pub fn after(line: &[u8], c: Cursor, mark: u8) -> Cursor {
+pub(crate) fn after(line: &[u8], c: Cursor, mark: u8) -> Cursor {
     let place = c.place;
     if line.len() <= place {
         return bad(c);
@@ -93,7 +93,7 @@ fn value(c: u8) -> u32
 }
 
 // The number that `count` digits write.
-pub fn digits(line: &[u8], c: Cursor, count: usize) -> Number
+pub(crate) fn digits(line: &[u8], c: Cursor, count: usize) -> Number
     requires { ⌜ count ≤ 8 ⌝ }
     ensures { λ r. ⌜ (r .rest .good ≡ true → Read (now (line .entry)) (c .place) count (r .value) (r .rest .place)) ⌝ }
 {
@@ -124,7 +124,7 @@ pub fn digits(line: &[u8], c: Cursor, count: usize) -> Number
 }
 
 // Two digits.
-pub fn byte_at(line: &[u8], c: Cursor) -> Byte
+pub(crate) fn byte_at(line: &[u8], c: Cursor) -> Byte
     ensures { λ r. ⌜ (r .rest .good ≡ true → Read (now (line .entry)) (c .place) 2 (r .value) (r .rest .place)) ⌝ }
 {
     let read = digits(line, c, 2);
@@ -136,7 +136,7 @@ pub fn byte_at(line: &[u8], c: Cursor) -> Byte
 }
 
 // Four digits.
-pub fn word_at(line: &[u8], c: Cursor) -> Word
+pub(crate) fn word_at(line: &[u8], c: Cursor) -> Word
     ensures { λ r. ⌜ (r .rest .good ≡ true → Read (now (line .entry)) (c .place) 4 (r .value) (r .rest .place)) ⌝ }
 {
     let read = digits(line, c, 4);
@@ -148,16 +148,16 @@ pub fn word_at(line: &[u8], c: Cursor) -> Word
 }
 
 // Two digits behind a space.
-pub fn next_byte(line: &[u8], c: Cursor) -> Byte {
+pub(crate) fn next_byte(line: &[u8], c: Cursor) -> Byte {
     byte_at(line, after(line, c, b' '))
 }
 
 // Four digits behind a space.
-pub fn next_word(line: &[u8], c: Cursor) -> Word {
+pub(crate) fn next_word(line: &[u8], c: Cursor) -> Word {
     word_at(line, after(line, c, b' '))
 }
 
 // Whether the whole line was read, and all of it as it has to be.
-pub fn ends(line: &[u8], c: Cursor) -> bool {
+pub(crate) fn ends(line: &[u8], c: Cursor) -> bool {
     c.good & (c.place == line.len())
 }

@@ -5,13 +5,13 @@ ghost use lib.ListN.{length};
 use bus::stack::Write;
 
 // A memory of zeros. Its length is stated, so that its user's proof need not count.
-pub fn cleared() -> [u8; 65536]
+pub(crate) fn cleared() -> [u8; 65536]
     ensures { λ r. ⌜ 65536 ≡ length r ⌝ }
 {
     [0; 65536]
 }
 
-pub fn put(memory: &mut [u8], write: Write) {
+pub(crate) fn put(memory: &mut [u8], write: Write) {
     let at = write.address as usize;
     if at < memory.len() {
         memory[at] = write.value;
@@ -19,7 +19,7 @@ pub fn put(memory: &mut [u8], write: Write) {
 }
 
 // The byte at an address.
-pub fn byte_of(memory: &[u8], address: u16) -> u8 {
+pub(crate) fn byte_of(memory: &[u8], address: u16) -> u8 {
     let at = address as usize;
     if at < memory.len() {
         return memory[at];
@@ -27,7 +27,7 @@ pub fn byte_of(memory: &[u8], address: u16) -> u8 {
     0
 }
 
-pub fn same_bytes(a: &[u8], b: &[u8]) -> bool
+pub(crate) fn same_bytes(a: &[u8], b: &[u8]) -> bool
     ensures { λ r. ⌜ (r ≡ true → now (a .entry) ≡ now (b .entry)) ⌝ }
 {
     if a.len() != b.len() {

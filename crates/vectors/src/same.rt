@@ -95,7 +95,7 @@ fn same_peripherals(a: Peripherals, b: Peripherals) -> bool
         & same_receiver(a.receiver, b.receiver)
 }
 
-pub fn same_state(a: State, b: State) -> bool
+pub(crate) fn same_state(a: State, b: State) -> bool
     ensures { λ r. ⌜ (r ≡ true → a ≡ b) ⌝ }
 {
     same_cpu(a.cpu, b.cpu)

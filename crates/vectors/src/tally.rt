@@ -7,13 +7,13 @@ pub struct Tally {
     pub agreed: u64,
 }
 
-pub fn none() -> Tally {
+pub(crate) fn none() -> Tally {
     Tally { all: 0, agreed: 0 }
 }
 
 impl Tally {
     // One more.
-    pub fn count(self, agrees: bool) -> Tally {
+    pub(crate) fn count(self, agrees: bool) -> Tally {
         Tally {
             all: wrapping_add_u64(self.all, 1),
             agreed: wrapping_add_u64(self.agreed, words::digit8(agrees) as u64),
@@ -21,7 +21,7 @@ impl Tally {
     }
 
     // Two together.
-    pub fn join(self, other: Tally) -> Tally {
+    pub(crate) fn join(self, other: Tally) -> Tally {
         Tally {
             all: wrapping_add_u64(self.all, other.all),
             agreed: wrapping_add_u64(self.agreed, other.agreed),
@@ -29,7 +29,7 @@ impl Tally {
     }
 
     // Prints it between two texts.
-    pub fn print(self, before: &[u8], after: &[u8]) {
+    pub(crate) fn print(self, before: &[u8], after: &[u8]) {
         io::write_all(STDOUT_FILENO, before);
         io::print_decimal(STDOUT_FILENO, self.agreed);
         io::write_all(STDOUT_FILENO, b" of ");

@@ -16,7 +16,7 @@ pub struct Totals {
     pub digests: Tally,
 }
 
-pub fn no_totals() -> Totals {
+pub(crate) fn no_totals() -> Totals {
     Totals {
         groups: 0,
         cases: none(),
@@ -26,7 +26,7 @@ pub fn no_totals() -> Totals {
 
 impl Totals {
     // One group more, which is printed.
-    pub fn close(self, group: Group, by_opcode: &mut [u64; 256]) -> Totals {
+    pub(crate) fn close(self, group: Group, by_opcode: &mut [u64; 256]) -> Totals {
         let opcode = group.opcode as usize;
         by_opcode[opcode] = wrapping_add_u64(by_opcode[opcode], group.cases.agreed);
         group.print();
@@ -37,7 +37,7 @@ impl Totals {
         }
     }
 
-    pub fn print(self) {
+    pub(crate) fn print(self) {
         io::write_all(STDOUT_FILENO, b"groups: ");
         io::print_decimal(STDOUT_FILENO, self.groups);
         self.cases.print(b"\ncases: ", b"\n");
@@ -64,6 +64,6 @@ fn covered(by_opcode: &[u64; 256]) -> Tally {
     tally
 }
 
-pub fn print_opcodes(by_opcode: &[u64; 256]) {
+pub(crate) fn print_opcodes(by_opcode: &[u64; 256]) {
     covered(by_opcode).print(b"opcodes with 200 cases or more: ", b"\n");
 }

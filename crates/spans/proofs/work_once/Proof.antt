@@ -1,5 +1,8 @@
+use lib.Dec.{leb}
+use mathlib.Core.Bool.{true}
+use Prim.Native.Nat.{_-_}
 use denote.Ref.{now}
-use mathlib.Core.Path.{sym, _∙_}
+use mathlib.Core.Path.{_≡_, sym, _∙_}
 use mathlib.Core.List.{[]}
 use native.Mathlib.Omega.{arith}
 use borrow.Author.Tests.{le-leb, lt-leb}
@@ -39,8 +42,9 @@ same-length c = search needs
 returns : tie.Need-returns
 unfolding workAfter memoryAfter
 returns c =
+    let root = c .before .before .before .before .before .before .before .before .before .before in
     let done = c .before .before .before .before .before .quiet-on in
-    let e = le-leb _ _ (c .if1 .taken) in
+    let e : leb (root .args .span .0 - done .result .at .gone .0) (done .result .at .wait) ≡ true = le-leb _ _ (c .if1 .taken) in
     record { at = done .result .at; quietly = done .ensures .0; work = rw e; stored = rw e }
 
 -- src/lib.rt:124:31
