@@ -1,11 +1,12 @@
-/* The R6501Q, clock by clock: the library `libcapi.a` for programs in C and C++.
+/* The R6501Q, clock by clock: the library `libr6501q.a` for programs in C and C++.
  *
- * The library holds nothing between calls: the caller keeps the chip's state, its memory and its lists, and lends them to each
- * call. A struct goes by value. A lent list is a pointer and then its length in entries; with a length of 0 the pointer is not
- * used. Every call comes back, whatever state, memory, lists and counts it is given, good or damaged, and touches nothing
- * outside the lists that it is lent. What is left to the caller: a pointer whose list is not empty is aligned for its type, the lengths
- * are true, the lists do not overlap, `times`, `words` and `memory` may be written, and while a call goes on nobody else writes any of
- * the lists, the memory or the tape, or reads those three.
+ * The library holds nothing between calls: the caller keeps the chip's state, its memory and its lists, and lends them
+ * to each call. A struct goes by value. A lent list is a pointer and then its length in entries; with a length of 0 the
+ * pointer is not used. Every call comes back, whatever state, memory, lists and counts it is given, good or damaged,
+ * and touches nothing outside the lists that it is lent. What is left to the caller: a pointer whose list is not empty
+ * is aligned for its type, the lengths are true, the lists do not overlap, `output_clocks`, `output_words` and `memory`
+ * may be written, and while a call goes on nobody else writes any of the lists, the memory or the tape, or reads those
+ * three.
  *
  * Rules and numbers are those of document 01. Hexadecimal ends in h.
  */
@@ -27,26 +28,27 @@ extern "C" {
 /* Added to a pin's number in an input code where the new level is high. */
 #define R6501Q_HIGH 64
 
-/* What a call tells by its field `number` (document 01, "What is handed back"). */
+/* Why a call ended, its field `number` (document 01, "What is handed back"). */
 enum r6501q_number {
     /* Run and step: all clocks done. Load: the tape is in memory. */
     R6501Q_DONE = 0,
 
-    /* Refused. The state given comes back, nothing is read, counted or changed. Of several, the lowest is told. */
+    /* Refused. The state given comes back, nothing is read, counted or changed. Of several, the lowest is given. */
     R6501Q_WRONG_MEMORY_LENGTH = 1, /* memory is not 65,536 bytes (the only one of these five that a load has) */
     R6501Q_STATE_NOT_WELL_FORMED = 2, /* a field of the state is out of its range */
-    R6501Q_UNEQUAL_LISTS = 3, /* clocks and codes, or times and words, differ in length */
+    R6501Q_UNEQUAL_LISTS = 3, /* the two input lists, or the two output lists, differ in length */
     R6501Q_CLOCK_TOO_HIGH = 4, /* clock + n is above 4,294,967,295 */
     R6501Q_WRONG_PIN_LIST = 5, /* the input list breaks its rule somewhere, be it past the last clock */
 
-    /* Stopped before the clock after the state's. State, memory and lists are as reached; that clock's inputs stay unread. */
+    /* Stopped before the clock after the state's. State, memory and lists are as reached; that clock's inputs stay
+     * unread. */
     R6501Q_UNDEFINED_OPCODE = 6, /* the clock would start an undefined opcode */
     R6501Q_NO_FREE_RECORD = 7, /* the clock needs an output record and none is free */
 
     /* A refused tape. Memory is unchanged; `place` is the index of the faulty record's `;`. */
     R6501Q_MALFORMED_RECORD = 8, /* a digit missing or wrong, a count above 18h, or an address + count above 65,536 */
     R6501Q_WRONG_CHECK_SUM = 9, /* the record's check sum is not the sum of its bytes */
-    R6501Q_WRONG_LAST_RECORD = 10 /* the last record's count is wrong, or it is missing: then `place` is the tape's length */
+    R6501Q_WRONG_LAST_RECORD = 10 /* the last record's count is wrong; or it is missing, `place` the tape's length */
 };
 
 /* The machine state (document 01, "Machine state"). The range of a field is that of its type where none is given. */
@@ -112,7 +114,8 @@ typedef struct r6501q_transmitter {
     uint16_t register_; /* 12 bits; `register` is a word of the language */
 } r6501q_transmitter;
 
-/* The sub-interval, whether the next tick makes a look at PA7, the bits left of the frame, and the bits, the last in bit 10. */
+/* The sub-interval, whether the next tick makes a look at PA7, the bits left of the frame, and the bits, the last in
+ * bit 10. */
 typedef struct r6501q_receiver {
     uint8_t subinterval; /* 0 to 7 */
     uint8_t half; /* 0 or 1 */
@@ -149,19 +152,19 @@ typedef struct r6501q_state {
 } r6501q_state;
 
 /* What a run or a step hands back. */
-typedef struct r6501q_told {
+typedef struct r6501q_call_result {
     uint8_t number; /* R6501Q_DONE, or 1 to 7 of enum r6501q_number */
     r6501q_state state;
-    uint32_t leaps; /* event clocks done, and 1 more where the last clock done is no event clock; 0 if no clock is done */
-    size_t read; /* the input entries read: the first so many of clocks and codes */
-    size_t written; /* the records written: the first so many of times and words */
-} r6501q_told;
+    uint32_t leaps; /* event clocks done, and 1 more where the last clock done is none; 0 if no clock is done */
+    size_t read; /* the input entries read: the first so many of input_clocks and input_codes */
+    size_t written; /* the records written: the first so many of output_clocks and output_words */
+} r6501q_call_result;
 
 /* What a load hands back. */
-typedef struct r6501q_loaded {
+typedef struct r6501q_load_result {
     uint8_t number; /* R6501Q_DONE, 1, or 8 to 10 of enum r6501q_number */
     size_t place;
-} r6501q_loaded;
+} r6501q_load_result;
 
 /* A chip that has not run yet: reset due, clock 0, all levels high. Always well-formed. */
 r6501q_state r6501q_fresh(void);
@@ -171,38 +174,38 @@ uint8_t r6501q_well_formed(r6501q_state state);
 
 /* n clocks, by leaps from event to event.
  *
- * In:   state      any; one that is not well-formed is refused with 2
- *       memory     the 65,536 bytes; those at 0 to 3Fh, the registers' addresses, are never read or written
- *       clocks     the input list, first of the pair: absolute clocks. They never fall, and the first is above the state's
- *       codes      second of the pair: a pin's number, plus R6501Q_HIGH where its new level is high. Within a clock pins rise
- *                  strictly. Inputs past the last clock are checked too and stay unread
- *       times      space for output records, first of the pair: the clock after which the driven word differs
- *       words      second of the pair: the driven word, PA0 in bit 0, PD7 in bit 31
- *       n          how many clocks; with 0 all checks are made and nothing is done
+ * In:   state          any; one that is not well-formed is refused with 2
+ *       memory         the 65,536 bytes; those at 0 to 3Fh, the registers' addresses, are never read or written
+ *       input_clocks   absolute clocks of the inputs. They never fall, and the first is above the state's
+ *       input_codes    for each a pin's number, plus R6501Q_HIGH where its new level is high. Within a clock pins rise
+ *                      strictly. Inputs past the last clock are checked too and stay unread
+ *       output_clocks  space for records: the clock after which the driven word differs
+ *       output_words   for each the driven word, PA0 in bit 0, PD7 in bit 31
+ *       n              how many clocks; with 0 all checks are made and nothing is done
  *
- * Back: 0          all n clocks done: state, memory and records are those of n single clocks
- *       1 to 5     refused: the state given, leaps, read and written 0, everything unchanged
- *       6, 7       stopped: state, memory, leaps, read and written as reached
+ * Back: 0              all n clocks done: state, memory and records are those of n single clocks
+ *       1 to 5         refused: the state given, leaps, read and written 0, everything unchanged
+ *       6, 7           stopped: state, memory, leaps, read and written as reached
  *
- * Entries of times and words from `written` on are never changed. The next call is lent the rest, clocks + read and
- * times + written with their pairs, and the state handed back. Where no call is refused, all but the leaps come out the same
- * however a stretch of clocks is cut into calls.
+ * Entries of the output lists from `written` on are never changed. The next call is lent the rest, input_clocks + read
+ * and output_clocks + written with their pairs, and the state handed back. Where no call is refused, all but the leaps
+ * come out the same however a stretch of clocks is cut into calls.
  */
-r6501q_told r6501q_run(r6501q_state state,
+r6501q_call_result r6501q_run(r6501q_state state,
     uint8_t *memory, size_t memory_length,
-    const uint32_t *clocks, size_t clocks_length,
-    const uint8_t *codes, size_t codes_length,
-    uint32_t *times, size_t times_length,
-    uint32_t *words, size_t words_length,
+    const uint32_t *input_clocks, size_t input_clocks_length,
+    const uint8_t *input_codes, size_t input_codes_length,
+    uint32_t *output_clocks, size_t output_clocks_length,
+    uint32_t *output_words, size_t output_words_length,
     uint32_t n);
 
 /* A single clock: what r6501q_run hands back and leaves for n = 1, `leaps` 1 where the clock is done and else 0. */
-r6501q_told r6501q_step(r6501q_state state,
+r6501q_call_result r6501q_step(r6501q_state state,
     uint8_t *memory, size_t memory_length,
-    const uint32_t *clocks, size_t clocks_length,
-    const uint8_t *codes, size_t codes_length,
-    uint32_t *times, size_t times_length,
-    uint32_t *words, size_t words_length);
+    const uint32_t *input_clocks, size_t input_clocks_length,
+    const uint8_t *input_codes, size_t input_codes_length,
+    uint32_t *output_clocks, size_t output_clocks_length,
+    uint32_t *output_words, size_t output_words_length);
 
 /* A paper tape into memory (document 01, "Tape"). The tape is checked whole before a byte is stored.
  *
@@ -211,10 +214,10 @@ r6501q_told r6501q_step(r6501q_state state,
  *
  * Back: 0          loaded; place is the index past the last record
  *       1          memory is not 65,536 bytes; place 0, memory unchanged
- *       8, 9, 10   refused for the earliest faulty record, its faults in this order; place is the index of its `;`, or the
- *                  tape's length where the last record is missing; memory unchanged
+ *       8, 9, 10   refused for the earliest faulty record, its faults in this order; place is the index of its `;`, or
+ *                  the tape's length where the last record is missing; memory unchanged
  */
-r6501q_loaded r6501q_load(const uint8_t *tape, size_t tape_length, uint8_t *memory, size_t memory_length);
+r6501q_load_result r6501q_load(const uint8_t *tape, size_t tape_length, uint8_t *memory, size_t memory_length);
 
 /* The layout that the library was built with, on x86-64 Linux. */
 #if defined(__cplusplus) && __cplusplus >= 201103L
@@ -303,16 +306,16 @@ R6501Q_AT(state, external, 48);
 R6501Q_AT(state, last, 56);
 R6501Q_AT(state, clock, 64);
 
-R6501Q_SIZE(told, 96);
-R6501Q_AT(told, number, 0);
-R6501Q_AT(told, state, 4);
-R6501Q_AT(told, leaps, 72);
-R6501Q_AT(told, read, 80);
-R6501Q_AT(told, written, 88);
+R6501Q_SIZE(call_result, 96);
+R6501Q_AT(call_result, number, 0);
+R6501Q_AT(call_result, state, 4);
+R6501Q_AT(call_result, leaps, 72);
+R6501Q_AT(call_result, read, 80);
+R6501Q_AT(call_result, written, 88);
 
-R6501Q_SIZE(loaded, 16);
-R6501Q_AT(loaded, number, 0);
-R6501Q_AT(loaded, place, 8);
+R6501Q_SIZE(load_result, 16);
+R6501Q_AT(load_result, number, 0);
+R6501Q_AT(load_result, place, 8);
 
 #undef R6501Q_AT
 #undef R6501Q_SIZE

@@ -1,5 +1,6 @@
-/* Calls the library through include/r6501q.h and compares what comes back with literal outcomes. The header asserts the layout that it
- * declares; here each field is told apart from its neighbors by what the library does with it. Builds as C99 and as C++. */
+/* Calls the library through include/r6501q.h and compares what comes back with literal outcomes. The header asserts the
+ * layout that it declares; here each field is distinguished from its neighbors by what the library does with it. Builds
+ * as C99 and as C++. */
 #include "r6501q.h"
 
 #include <stdio.h>
@@ -19,8 +20,8 @@ static void same(const char *what, unsigned long long got, unsigned long long ex
 }
 
 static uint8_t memory[R6501Q_MEMORY_LENGTH];
-static uint32_t times[100];
-static uint32_t words[100];
+static uint32_t output_clocks[100];
+static uint32_t output_words[100];
 
 /* A memory of zeros but for the program at 0200h and the reset vector to it. */
 static void place(const uint8_t *program, size_t length)
@@ -30,9 +31,9 @@ static void place(const uint8_t *program, size_t length)
     memory[0xFFFD] = 2;
 }
 
-static r6501q_told run(r6501q_state state, uint32_t n)
+static r6501q_call_result run(r6501q_state state, uint32_t n)
 {
-    return r6501q_run(state, memory, sizeof memory, NULL, 0, NULL, 0, times, 100, words, 100, n);
+    return r6501q_run(state, memory, sizeof memory, NULL, 0, NULL, 0, output_clocks, 100, output_words, 100, n);
 }
 
 /* Document 01, "Fresh". */
@@ -86,14 +87,14 @@ static void check_fresh(void)
 static void check_ranges(void)
 {
     r6501q_state s;
-#define RANGE(field, highest)                \
-    do {                                     \
-        s = r6501q_fresh();                  \
-        s.field = (highest);                 \
-        SAME(r6501q_well_formed(s), 1);      \
-        s.field = (highest) + 1;             \
-        SAME(r6501q_well_formed(s), 0);      \
-        SAME(run(s, 1).number, 2);           \
+#define RANGE(field, highest) \
+    do { \
+        s = r6501q_fresh(); \
+        s.field = (highest); \
+        SAME(r6501q_well_formed(s), 1); \
+        s.field = (highest) + 1; \
+        SAME(r6501q_well_formed(s), 0); \
+        SAME(run(s, 1).number, 2); \
         SAME(run(s, 1).state.field, (highest) + 1); \
     } while (0)
     RANGE(cpu.p, 0x0F);
@@ -142,13 +143,13 @@ static void check_registers(void)
         0xA9, 0x66, /* LDA #66h */
         0x4C, 0x43, 0x02 /* JMP here */
     };
-    r6501q_told told;
+    r6501q_call_result result;
     r6501q_state s;
     place(program, sizeof program);
     /* Reset 7, LDX and LDY 4, fifteen pairs of LDA and STA 75, PHA 3, LDA 2, and the first clock of JMP. */
-    told = run(r6501q_fresh(), 7 + 4 + 75 + 3 + 2 + 1);
-    SAME(told.number, 0);
-    s = told.state;
+    result = run(r6501q_fresh(), 7 + 4 + 75 + 3 + 2 + 1);
+    SAME(result.number, 0);
+    s = result.state;
     SAME(s.clock, 92);
     SAME(s.cpu.a, 0x66);
     SAME(s.cpu.x, 0x11);
@@ -181,22 +182,22 @@ static void check_registers(void)
     SAME(s.external.ports, 0xFFFFFFFF);
     SAME(s.last.ports, 0xD4C3B2A1);
     /* Port A on clock 14, B on 19, C on 24; D's latch shows once MCR5 is set, on 39. */
-    SAME(told.written, 4);
-    SAME(times[0], 14);
-    SAME(words[0], 0xFFFFFFA1);
-    SAME(times[1], 19);
-    SAME(words[1], 0xFFFFB2A1);
-    SAME(times[2], 24);
-    SAME(words[2], 0xFFC3B2A1);
-    SAME(times[3], 39);
-    SAME(words[3], 0xD4C3B2A1);
+    SAME(result.written, 4);
+    SAME(output_clocks[0], 14);
+    SAME(output_words[0], 0xFFFFFFA1);
+    SAME(output_clocks[1], 19);
+    SAME(output_words[1], 0xFFFFB2A1);
+    SAME(output_clocks[2], 24);
+    SAME(output_words[2], 0xFFC3B2A1);
+    SAME(output_clocks[3], 39);
+    SAME(output_words[3], 0xD4C3B2A1);
 }
 
 /* The serial halves' progress, the turn and NMI due: from a state that is lent, one clock on. */
 static void check_progress(void)
 {
     r6501q_state s = r6501q_fresh();
-    r6501q_told told;
+    r6501q_call_result result;
     memset(memory, 0, sizeof memory);
     s.due.reset = 0;
     s.due.nmi = 1;
@@ -217,10 +218,10 @@ static void check_progress(void)
     s.peripherals.receiver.register_ = 0x2AA;
     s.peripherals.serial.received = 0x77;
     s.clock = 1000;
-    told = run(s, 1);
-    SAME(told.number, 0);
-    SAME(told.leaps, 1);
-    s = told.state;
+    result = run(s, 1);
+    SAME(result.number, 0);
+    SAME(result.leaps, 1);
+    s = result.state;
     SAME(s.clock, 1001);
     SAME(s.cpu.wait, 4);
     SAME(s.due.reset, 0);
@@ -239,37 +240,39 @@ static void check_progress(void)
     SAME(s.peripherals.receiver.register_, 0x555); /* PA7 high comes in at bit 10 */
     SAME(s.peripherals.serial.received, 0x77);
     /* The line was ABCh's bit 0, low, and is 55Eh's, low; PA5 fell: one record. */
-    SAME(told.written, 1);
-    SAME(times[0], 1001);
-    SAME(words[0], 0xFFFFFF9F);
+    SAME(result.written, 1);
+    SAME(output_clocks[0], 1001);
+    SAME(output_words[0], 0xFFFFFF9F);
 }
 
 /* Inputs: levels before and after, NMI due, RES low. */
 static void check_inputs(void)
 {
-    static const uint32_t clocks[] = {3, 3, 5, 200};
-    static const uint8_t codes[] = {31, R6501Q_PIN_NMI, R6501Q_PIN_RES, 31 + R6501Q_HIGH};
-    r6501q_told told;
+    static const uint32_t input_clocks[] = {3, 3, 5, 200};
+    static const uint8_t input_codes[] = {31, R6501Q_PIN_NMI, R6501Q_PIN_RES, 31 + R6501Q_HIGH};
+    r6501q_call_result result;
     memset(memory, 0, sizeof memory);
-    told = r6501q_run(r6501q_fresh(), memory, sizeof memory, clocks, 4, codes, 4, times, 0, words, 0, 3);
-    SAME(told.number, 0);
-    SAME(told.read, 2);
-    SAME(told.state.external.ports, 0x7FFFFFFF);
-    SAME(told.state.last.ports, 0x7FFFFFFF);
-    SAME(told.state.external.nmi, 0);
-    SAME(told.state.last.nmi, 0);
-    SAME(told.state.external.res, 1);
-    SAME(told.state.last.res, 1);
-    SAME(told.state.due.reset, 0);
-    SAME(told.state.due.nmi, 1);
-    told = r6501q_run(told.state, memory, sizeof memory, clocks + 2, 2, codes + 2, 2, times, 0, words, 0, 2);
-    SAME(told.number, 0);
-    SAME(told.read, 1);
-    SAME(told.state.external.res, 0);
-    SAME(told.state.last.res, 0);
-    SAME(told.state.due.reset, 1);
-    SAME(told.state.due.nmi, 0);
-    SAME(told.state.cpu.wait, 0);
+    result = r6501q_run(
+        r6501q_fresh(), memory, sizeof memory, input_clocks, 4, input_codes, 4, output_clocks, 0, output_words, 0, 3);
+    SAME(result.number, 0);
+    SAME(result.read, 2);
+    SAME(result.state.external.ports, 0x7FFFFFFF);
+    SAME(result.state.last.ports, 0x7FFFFFFF);
+    SAME(result.state.external.nmi, 0);
+    SAME(result.state.last.nmi, 0);
+    SAME(result.state.external.res, 1);
+    SAME(result.state.last.res, 1);
+    SAME(result.state.due.reset, 0);
+    SAME(result.state.due.nmi, 1);
+    result = r6501q_run(result.state, memory, sizeof memory, input_clocks + 2, 2, input_codes + 2, 2, output_clocks, 0,
+        output_words, 0, 2);
+    SAME(result.number, 0);
+    SAME(result.read, 1);
+    SAME(result.state.external.res, 0);
+    SAME(result.state.last.res, 0);
+    SAME(result.state.due.reset, 1);
+    SAME(result.state.due.nmi, 0);
+    SAME(result.state.cpu.wait, 0);
 }
 
 /* Document 01's example, by a run, by single clocks and with damage. */
@@ -277,8 +280,8 @@ static void check_example(void)
 {
     static const char text[] = ";070200A95585004C040201DE\n;02FFFC000201FF\n;0000030003\n";
     char damaged[sizeof text];
-    r6501q_loaded loaded;
-    r6501q_told told;
+    r6501q_load_result loaded;
+    r6501q_call_result result;
     int clock;
 
     memset(memory, 0, sizeof memory);
@@ -291,34 +294,34 @@ static void check_example(void)
     SAME(memory[0x207], 0);
     SAME(memory[0xFFFD], 2);
 
-    memset(times, 0xEE, sizeof times);
-    memset(words, 0xEE, sizeof words);
-    told = run(r6501q_fresh(), 100);
-    SAME(told.number, R6501Q_DONE);
-    SAME(told.state.clock, 100);
-    SAME(told.read, 0);
-    SAME(told.written, 1);
-    SAME(times[0], 10);
-    SAME(words[0], 0xFFFFFF55);
-    SAME(times[1], 0xEEEEEEEE);
-    SAME(words[1], 0xEEEEEEEE);
+    memset(output_clocks, 0xEE, sizeof output_clocks);
+    memset(output_words, 0xEE, sizeof output_words);
+    result = run(r6501q_fresh(), 100);
+    SAME(result.number, R6501Q_DONE);
+    SAME(result.state.clock, 100);
+    SAME(result.read, 0);
+    SAME(result.written, 1);
+    SAME(output_clocks[0], 10);
+    SAME(output_words[0], 0xFFFFFF55);
+    SAME(output_clocks[1], 0xEEEEEEEE);
+    SAME(output_words[1], 0xEEEEEEEE);
     /* Starts: reset 1, LDA 8, STA 10, JMP on 13, 16, .. 100; levels differ on clock 11. */
-    SAME(told.leaps, 34);
+    SAME(result.leaps, 34);
 
-    told.state = r6501q_fresh();
+    result.state = r6501q_fresh();
     for (clock = 1; clock <= 100; clock++) {
-        told = r6501q_step(told.state, memory, sizeof memory, NULL, 0, NULL, 0, times, 1, words, 1);
-        SAME(told.number, R6501Q_DONE);
-        SAME(told.state.clock, clock);
-        SAME(told.leaps, 1);
-        SAME(told.written, clock == 10);
+        result = r6501q_step(result.state, memory, sizeof memory, NULL, 0, NULL, 0, output_clocks, 1, output_words, 1);
+        SAME(result.number, R6501Q_DONE);
+        SAME(result.state.clock, clock);
+        SAME(result.leaps, 1);
+        SAME(result.written, clock == 10);
     }
-    SAME(told.state.cpu.pc, 0x204);
-    SAME(told.state.cpu.wait, 2);
+    SAME(result.state.cpu.pc, 0x204);
+    SAME(result.state.cpu.wait, 2);
 
-    told = r6501q_run(r6501q_fresh(), memory, sizeof memory, NULL, 0, NULL, 0, NULL, 0, NULL, 0, 100);
-    SAME(told.number, R6501Q_NO_FREE_RECORD);
-    SAME(told.state.clock, 9);
+    result = r6501q_run(r6501q_fresh(), memory, sizeof memory, NULL, 0, NULL, 0, NULL, 0, NULL, 0, 100);
+    SAME(result.number, R6501Q_NO_FREE_RECORD);
+    SAME(result.state.clock, 9);
 
     memcpy(damaged, text, sizeof text);
     damaged[40] = '0'; /* the second record's check sum */
@@ -341,19 +344,26 @@ static void check_example(void)
 /* Each refusal of a run, and the order. */
 static void check_refusals(void)
 {
-    static const uint32_t clocks[] = {7, 6};
-    static const uint8_t codes[] = {1, 2};
+    static const uint32_t input_clocks[] = {7, 6};
+    static const uint8_t input_codes[] = {1, 2};
     r6501q_state s = r6501q_fresh();
     memset(memory, 0, sizeof memory);
-    SAME(r6501q_run(s, memory, 65535, clocks, 2, codes, 1, times, 2, words, 2, 5).number, R6501Q_WRONG_MEMORY_LENGTH);
-    SAME(r6501q_run(s, memory, 65536, clocks, 2, codes, 1, times, 2, words, 2, 5).number, R6501Q_UNEQUAL_LISTS);
-    SAME(r6501q_run(s, memory, 65536, clocks, 2, codes, 2, times, 1, words, 2, 5).number, R6501Q_UNEQUAL_LISTS);
-    SAME(r6501q_run(s, memory, 65536, clocks, 2, codes, 2, times, 2, words, 2, 5).number, R6501Q_WRONG_PIN_LIST);
+    SAME(r6501q_run(s, memory, 65535, input_clocks, 2, input_codes, 1, output_clocks, 2, output_words, 2, 5).number,
+        R6501Q_WRONG_MEMORY_LENGTH);
+    SAME(r6501q_run(s, memory, 65536, input_clocks, 2, input_codes, 1, output_clocks, 2, output_words, 2, 5).number,
+        R6501Q_UNEQUAL_LISTS);
+    SAME(r6501q_run(s, memory, 65536, input_clocks, 2, input_codes, 2, output_clocks, 1, output_words, 2, 5).number,
+        R6501Q_UNEQUAL_LISTS);
+    SAME(r6501q_run(s, memory, 65536, input_clocks, 2, input_codes, 2, output_clocks, 2, output_words, 2, 5).number,
+        R6501Q_WRONG_PIN_LIST);
     s.clock = 0xFFFFFFF0;
-    SAME(r6501q_run(s, memory, 65536, clocks, 2, codes, 2, times, 2, words, 2, 16).number, R6501Q_CLOCK_TOO_HIGH);
-    SAME(r6501q_run(s, memory, 65536, clocks, 0, codes, 0, times, 2, words, 2, 15).number, R6501Q_DONE);
+    SAME(r6501q_run(s, memory, 65536, input_clocks, 2, input_codes, 2, output_clocks, 2, output_words, 2, 16).number,
+        R6501Q_CLOCK_TOO_HIGH);
+    SAME(r6501q_run(s, memory, 65536, input_clocks, 0, input_codes, 0, output_clocks, 2, output_words, 2, 15).number,
+        R6501Q_DONE);
     s.due.nmi = 2;
-    SAME(r6501q_run(s, memory, 65536, clocks, 2, codes, 1, times, 2, words, 2, 16).number, R6501Q_STATE_NOT_WELL_FORMED);
+    SAME(r6501q_run(s, memory, 65536, input_clocks, 2, input_codes, 1, output_clocks, 2, output_words, 2, 16).number,
+        R6501Q_STATE_NOT_WELL_FORMED);
     memory[0xFFFD] = 2;
     memory[0x200] = 2;
     SAME(run(r6501q_fresh(), 7).number, R6501Q_DONE);

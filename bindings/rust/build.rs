@@ -1,8 +1,9 @@
-// Links libcapi.a: from the folder that R6501Q_LIBRARY names, which must be absolute, else from the repository's target/staticlib.
+// Links libr6501q.a: from the folder that R6501Q_LIBRARY names, which must be absolute, else from the repository's
+// target/staticlib.
 use std::env;
 use std::path::{Path, PathBuf};
 
-const LIBRARY: &str = "libcapi.a";
+const LIBRARY: &str = "libr6501q.a";
 
 // The folder that the library lies in. An empty name counts as none.
 fn folder() -> PathBuf {
@@ -24,11 +25,11 @@ fn main() {
     println!("cargo:rerun-if-changed={}", library.display());
     if !library.is_file() {
         panic!(
-            "{} is not there: run `rt staticlib capi` in the repository, or set R6501Q_LIBRARY to the folder of {LIBRARY}",
+            "{} is not there: run `rt staticlib r6501q` in the repository, or set R6501Q_LIBRARY to the folder of {LIBRARY}",
             library.display()
         );
     }
     let folder = folder.canonicalize().expect("the folder was just found");
     println!("cargo:rustc-link-search=native={}", folder.display());
-    println!("cargo:rustc-link-lib=static=capi");
+    println!("cargo:rustc-link-lib=static=r6501q");
 }

@@ -7,10 +7,7 @@ fn main() {
     }
     let package = std::env::var_os("CARGO_MANIFEST_DIR").expect("cargo names the package's folder");
     let folder = Path::new(&package).join("../../target/peers/build");
-    println!(
-        "cargo:rerun-if-changed={}",
-        folder.join("libpeer.a").display()
-    );
+    println!("cargo:rerun-if-changed={}", folder.join("libpeer.a").display());
     println!("cargo:rustc-link-search=native={}", folder.display());
     println!("cargo:rustc-link-lib=static=peer");
 }

@@ -1,5 +1,5 @@
 //! The calls on a chip.
-use crate::library::{self, HostTold};
+use crate::library::{self, HostCallResult};
 use crate::{Number, State};
 
 /// The bytes of a memory.
@@ -39,23 +39,23 @@ pub const fn code(pin: u8, high: bool) -> u8 {
 /// What a run or a step hands back.
 #[must_use]
 #[derive(Clone, Copy, PartialEq, Eq, Debug)]
-pub struct Told {
+pub struct CallResult {
     /// [`Number::Done`]; or 1 to 5, refused, nothing changed; or 6 or 7, stopped, all as reached.
     pub number: Number,
     /// The chip afterwards; of a refused call the state given.
     pub state: State,
     /// Event clocks done, and 1 more where the last clock done is no event clock; 0 if no clock is done.
     pub leaps: u32,
-    /// The input entries read. The next call is lent `&clocks[read..]` and `&codes[read..]`.
+    /// The input entries read. The next call is lent `&input_clocks[read..]` and `&input_codes[read..]`.
     pub read: usize,
-    /// The records written. The next call is lent `&mut times[written..]` and `&mut words[written..]`.
+    /// The records written. The next call is lent `&mut output_clocks[written..]` and `&mut output_words[written..]`.
     pub written: usize,
 }
 
 /// What a load hands back.
 #[must_use]
 #[derive(Clone, Copy, PartialEq, Eq, Debug)]
-pub struct Loaded {
+pub struct LoadResult {
     /// [`Number::Done`], [`Number::WrongMemoryLength`], or 8 to 10.
     pub number: Number,
     /// Done: the index past the last record. 8 to 10: the index of the faulty record's `;`, or the tape's length where the
@@ -63,15 +63,15 @@ pub struct Loaded {
     pub place: usize,
 }
 
-// The number that a byte of the library stands for: it is proved to tell none above 10.
+// The number that a byte of the library stands for: it is proved to give none above 10.
 #[inline]
 fn number(byte: u8) -> Number {
-    Number::try_from(byte).expect("the library tells 0 to 10")
+    Number::try_from(byte).expect("the library gives 0 to 10")
 }
 
 #[inline]
-fn told(host: HostTold) -> Told {
-    Told {
+fn call_result(host: HostCallResult) -> CallResult {
+    CallResult {
         number: number(host.number),
         state: host.state,
         leaps: host.leaps,
@@ -86,29 +86,30 @@ fn told(host: HostTold) -> Told {
 /// use r6501q::{step, Number, State, MEMORY_LENGTH};
 ///
 /// let mut memory = vec![0; MEMORY_LENGTH];
-/// let told = step(State::fresh(), &mut memory, &[], &[], &mut [], &mut []);
-/// assert_eq!((told.number, told.leaps), (Number::Done, 1));
-/// assert_eq!((told.state.clock, told.state.cpu.wait), (1, 6)); // the reset entry takes 7 clocks
+/// let result = step(State::fresh(), &mut memory, &[], &[], &mut [], &mut []);
+/// assert_eq!((result.number, result.leaps), (Number::Done, 1));
+/// assert_eq!((result.state.clock, result.state.cpu.wait), (1, 6)); // the reset entry takes 7 clocks
 /// ```
 #[inline]
 pub fn step(
     state: State,
     memory: &mut [u8],
-    clocks: &[u32],
-    codes: &[u8],
-    times: &mut [u32],
-    words: &mut [u32],
-) -> Told {
-    told(library::step(state, memory, clocks, codes, times, words))
+    input_clocks: &[u32],
+    input_codes: &[u8],
+    output_clocks: &mut [u32],
+    output_words: &mut [u32],
+) -> CallResult {
+    call_result(library::step(state, memory, input_clocks, input_codes, output_clocks, output_words))
 }
 
 /// `n` clocks, by leaps from event to event.
 ///
 /// - `memory`: 65,536 bytes; those at 0 to 3Fh, the registers' addresses, are never read or written.
-/// - `clocks`, `codes`: the inputs, absolute clocks and codes ([`code`]). Clocks never fall, the first is above the state's, and
-///   within a clock pins rise strictly. Inputs past the last clock are checked too and stay unread.
-/// - `times`, `words`: space for a record, clock and driven word, after each clock that changes the driven word (PA0 in bit 0,
-///   PD7 in bit 31). Entries from `written` on are never changed.
+/// - `input_clocks`, `input_codes`: the inputs, absolute clocks and codes ([`code`]). Clocks never fall, the first is
+///   above the state's, and within a clock pins rise strictly. Inputs past the last clock are checked too and stay
+///   unread.
+/// - `output_clocks`, `output_words`: space for a record, clock and driven word, after each clock that changes the
+///   driven word (PA0 in bit 0, PD7 in bit 31). Entries from `written` on are never changed.
 /// - `n`: how many clocks. With 0 all checks are made and nothing is done.
 ///
 /// ```
@@ -116,49 +117,46 @@ pub fn step(
 ///
 /// // A memory of zeros holds BRK alone, which goes on forever; 02h is undefined.
 /// let mut memory = vec![0; MEMORY_LENGTH];
-/// let told = run(State::fresh(), &mut memory, &[], &[], &mut [], &mut [], 1_000);
-/// assert_eq!((told.number, told.state.clock), (Number::Done, 1_000));
+/// let result = run(State::fresh(), &mut memory, &[], &[], &mut [], &mut [], 1_000);
+/// assert_eq!((result.number, result.state.clock), (Number::Done, 1_000));
 ///
 /// let mut memory = vec![2; MEMORY_LENGTH];
-/// let told = run(State::fresh(), &mut memory, &[], &[], &mut [], &mut [], 1_000);
-/// assert_eq!((told.number, told.state.clock), (Number::UndefinedOpcode, 7));
+/// let result = run(State::fresh(), &mut memory, &[], &[], &mut [], &mut [], 1_000);
+/// assert_eq!((result.number, result.state.clock), (Number::UndefinedOpcode, 7));
 ///
 /// // A memory of another length is refused, and the state given comes back.
-/// let told = run(State::fresh(), &mut [0; 100], &[], &[], &mut [], &mut [], 1_000);
-/// assert_eq!((told.number, told.state), (Number::WrongMemoryLength, State::fresh()));
+/// let result = run(State::fresh(), &mut [0; 100], &[], &[], &mut [], &mut [], 1_000);
+/// assert_eq!((result.number, result.state), (Number::WrongMemoryLength, State::fresh()));
 /// ```
 #[inline]
 pub fn run(
     state: State,
     memory: &mut [u8],
-    clocks: &[u32],
-    codes: &[u8],
-    times: &mut [u32],
-    words: &mut [u32],
+    input_clocks: &[u32],
+    input_codes: &[u8],
+    output_clocks: &mut [u32],
+    output_words: &mut [u32],
     n: u32,
-) -> Told {
-    told(library::run(state, memory, clocks, codes, times, words, n))
+) -> CallResult {
+    call_result(library::run(state, memory, input_clocks, input_codes, output_clocks, output_words, n))
 }
 
 /// A paper tape into memory (document 01, "Tape"). The tape is checked whole before a byte is stored; a refused tape leaves
 /// memory unchanged. Bytes for 0 to 3Fh are dropped.
 ///
 /// ```
-/// use r6501q::{load, Loaded, Number, MEMORY_LENGTH};
+/// use r6501q::{load, LoadResult, Number, MEMORY_LENGTH};
 ///
 /// let mut memory = vec![0; MEMORY_LENGTH];
 /// let loaded = load(b"text ;010200550058 ;0000020002 more", &mut memory);
-/// assert_eq!(loaded, Loaded { number: Number::Done, place: 30 });
+/// assert_eq!(loaded, LoadResult { number: Number::Done, place: 30 });
 /// assert_eq!(memory[0x200], 0x55);
 ///
 /// let loaded = load(b";010200550059", &mut memory);
-/// assert_eq!(loaded, Loaded { number: Number::WrongCheckSum, place: 0 });
+/// assert_eq!(loaded, LoadResult { number: Number::WrongCheckSum, place: 0 });
 /// ```
 #[inline]
-pub fn load(tape: &[u8], memory: &mut [u8]) -> Loaded {
+pub fn load(tape: &[u8], memory: &mut [u8]) -> LoadResult {
     let host = library::load(tape, memory);
-    Loaded {
-        number: number(host.number),
-        place: host.place,
-    }
+    LoadResult { number: number(host.number), place: host.place }
 }

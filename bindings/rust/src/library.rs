@@ -1,14 +1,15 @@
 //! The library's functions, each in a thin wrapper. All unsafe code of the crate is here.
 //!
-//! Why the wrappers are safe: a slice's pointer is aligned and its length true, an empty slice's pointer is not used by the library, what
-//! is lent mutably overlaps nothing else, nobody else writes what is lent while a call goes on, the structs have the library's layout (asserted beside them), and the library is proved
-//! to come back from every input and to touch nothing outside what it is lent.
+//! Why the wrappers are safe: a slice's pointer is aligned and its length true, an empty slice's pointer is not used by
+//! the library, what is lent mutably overlaps nothing else, nobody else writes what is lent while a call goes on, the
+//! structs have the library's layout (asserted beside them), and the library is proved to come back from every input and
+//! to touch nothing outside what it is lent.
 #![allow(unsafe_code)]
 use crate::state::{layout, State};
 
 /// What a run or a step hands back, as the library lays it out.
 #[repr(C)]
-pub(crate) struct HostTold {
+pub(crate) struct HostCallResult {
     pub number: u8,
     pub state: State,
     pub leaps: u32,
@@ -18,13 +19,13 @@ pub(crate) struct HostTold {
 
 /// What a load hands back, as the library lays it out.
 #[repr(C)]
-pub(crate) struct HostLoaded {
+pub(crate) struct HostLoadResult {
     pub number: u8,
     pub place: usize,
 }
 
-layout!(HostTold, 96, number at 0, state at 4, leaps at 72, read at 80, written at 88);
-layout!(HostLoaded, 16, number at 0, place at 8);
+layout!(HostCallResult, 96, number at 0, state at 4, leaps at 72, read at 80, written at 88);
+layout!(HostLoadResult, 16, number at 0, place at 8);
 
 extern "C" {
     fn r6501q_fresh() -> State;
@@ -33,35 +34,30 @@ extern "C" {
         state: State,
         memory: *mut u8,
         memory_length: usize,
-        clocks: *const u32,
-        clocks_length: usize,
-        codes: *const u8,
-        codes_length: usize,
-        times: *mut u32,
-        times_length: usize,
-        words: *mut u32,
-        words_length: usize,
-    ) -> HostTold;
+        input_clocks: *const u32,
+        input_clocks_length: usize,
+        input_codes: *const u8,
+        input_codes_length: usize,
+        output_clocks: *mut u32,
+        output_clocks_length: usize,
+        output_words: *mut u32,
+        output_words_length: usize,
+    ) -> HostCallResult;
     fn r6501q_run(
         state: State,
         memory: *mut u8,
         memory_length: usize,
-        clocks: *const u32,
-        clocks_length: usize,
-        codes: *const u8,
-        codes_length: usize,
-        times: *mut u32,
-        times_length: usize,
-        words: *mut u32,
-        words_length: usize,
+        input_clocks: *const u32,
+        input_clocks_length: usize,
+        input_codes: *const u8,
+        input_codes_length: usize,
+        output_clocks: *mut u32,
+        output_clocks_length: usize,
+        output_words: *mut u32,
+        output_words_length: usize,
         n: u32,
-    ) -> HostTold;
-    fn r6501q_load(
-        tape: *const u8,
-        tape_length: usize,
-        memory: *mut u8,
-        memory_length: usize,
-    ) -> HostLoaded;
+    ) -> HostCallResult;
+    fn r6501q_load(tape: *const u8, tape_length: usize, memory: *mut u8, memory_length: usize) -> HostLoadResult;
 }
 
 #[inline]
@@ -80,25 +76,25 @@ pub(crate) fn well_formed(state: State) -> u8 {
 pub(crate) fn step(
     state: State,
     memory: &mut [u8],
-    clocks: &[u32],
-    codes: &[u8],
-    times: &mut [u32],
-    words: &mut [u32],
-) -> HostTold {
+    input_clocks: &[u32],
+    input_codes: &[u8],
+    output_clocks: &mut [u32],
+    output_words: &mut [u32],
+) -> HostCallResult {
     // SAFETY: see the module's text.
     unsafe {
         r6501q_step(
             state,
             memory.as_mut_ptr(),
             memory.len(),
-            clocks.as_ptr(),
-            clocks.len(),
-            codes.as_ptr(),
-            codes.len(),
-            times.as_mut_ptr(),
-            times.len(),
-            words.as_mut_ptr(),
-            words.len(),
+            input_clocks.as_ptr(),
+            input_clocks.len(),
+            input_codes.as_ptr(),
+            input_codes.len(),
+            output_clocks.as_mut_ptr(),
+            output_clocks.len(),
+            output_words.as_mut_ptr(),
+            output_words.len(),
         )
     }
 }
@@ -107,33 +103,33 @@ pub(crate) fn step(
 pub(crate) fn run(
     state: State,
     memory: &mut [u8],
-    clocks: &[u32],
-    codes: &[u8],
-    times: &mut [u32],
-    words: &mut [u32],
+    input_clocks: &[u32],
+    input_codes: &[u8],
+    output_clocks: &mut [u32],
+    output_words: &mut [u32],
     n: u32,
-) -> HostTold {
+) -> HostCallResult {
     // SAFETY: see the module's text.
     unsafe {
         r6501q_run(
             state,
             memory.as_mut_ptr(),
             memory.len(),
-            clocks.as_ptr(),
-            clocks.len(),
-            codes.as_ptr(),
-            codes.len(),
-            times.as_mut_ptr(),
-            times.len(),
-            words.as_mut_ptr(),
-            words.len(),
+            input_clocks.as_ptr(),
+            input_clocks.len(),
+            input_codes.as_ptr(),
+            input_codes.len(),
+            output_clocks.as_mut_ptr(),
+            output_clocks.len(),
+            output_words.as_mut_ptr(),
+            output_words.len(),
             n,
         )
     }
 }
 
 #[inline]
-pub(crate) fn load(tape: &[u8], memory: &mut [u8]) -> HostLoaded {
+pub(crate) fn load(tape: &[u8], memory: &mut [u8]) -> HostLoadResult {
     // SAFETY: see the module's text.
     unsafe { r6501q_load(tape.as_ptr(), tape.len(), memory.as_mut_ptr(), memory.len()) }
 }

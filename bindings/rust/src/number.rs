@@ -1,4 +1,4 @@
-//! What a call tells (document 01, "What is handed back").
+//! Why a call ended (document 01, "What is handed back").
 use std::error::Error;
 use std::fmt;
 
@@ -115,14 +115,11 @@ impl TryFrom<u8> for Number {
 
     #[inline]
     fn try_from(byte: u8) -> Result<Number, NotANumber> {
-        Number::ALL
-            .get(usize::from(byte))
-            .copied()
-            .ok_or(NotANumber(byte))
+        Number::ALL.get(usize::from(byte)).copied().ok_or(NotANumber(byte))
     }
 }
 
-/// A byte above 10, which no call tells.
+/// A byte above 10, which no call gives.
 #[derive(Clone, Copy, PartialEq, Eq, Debug)]
 pub struct NotANumber(
     /// The byte.
@@ -131,11 +128,7 @@ pub struct NotANumber(
 
 impl fmt::Display for NotANumber {
     fn fmt(&self, f: &mut fmt::Formatter<'_>) -> fmt::Result {
-        write!(
-            f,
-            "{} is above 10, the highest number that a call tells",
-            self.0
-        )
+        write!(f, "{} is above 10, the highest number that a call gives", self.0)
     }
 }
 

@@ -1,14 +1,14 @@
 //! Each number of document 01 from a call that earns it, and what stays unchanged.
-use r6501q::{code, load, run, step, Loaded, Number, State, Told, MEMORY_LENGTH, PIN_NMI, PIN_RES};
+use r6501q::{code, load, run, step, CallResult, LoadResult, Number, State, MEMORY_LENGTH, PIN_NMI, PIN_RES};
 
 // What a call is lent. Memory and output space are filled so that a change shows.
 #[derive(Clone, PartialEq, Debug)]
 struct Lent {
     memory: Vec<u8>,
-    clocks: Vec<u32>,
-    codes: Vec<u8>,
-    times: Vec<u32>,
-    words: Vec<u32>,
+    input_clocks: Vec<u32>,
+    input_codes: Vec<u8>,
+    output_clocks: Vec<u32>,
+    output_words: Vec<u32>,
 }
 
 impl Lent {
@@ -16,46 +16,40 @@ impl Lent {
     fn good() -> Lent {
         Lent {
             memory: vec![0; MEMORY_LENGTH],
-            clocks: vec![3, 3, 8],
-            codes: vec![code(0, false), code(PIN_NMI, false), code(PIN_NMI, true)],
-            times: vec![0xAAAA_AAAA; 4],
-            words: vec![0x5555_5555; 4],
+            input_clocks: vec![3, 3, 8],
+            input_codes: vec![code(0, false), code(PIN_NMI, false), code(PIN_NMI, true)],
+            output_clocks: vec![0xAAAA_AAAA; 4],
+            output_words: vec![0x5555_5555; 4],
         }
     }
 
-    fn run(&mut self, state: State, n: u32) -> Told {
+    fn run(&mut self, state: State, n: u32) -> CallResult {
         run(
             state,
             &mut self.memory,
-            &self.clocks,
-            &self.codes,
-            &mut self.times,
-            &mut self.words,
+            &self.input_clocks,
+            &self.input_codes,
+            &mut self.output_clocks,
+            &mut self.output_words,
             n,
         )
     }
 
-    fn step(&mut self, state: State) -> Told {
+    fn step(&mut self, state: State) -> CallResult {
         step(
             state,
             &mut self.memory,
-            &self.clocks,
-            &self.codes,
-            &mut self.times,
-            &mut self.words,
+            &self.input_clocks,
+            &self.input_codes,
+            &mut self.output_clocks,
+            &mut self.output_words,
         )
     }
 }
 
 // Both calls refuse with the number, give back the state and leave everything unchanged; n = 0 is checked alike.
 fn refused(number: Number, state: State, lent: Lent) {
-    let expected = Told {
-        number,
-        state,
-        leaps: 0,
-        read: 0,
-        written: 0,
-    };
+    let expected = CallResult { number, state, leaps: 0, read: 0, written: 0 };
     for n in [0, 1, 1000] {
         let mut after = lent.clone();
         assert_eq!(after.run(state, n), expected, "run of {n}");
@@ -69,20 +63,14 @@ fn refused(number: Number, state: State, lent: Lent) {
 #[test]
 fn good_inputs_are_not_refused() {
     let mut lent = Lent::good();
-    let told = lent.run(State::fresh(), 10);
-    assert_eq!(
-        (told.number, told.state.clock, told.read, told.written),
-        (Number::Done, 10, 3, 0)
-    );
+    let result = lent.run(State::fresh(), 10);
+    assert_eq!((result.number, result.state.clock, result.read, result.written), (Number::Done, 10, 3, 0));
 }
 
 #[test]
 fn wrong_memory_length_is_1() {
     for length in [0, 1, 65_535, 65_537, 131_072] {
-        let lent = Lent {
-            memory: vec![0; length],
-            ..Lent::good()
-        };
+        let lent = Lent { memory: vec![0; length], ..Lent::good() };
         refused(Number::WrongMemoryLength, State::fresh(), lent);
     }
 }
@@ -147,40 +135,33 @@ fn every_field_at_its_highest_is_well_formed() {
 #[test]
 fn unequal_lists_are_3() {
     let mut lent = Lent::good();
-    lent.codes.pop();
+    lent.input_codes.pop();
     refused(Number::UnequalLists, State::fresh(), lent);
     let mut lent = Lent::good();
-    lent.clocks.clear();
+    lent.input_clocks.clear();
     refused(Number::UnequalLists, State::fresh(), lent);
     let mut lent = Lent::good();
-    lent.words.push(0);
+    lent.output_words.push(0);
     refused(Number::UnequalLists, State::fresh(), lent);
     let mut lent = Lent::good();
-    lent.times.clear();
+    lent.output_clocks.clear();
     refused(Number::UnequalLists, State::fresh(), lent);
 }
 
 #[test]
 fn a_clock_past_the_last_is_4() {
-    let mut lent = Lent {
-        clocks: vec![],
-        codes: vec![],
-        ..Lent::good()
-    };
+    let mut lent = Lent { input_clocks: vec![], input_codes: vec![], ..Lent::good() };
     let before = lent.clone();
     let mut state = State::fresh();
     state.clock = u32::MAX - 2;
-    let told = lent.run(state, 3);
-    assert_eq!(
-        (told.number, told.state, told.leaps),
-        (Number::ClockTooHigh, state, 0)
-    );
+    let result = lent.run(state, 3);
+    assert_eq!((result.number, result.state, result.leaps), (Number::ClockTooHigh, state, 0));
     assert_eq!(lent, before);
     assert_eq!(lent.run(state, u32::MAX).number, Number::ClockTooHigh);
-    let told = lent.run(state, 2);
-    assert_eq!((told.number, told.state.clock), (Number::Done, u32::MAX));
-    assert_eq!(lent.run(told.state, 0).number, Number::Done);
-    assert_eq!(lent.step(told.state).number, Number::ClockTooHigh);
+    let result = lent.run(state, 2);
+    assert_eq!((result.number, result.state.clock), (Number::Done, u32::MAX));
+    assert_eq!(lent.run(result.state, 0).number, Number::Done);
+    assert_eq!(lent.step(result.state).number, Number::ClockTooHigh);
 }
 
 #[test]
@@ -196,12 +177,8 @@ fn pin_lists_that_break_the_rule_are_5() {
         (&[5], &[128]),                   // no code
         (&[5, 4_000_000_000], &[1, 255]), // no code, past any clock that is run
     ];
-    for (clocks, codes) in wrong {
-        let lent = Lent {
-            clocks: clocks.to_vec(),
-            codes: codes.to_vec(),
-            ..Lent::good()
-        };
+    for (input_clocks, input_codes) in wrong {
+        let lent = Lent { input_clocks: input_clocks.to_vec(), input_codes: input_codes.to_vec(), ..Lent::good() };
         refused(Number::WrongPinList, State::fresh(), lent);
     }
 }
@@ -210,32 +187,20 @@ fn pin_lists_that_break_the_rule_are_5() {
 fn a_code_of_no_pin_is_refused() {
     for pin in 0..=u8::MAX {
         for high in [false, true] {
-            let mut lent = Lent {
-                clocks: vec![5],
-                codes: vec![code(pin, high)],
-                ..Lent::good()
-            };
-            let expected = if pin <= PIN_RES {
-                Number::Done
-            } else {
-                Number::WrongPinList
-            };
+            let mut lent = Lent { input_clocks: vec![5], input_codes: vec![code(pin, high)], ..Lent::good() };
+            let expected = if pin <= PIN_RES { Number::Done } else { Number::WrongPinList };
             assert_eq!(lent.run(State::fresh(), 0).number, expected);
         }
     }
 }
 
 #[test]
-fn the_lowest_refusal_is_told() {
+fn the_lowest_refusal_is_given() {
     let mut state = State::fresh();
     state.clock = u32::MAX;
-    let mut lent = Lent {
-        clocks: vec![1],
-        codes: vec![200],
-        ..Lent::good()
-    };
+    let mut lent = Lent { input_clocks: vec![1], input_codes: vec![200], ..Lent::good() };
     assert_eq!(lent.run(state, 1).number, Number::ClockTooHigh);
-    lent.codes.clear();
+    lent.input_codes.clear();
     assert_eq!(lent.run(state, 1).number, Number::UnequalLists);
     state.last.res = 2;
     assert_eq!(lent.run(state, 1).number, Number::StateNotWellFormed);
@@ -247,52 +212,33 @@ fn the_lowest_refusal_is_told() {
 fn an_undefined_opcode_is_6() {
     // 02h is undefined, and every vector leads to 0202h. The reset entry takes clocks 1 to 7, the NMI entry 8 to 14; the fall of NMI
     // came on clock 3. Event clocks are 1, 3 and 8.
-    let mut lent = Lent {
-        memory: vec![2; MEMORY_LENGTH],
-        ..Lent::good()
-    };
-    let told = lent.run(State::fresh(), 100);
-    assert_eq!(
-        (told.number, told.state.clock, told.leaps),
-        (Number::UndefinedOpcode, 14, 4)
-    );
-    assert_eq!((told.read, told.written), (3, 0));
+    let mut lent = Lent { memory: vec![2; MEMORY_LENGTH], ..Lent::good() };
+    let result = lent.run(State::fresh(), 100);
+    assert_eq!((result.number, result.state.clock, result.leaps), (Number::UndefinedOpcode, 14, 4));
+    assert_eq!((result.read, result.written), (3, 0));
     assert_eq!(lent.memory[0xFC..0x101], [2, 0x24, 2, 2, 2]); // P with bit 5, PC low, PC high
-    let again = lent.step(told.state);
+    let again = lent.step(result.state);
     assert_eq!(again.number, Number::WrongPinList); // the inputs read are behind the clock now
-    (lent.clocks, lent.codes) = (vec![], vec![]);
-    let again = lent.step(told.state);
-    assert_eq!(
-        (again.number, again.state, again.leaps),
-        (Number::UndefinedOpcode, told.state, 0)
-    );
+    (lent.input_clocks, lent.input_codes) = (vec![], vec![]);
+    let again = lent.step(result.state);
+    assert_eq!((again.number, again.state, again.leaps), (Number::UndefinedOpcode, result.state, 0));
 }
 
 #[test]
 fn a_record_without_space_is_7() {
     // STA port A of 00h: the word changes on clock 8.
-    let mut lent = Lent {
-        times: vec![],
-        words: vec![],
-        ..Lent::good()
-    };
-    (lent.clocks, lent.codes) = (vec![9], vec![code(0, false)]);
+    let mut lent = Lent { output_clocks: vec![], output_words: vec![], ..Lent::good() };
+    (lent.input_clocks, lent.input_codes) = (vec![9], vec![code(0, false)]);
     lent.memory[0x200..0x205].copy_from_slice(&[0x85, 0x00, 0x4C, 0x02, 0x02]);
     lent.memory[0xFFFD] = 2;
-    let told = lent.run(State::fresh(), 100);
-    assert_eq!(
-        (told.number, told.state.clock, told.leaps),
-        (Number::NoFreeRecord, 7, 2)
-    );
-    assert_eq!((told.read, told.written), (0, 0));
-    assert_eq!(lent.step(told.state).number, Number::NoFreeRecord);
-    (lent.times, lent.words) = (vec![1; 2], vec![1; 2]);
-    let told = lent.step(told.state);
-    assert_eq!(
-        (told.number, told.state.clock, told.leaps, told.written),
-        (Number::Done, 8, 1, 1)
-    );
-    assert_eq!((lent.times, lent.words), (vec![8, 1], vec![0xFFFF_FF00, 1]));
+    let result = lent.run(State::fresh(), 100);
+    assert_eq!((result.number, result.state.clock, result.leaps), (Number::NoFreeRecord, 7, 2));
+    assert_eq!((result.read, result.written), (0, 0));
+    assert_eq!(lent.step(result.state).number, Number::NoFreeRecord);
+    (lent.output_clocks, lent.output_words) = (vec![1; 2], vec![1; 2]);
+    let result = lent.step(result.state);
+    assert_eq!((result.number, result.state.clock, result.leaps, result.written), (Number::Done, 8, 1, 1));
+    assert_eq!((lent.output_clocks, lent.output_words), (vec![8, 1], vec![0xFFFF_FF00, 1]));
 }
 
 #[test]
@@ -300,16 +246,12 @@ fn tapes() {
     let cases: [(&[u8], Number, usize); 13] = [
         (b";0000010001", Number::Done, 11),
         (b"..;0000010001 ;rest", Number::Done, 13),
-        (
-            b";070200A95585004C040201DE\n;02FFFC000201FF\n;0000030003",
-            Number::Done,
-            53,
-        ),
+        (b";070200A95585004C040201DE\n;02FFFC000201FF\n;0000030003", Number::Done, 53),
         (b";", Number::MalformedRecord, 0),
         (b"xx;00", Number::MalformedRecord, 2),
         (b" ;010200a50058;0000020002", Number::MalformedRecord, 1), // a lower-case digit
         (b";190000;0000020002", Number::MalformedRecord, 0),        // a count above 18h
-        (b";02FFFF0000011F", Number::MalformedRecord, 0), // past the last address; the check sum is wrong too
+        (b";02FFFF0000011F", Number::MalformedRecord, 0),           // past the last address; the check sum is wrong too
         (b";010200550059;0000020002", Number::WrongCheckSum, 0),
         (b";0000010002", Number::WrongCheckSum, 0),
         (b";010200550058 ;0000010001", Number::WrongLastRecord, 14),
@@ -318,23 +260,12 @@ fn tapes() {
     ];
     for (tape, number, place) in cases {
         let mut memory = vec![7; MEMORY_LENGTH];
-        assert_eq!(
-            load(tape, &mut memory),
-            Loaded { number, place },
-            "{}",
-            String::from_utf8_lossy(tape)
-        );
+        assert_eq!(load(tape, &mut memory), LoadResult { number, place }, "{}", String::from_utf8_lossy(tape));
         if number != Number::Done {
             assert!(memory.iter().all(|byte| *byte == 7));
         }
         let mut short = vec![7; MEMORY_LENGTH - 1];
-        assert_eq!(
-            load(tape, &mut short),
-            Loaded {
-                number: Number::WrongMemoryLength,
-                place: 0
-            }
-        );
+        assert_eq!(load(tape, &mut short), LoadResult { number: Number::WrongMemoryLength, place: 0 });
         assert!(short.iter().all(|byte| *byte == 7));
     }
 }
@@ -343,37 +274,31 @@ fn tapes() {
 fn a_loaded_tape_drops_the_registers_bytes() {
     // Four bytes from 003Eh: those at 3Eh and 3Fh are dropped.
     let mut memory = vec![7; MEMORY_LENGTH];
-    assert_eq!(
-        load(b";04003E01020304004C;0000020002", &mut memory).number,
-        Number::Done
-    );
+    assert_eq!(load(b";04003E01020304004C;0000020002", &mut memory).number, Number::Done);
     assert_eq!(memory[0x3E..0x43], [7, 7, 3, 4, 7]);
 }
 
 #[test]
 fn a_run_and_its_single_clocks_end_the_same() {
     let mut whole = Lent::good();
-    let told = whole.run(State::fresh(), 200);
-    assert_eq!(told.number, Number::Done);
+    let result = whole.run(State::fresh(), 200);
+    assert_eq!(result.number, Number::Done);
     let mut cut = Lent::good();
     let (mut state, mut read, mut written) = (State::fresh(), 0, 0);
     for _ in 0..200 {
-        let told = step(
+        let result = step(
             state,
             &mut cut.memory,
-            &cut.clocks[read..],
-            &cut.codes[read..],
-            &mut cut.times[written..],
-            &mut cut.words[written..],
+            &cut.input_clocks[read..],
+            &cut.input_codes[read..],
+            &mut cut.output_clocks[written..],
+            &mut cut.output_words[written..],
         );
-        assert_eq!((told.number, told.leaps), (Number::Done, 1));
-        state = told.state;
-        read += told.read;
-        written += told.written;
+        assert_eq!((result.number, result.leaps), (Number::Done, 1));
+        state = result.state;
+        read += result.read;
+        written += result.written;
     }
-    assert_eq!(
-        (state, read, written),
-        (told.state, told.read, told.written)
-    );
+    assert_eq!((state, read, written), (result.state, result.read, result.written));
     assert_eq!(cut, whole);
 }

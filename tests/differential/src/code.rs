@@ -6,8 +6,8 @@ use plain_clock::opcodes::{defined, Addressing, Operation, TABLE};
 
 /// The registers that do something, the ports more than once.
 const REGISTERS: [u8; 24] = [
-    0x00, 0x00, 0x00, 0x01, 0x02, 0x03, 0x10, 0x11, 0x12, 0x14, 0x14, 0x15, 0x15, 0x16, 0x17, 0x17, 0x18, 0x19, 0x1A, 0x1A,
-    0x1C, 0x1D, 0x1E, 0x1E,
+    0x00, 0x00, 0x00, 0x01, 0x02, 0x03, 0x10, 0x11, 0x12, 0x14, 0x14, 0x15, 0x15, 0x16, 0x17, 0x17, 0x18, 0x19, 0x1A,
+    0x1A, 0x1C, 0x1D, 0x1E, 0x1E,
 ];
 
 /// What code may do.
@@ -117,8 +117,8 @@ fn defined_opcode(random: &Random, style: Style) -> u8 {
     loop {
         let opcode = random.byte();
         let entry = TABLE[usize::from(opcode)];
-        let fits = style == Style::Wild
-            || !(leaves(entry.operation) || written(entry.operation) && indexed(entry.addressing));
+        let fits =
+            style == Style::Wild || !(leaves(entry.operation) || written(entry.operation) && indexed(entry.addressing));
         if defined(opcode) && fits {
             return opcode;
         }
@@ -209,10 +209,9 @@ fn snippet(random: &Random, writer: &mut Writer, style: Style, block: u16) {
         10 => writer.bytes(&[0xA5, random.pick(&[0x11, 0x16, 0x17, 0x18, 0x1C])]),
         11 => jump_indirect_back(random, writer, style, block),
         // a read-modify-write instruction at a port
-        12 => writer.bytes(&[
-            random.pick(&[0x06, 0x26, 0x46, 0x66, 0xC6, 0xE6, 0x07, 0x97]),
-            random.pick(&[0, 1, 2, 3]),
-        ]),
+        12 => {
+            writer.bytes(&[random.pick(&[0x06, 0x26, 0x46, 0x66, 0xC6, 0xE6, 0x07, 0x97]), random.pick(&[0, 1, 2, 3])])
+        }
         13 if style == Style::Wild => writer.bytes(random.pick(&[&[0x48, 0x48, 0x08], &[0x68, 0x28, 0x68]])),
         14 if style == Style::Wild => modify_code(random, writer),
         15 if style == Style::Wild => enter_pulse_mode(random, writer),

@@ -1,55 +1,25 @@
 //! One scenario on both sides: the library's calls over the list, the model's plain clocks over the same list from a copy of the
 //! start, and the library's single clocks alone.
 
-use crate::convert::{damage_flag, first_difference, library_state};
 use crate::coverage::Coverage;
 use crate::scenario::{Call, Scenario};
+use differential::convert::{damage_flag, first_difference, library_state};
 use plain_clock::{fresh, run_observed, Outcome, World};
+use r6501q::{CallResult, Chip};
 
-/// What a call was given over the list, on the library's side.
-struct Library {
-    state: r6501q::State,
-    memory: Vec<u8>,
-    times: Vec<u32>,
-    words: Vec<u32>,
-    read: usize,
-    written: usize,
+/// The library's side as a scenario starts it.
+fn start(chip: &mut Chip, scenario: &Scenario) {
+    chip.state = start_of(scenario);
+    copy(&mut chip.memory, &scenario.memory);
+    chip.set_inputs(&scenario.input_clocks, &scenario.input_codes);
+    chip.set_space(&scenario.output_clocks, &scenario.output_words);
 }
 
-impl Library {
-    fn empty() -> Self {
-        Library {
-            state: r6501q::State::fresh(),
-            memory: Vec::new(),
-            times: Vec::new(),
-            words: Vec::new(),
-            read: 0,
-            written: 0,
-        }
-    }
-
-    fn start(&mut self, scenario: &Scenario) {
-        self.state = start_of(scenario);
-        copy(&mut self.memory, &scenario.memory);
-        copy(&mut self.times, &scenario.output_clocks);
-        copy(&mut self.words, &scenario.output_words);
-        self.read = 0;
-        self.written = 0;
-    }
-
-    /// One call: it gets the state and memory that the last left, the rest of the inputs and the free output space.
-    fn call(&mut self, scenario: &Scenario, call: Call) -> r6501q::Told {
-        let clocks = &scenario.input_clocks[self.read..];
-        let codes = &scenario.input_codes[self.read..];
-        let (times, words) = (&mut self.times[self.written..], &mut self.words[self.written..]);
-        let told = match call {
-            Call::Step => r6501q::step(self.state, &mut self.memory, clocks, codes, times, words),
-            Call::Run(n) => r6501q::run(self.state, &mut self.memory, clocks, codes, times, words, n),
-        };
-        self.state = told.state;
-        self.read += told.read;
-        self.written += told.written;
-        told
+/// One call: it gets the state and memory that the last left, the rest of the inputs and the free output space.
+fn make(chip: &mut Chip, call: Call) -> CallResult {
+    match call {
+        Call::Step => chip.call_step(),
+        Call::Run(n) => chip.call_run(n),
     }
 }
 
@@ -68,8 +38,8 @@ fn start_of(scenario: &Scenario) -> r6501q::State {
 
 /// Both sides with their buffers, which each scenario uses again.
 pub struct Sides {
-    library: Library,
-    walk: Library,
+    library: Chip,
+    walk: Chip,
     world: World,
 }
 
@@ -93,11 +63,11 @@ impl Sides {
             written: 0,
             stop: 0,
         };
-        Sides { library: Library::empty(), walk: Library::empty(), world }
+        Sides { library: Chip::new(), walk: Chip::new(), world }
     }
 
     fn start(&mut self, scenario: &Scenario) {
-        self.library.start(scenario);
+        start(&mut self.library, scenario);
         let world = &mut self.world;
         world.state = scenario.state.clone();
         copy(&mut world.memory, &scenario.memory);
@@ -118,24 +88,24 @@ impl Sides {
         if self.library.state.is_well_formed() != well_formed {
             return Err(Difference { call: Some(0), text: format!("well-formed: model {well_formed}") });
         }
-        let mut granted = 0;
+        let mut accepted = 0;
         let mut stop = 0;
         for (index, &call) in scenario.calls.iter().enumerate() {
-            let told = self.library.call(scenario, call);
+            let result = make(&mut self.library, call);
             let outcome = self.model_call(scenario, call, coverage);
             coverage.call(call, &outcome, &self.world);
-            if let Some(text) = self.call_difference(scenario, &told, &outcome) {
+            if let Some(text) = self.call_difference(scenario, &result, &outcome) {
                 return Err(Difference { call: Some(index), text });
             }
             if !(1..=5).contains(&outcome.number) {
-                granted += u64::from(call.clocks());
+                accepted += u64::from(call.clocks());
             }
             if outcome.number > 5 {
                 stop = outcome.number;
                 break;
             }
         }
-        match self.walk_difference(scenario, granted, stop) {
+        match self.walk_difference(scenario, accepted, stop) {
             Some(text) => Err(Difference { call: None, text: format!("by single clocks alone: {text}") }),
             None => Ok(()),
         }
@@ -153,40 +123,41 @@ impl Sides {
         })
     }
 
-    fn call_difference(&self, scenario: &Scenario, told: &r6501q::Told, outcome: &Outcome) -> Option<String> {
-        let number = u8::from(told.number);
+    fn call_difference(&self, scenario: &Scenario, result: &CallResult, outcome: &Outcome) -> Option<String> {
+        let number = u8::from(result.number);
         if number != outcome.number {
             return Some(format!("number: library {number}, model {}", outcome.number));
         }
-        if u64::from(told.leaps) != outcome.leaps {
-            return Some(format!("leaps: library {}, model {}", told.leaps, outcome.leaps));
+        if u64::from(result.leaps) != outcome.leaps {
+            return Some(format!("leaps: library {}, model {}", result.leaps, outcome.leaps));
         }
-        if told.read != outcome.inputs_read {
-            return Some(format!("inputs read: library {}, model {}", told.read, outcome.inputs_read));
+        if result.read != outcome.inputs_read {
+            return Some(format!("inputs read: library {}, model {}", result.read, outcome.inputs_read));
         }
-        if told.written != outcome.records_written {
-            return Some(format!("records written: library {}, model {}", told.written, outcome.records_written));
+        if result.written != outcome.records_written {
+            return Some(format!("records written: library {}, model {}", result.written, outcome.records_written));
         }
-        let expected = if scenario.flag_damage.is_some() { start_of(scenario) } else { library_state(&self.world.state) };
-        first_difference(&told.state, &expected).or_else(|| self.lent_difference(&self.library))
+        let expected =
+            if scenario.flag_damage.is_some() { start_of(scenario) } else { library_state(&self.world.state) };
+        first_difference(&result.state, &expected).or_else(|| self.lent_difference(&self.library))
     }
 
     /// Memory and output lists, whole.
-    fn lent_difference(&self, library: &Library) -> Option<String> {
+    fn lent_difference(&self, library: &Chip) -> Option<String> {
         list_difference("memory", &library.memory, &self.world.memory)
-            .or_else(|| list_difference("output clocks", &library.times, &self.world.output_clocks))
-            .or_else(|| list_difference("output words", &library.words, &self.world.output_words))
+            .or_else(|| list_difference("output clocks", library.output_clocks(), &self.world.output_clocks))
+            .or_else(|| list_difference("output words", library.output_words(), &self.world.output_words))
     }
 
     /// As many single clocks as the accepted calls asked for, from a copy of the start.
-    fn walk_difference(&mut self, scenario: &Scenario, granted: u64, stop: u8) -> Option<String> {
-        self.walk.start(scenario);
+    fn walk_difference(&mut self, scenario: &Scenario, accepted: u64, stop: u8) -> Option<String> {
+        start(&mut self.walk, scenario);
         let mut number = 0;
-        for _ in 0..granted {
-            let told = self.walk.call(scenario, Call::Step);
-            number = u8::from(told.number);
-            if told.leaps != u32::from(number == 0) {
-                return Some(format!("a single clock of number {number} with {} leaps", told.leaps));
+        for _ in 0..accepted {
+            let result = make(&mut self.walk, Call::Step);
+            number = u8::from(result.number);
+            if result.leaps != u32::from(number == 0) {
+                return Some(format!("a single clock of number {number} with {} leaps", result.leaps));
             }
             if number != 0 {
                 break;
@@ -195,18 +166,26 @@ impl Sides {
         if number != stop {
             return Some(format!("number: library {number}, model {stop}"));
         }
-        if (self.walk.read, self.walk.written) != (self.world.read, self.world.written) {
+        if (self.walk.read(), self.walk.written()) != (self.world.read, self.world.written) {
             return Some(format!(
                 "inputs read and records written: library {} and {}, model {} and {}",
-                self.walk.read, self.walk.written, self.world.read, self.world.written
+                self.walk.read(),
+                self.walk.written(),
+                self.world.read,
+                self.world.written
             ));
         }
-        let expected = if scenario.flag_damage.is_some() { start_of(scenario) } else { library_state(&self.world.state) };
+        let expected =
+            if scenario.flag_damage.is_some() { start_of(scenario) } else { library_state(&self.world.state) };
         first_difference(&self.walk.state, &expected).or_else(|| self.lent_difference(&self.walk))
     }
 }
 
-pub fn list_difference<T: Copy + PartialEq + std::fmt::UpperHex>(name: &str, library: &[T], model: &[T]) -> Option<String> {
+pub fn list_difference<T: Copy + PartialEq + std::fmt::UpperHex>(
+    name: &str,
+    library: &[T],
+    model: &[T],
+) -> Option<String> {
     if library == model {
         return None;
     }

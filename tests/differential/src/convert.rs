@@ -17,13 +17,7 @@ fn peripherals(state: &State) -> r6501q::Peripherals {
             latchc: state.latch_c,
             turnc: u8::from(state.turn == Turn::C),
         },
-        control: r6501q::Control {
-            ifr: state.ifr,
-            ier: state.ier,
-            mcr: state.mcr,
-            sccr: state.sccr,
-            scsr: state.scsr,
-        },
+        control: r6501q::Control { ifr: state.ifr, ier: state.ier, mcr: state.mcr, sccr: state.sccr, scsr: state.scsr },
         serial: r6501q::SerialData { sent: state.data_sent, received: state.data_received },
         transmitter: r6501q::Transmitter {
             left: state.transmitter.bits_left,

@@ -9,8 +9,8 @@ use plain_clock::opcodes::{defined, Addressing, Operation, TABLE};
 use plain_clock::pins::{driven_word, falls, level, rises, PIN_NMI, PIN_PA4, PIN_PA5, PIN_PA7, PIN_RES};
 use plain_clock::registers::interrupt_flags;
 use plain_clock::serial::{
-    data_bits, judge_character, parity_enabled, receiver_active, transmitter_active, SCSR_EMPTY, SCSR_END, SCSR_FRAMING,
-    SCSR_FULL, SCSR_PARITY,
+    data_bits, judge_character, parity_enabled, receiver_active, transmitter_active, SCSR_EMPTY, SCSR_END,
+    SCSR_FRAMING, SCSR_FULL, SCSR_PARITY,
 };
 use plain_clock::state::FLAG_D;
 use plain_clock::{ClockReport, Outcome, State, Turn, World};
@@ -213,7 +213,8 @@ impl Coverage {
     /// A stop, from the state that it left.
     fn stop(&mut self, world: &World) {
         let state = &world.state;
-        let inverts = state.counter_a == 0 && mode_a(state) == Mode::Pulse || state.counter_b == 0 && state.mcr >> 2 & 3 == 1;
+        let inverts =
+            state.counter_a == 0 && mode_a(state) == Mode::Pulse || state.counter_b == 0 && state.mcr >> 2 & 3 == 1;
         let full = world.written == world.output_clocks.len();
         let reset_low = !level(state.external, PIN_RES);
         self.met_if(world.stop == 6 && inverts && full, Kind::Stop6Full);
@@ -397,7 +398,10 @@ impl Coverage {
         let high = before.pc.wrapping_add(2);
         let over = accesses.iter().any(|a| written_at(a, high, high.wrapping_add(1)));
         self.met_if(entry.operation == Operation::Jsr && high >= 0x40 && over, Kind::JsrOverCode);
-        self.met_if(after.pc >= 0x40 && accesses.iter().any(|a| written_at(a, after.pc, after.pc.wrapping_add(1))), Kind::WritesCode);
+        self.met_if(
+            after.pc >= 0x40 && accesses.iter().any(|a| written_at(a, after.pc, after.pc.wrapping_add(1))),
+            Kind::WritesCode,
+        );
     }
 
     fn stack(&mut self, before: &State, after: &State, operation: Operation, writes_register: bool) {

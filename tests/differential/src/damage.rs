@@ -1,8 +1,8 @@
 //! Damage that a call must refuse: numbers 1, 2, 3 and 5, one or two at once. Number 4 comes with the calls.
 
-use crate::convert::FLAGS;
 use crate::random::Random;
 use crate::scenario::{Call, Scenario};
+use differential::convert::FLAGS;
 
 /// A flag or level, and the byte above 1 that it has.
 #[derive(Clone, Copy, PartialEq, Eq, Debug)]

@@ -5,7 +5,6 @@
 
 mod code;
 mod compare;
-mod convert;
 mod coverage;
 mod damage;
 mod inputs;
@@ -17,8 +16,8 @@ mod states;
 mod tapes;
 
 use compare::{Difference, Sides};
-use convert::library_state;
 use coverage::Coverage;
+use differential::convert::library_state;
 use scenario::{Maker, Scenario};
 use std::panic::{catch_unwind, AssertUnwindSafe};
 use std::process::ExitCode;
@@ -117,7 +116,7 @@ fn work(shared: &Shared) -> (Coverage, Option<Found>) {
         }
         for index in from..(from + PART).min(shared.scenarios) {
             maker.make(index, &mut scenario);
-            // A panic on either side is a difference too, and its scenario is to be told.
+            // A panic on either side is a difference too, and its scenario is to be printed.
             let checked = catch_unwind(AssertUnwindSafe(|| sides.check(&scenario, &mut coverage)));
             let panicked = |_| Err(Difference { call: None, text: "a panic".to_string() });
             if let Err(difference) = checked.unwrap_or_else(panicked) {
@@ -154,9 +153,13 @@ fn print_coverage(coverage: &Coverage) -> bool {
 fn run_tapes(tapes: u64, seed: u64) -> bool {
     match tapes::check_tapes(seed, tapes) {
         Ok(counts) => {
-            let told: Vec<String> =
+            let by_number: Vec<String> =
                 tapes::NUMBERS.iter().zip(counts).map(|(number, count)| format!("{number}: {count}")).collect();
-            println!("seed {seed}: {} tapes, by number {}: no difference", counts.iter().sum::<u64>(), told.join(", "));
+            println!(
+                "seed {seed}: {} tapes, by number {}: no difference",
+                counts.iter().sum::<u64>(),
+                by_number.join(", ")
+            );
             counts.iter().all(|&count| count > 0)
         }
         Err(text) => {

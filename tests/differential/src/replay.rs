@@ -1,9 +1,9 @@
 //! One scenario in detail: what it is, what each side says after each call, and the first clock on which the two differ.
 
 use crate::compare::{list_difference, Difference, Sides};
-use crate::convert::{first_difference, library_state};
 use crate::coverage::Coverage;
 use crate::scenario::{Maker, Scenario};
+use differential::convert::{first_difference, library_state};
 use plain_clock::{run, run_observed, World};
 
 pub fn print_scenario(scenario: &Scenario) {
@@ -104,27 +104,29 @@ fn print_first_clock(scenario: &Scenario) {
     for _ in 0..clocks {
         let before = world.clone();
         let mut memory = before.memory.clone();
-        let (mut times, mut words) = (before.output_clocks.clone(), before.output_words.clone());
-        let told = r6501q::step(
+        let (mut output_clocks, mut output_words) = (before.output_clocks.clone(), before.output_words.clone());
+        let result = r6501q::step(
             library_state(&before.state),
             &mut memory,
             &before.input_clocks[before.read..],
             &before.input_codes[before.read..],
-            &mut times[before.written..],
-            &mut words[before.written..],
+            &mut output_clocks[before.written..],
+            &mut output_words[before.written..],
         );
         let mut report = None;
         let outcome = run_observed(&mut world, 1, |_, _, met| report = Some(*met));
-        let number = u8::from(told.number);
-        let different = first_difference(&told.state, &library_state(&world.state))
+        let number = u8::from(result.number);
+        let different = first_difference(&result.state, &library_state(&world.state))
             .or_else(|| list_difference("memory", &memory, &world.memory))
-            .or_else(|| list_difference("output clocks", &times, &world.output_clocks))
-            .or_else(|| list_difference("output words", &words, &world.output_words))
-            .or_else(|| (number != outcome.number).then(|| format!("number: library {number}, model {}", outcome.number)));
+            .or_else(|| list_difference("output clocks", &output_clocks, &world.output_clocks))
+            .or_else(|| list_difference("output words", &output_words, &world.output_words))
+            .or_else(|| {
+                (number != outcome.number).then(|| format!("number: library {number}, model {}", outcome.number))
+            });
         if let Some(text) = different {
             println!("the clock after {} differs: {text}", before.state.clock);
             println!("before  {:X?}", library_state(&before.state));
-            println!("library {:X?}", told.state);
+            println!("library {:X?}", result.state);
             println!("model   {:X?}", library_state(&world.state));
             println!("model's clock {report:X?}");
             return;

@@ -5,10 +5,10 @@ use crate::memories::LENGTH;
 use crate::random::Random;
 use plain_clock::load_tape;
 
-/// Tapes by the number told: 0, 1, 8, 9, 10.
+/// The numbers of a load: 0, 1, 8, 9, 10.
 pub const NUMBERS: [u8; 5] = [0, 1, 8, 9, 10];
 
-/// How many tapes were told each of `NUMBERS`.
+/// How many tapes ended with each of `NUMBERS`.
 pub type Counts = [u64; 5];
 
 /// Loads random tapes on both sides. Gives the counts, or the text of a difference.
@@ -110,7 +110,8 @@ fn tape(random: &Random) -> Vec<u8> {
     let records = random.pick(&[0, 1, 1, 2, 3, random.below(12)]);
     for _ in 0..records {
         between(random, &mut tape);
-        let length = random.pick(&[1, 2, 0x17, 0x18, 0x18, random.between(1, 0x18), random.between(0x16, 0x1B)]) as usize;
+        let length =
+            random.pick(&[1, 2, 0x17, 0x18, 0x18, random.between(1, 0x18), random.between(0x16, 0x1B)]) as usize;
         let data: Vec<u8> = (0..length).map(|_| random.pick(&[0xFF, 0x00, random.byte()])).collect();
         let address = address(random, length);
         record(&mut tape, address, &data);

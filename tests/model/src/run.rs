@@ -21,22 +21,22 @@ pub struct Outcome {
 /// 01, What is handed back: refusals 1 to 5 in that order, 0 if none.
 pub fn refusal(
     state: &State,
-    memory_len: usize,
-    clocks: &[u32],
-    codes: &[u8],
-    times_len: usize,
-    words_len: usize,
+    memory_length: usize,
+    input_clocks: &[u32],
+    input_codes: &[u8],
+    output_clocks_length: usize,
+    output_words_length: usize,
     n: u64,
 ) -> u8 {
-    if memory_len != MEMORY_LENGTH {
+    if memory_length != MEMORY_LENGTH {
         1
     } else if !well_formed(state) {
         2
-    } else if clocks.len() != codes.len() || times_len != words_len {
+    } else if input_clocks.len() != input_codes.len() || output_clocks_length != output_words_length {
         3
     } else if n > u64::from(u32::MAX - state.clock) {
         4
-    } else if !pin_list_right(state.clock, clocks, codes) {
+    } else if !pin_list_right(state.clock, input_clocks, input_codes) {
         5
     } else {
         0

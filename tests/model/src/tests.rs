@@ -98,14 +98,7 @@ fn p4_binary_overflow() {
 
 #[test]
 fn p5_frame_of_176_clocks() {
-    let state = State {
-        latch_a: 0,
-        counter_a: 0,
-        sccr: 0x80,
-        scsr: 0x00,
-        data_sent: 0x41,
-        ..ready()
-    };
+    let state = State { latch_a: 0, counter_a: 0, sccr: 0x80, scsr: 0x00, data_sent: 0x41, ..ready() };
     let mut world = world_of(state, memory(&[(0x200, &[0x4C, 0x00, 0x02])]), &[], 64);
     run(&mut world, 1);
     assert_eq!(world.state.transmitter.bits_left, 11);
@@ -321,7 +314,8 @@ fn branch_lengths() {
 
 #[test]
 fn crossed_pages_add_a_clock_to_reads_only() {
-    let length = |bytes: &[u8]| one(State { x: 1, y: 1, ..ready() }, &[(0x200, bytes), (0x80, &[0xFF, 0x03])]).state.wait + 1;
+    let length =
+        |bytes: &[u8]| one(State { x: 1, y: 1, ..ready() }, &[(0x200, bytes), (0x80, &[0xFF, 0x03])]).state.wait + 1;
     assert_eq!(length(&[0xBD, 0xFE, 0x03]), 4);
     assert_eq!(length(&[0xBD, 0xFF, 0x03]), 5);
     assert_eq!(length(&[0x9D, 0xFF, 0x03]), 5);
@@ -442,7 +436,8 @@ fn nmi_fall_is_taken_once() {
 
 #[test]
 fn edges_set_their_flags() {
-    let mut world = program(&[0x4C, 0x00, 0x02], &[(2, 0), (2, 1), (2, 2), (2, 3), (4, 0x40), (4, 0x41), (4, 0x42), (4, 0x43)], 0);
+    let mut world =
+        program(&[0x4C, 0x00, 0x02], &[(2, 0), (2, 1), (2, 2), (2, 3), (4, 0x40), (4, 0x41), (4, 0x42), (4, 0x43)], 0);
     run(&mut world, 2);
     assert_eq!(world.state.ifr, 0x0C);
     run(&mut world, 2);

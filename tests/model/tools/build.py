@@ -1,5 +1,5 @@
-"""Builds target/model/scenarios.txt and expected.txt. Hand-derived outcomes stand here and are compared with the model's, whose programs
-cargo has built with --release below target/model.
+"""Builds target/model/scenarios.txt and expected.txt. Hand-derived outcomes stand here and are compared with the
+model's, whose programs cargo has built below target/cargo/checked.
 """
 import os
 import subprocess
@@ -9,8 +9,10 @@ HERE = os.path.dirname(os.path.abspath(__file__))
 sys.path.insert(0, HERE)
 from asm import assemble, tape
 
-OUT = os.path.join(HERE, '..', '..', '..', 'target', 'model')
-WALK = os.path.join(OUT, 'release', 'walk')
+TARGET = os.path.join(HERE, '..', '..', '..', 'target')
+OUT = os.path.join(TARGET, 'model')
+WALK = os.path.join(TARGET, 'cargo', 'checked', 'walk')
+os.makedirs(OUT, exist_ok=True)
 SCENARIOS = []
 
 

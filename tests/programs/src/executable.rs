@@ -38,12 +38,7 @@ impl Executable {
         if usize::from(load) + body.len() > usize::from(services::FIRST) {
             return Err("longer than the memory".to_string());
         }
-        Ok(Executable {
-            c_stack: file[7],
-            start: u16::from_le_bytes([file[10], file[11]]),
-            load,
-            body,
-        })
+        Ok(Executable { c_stack: file[7], start: u16::from_le_bytes([file[10], file[11]]), load, body })
     }
 
     /// The memory that the program starts in.

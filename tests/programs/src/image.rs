@@ -1,12 +1,11 @@
 //! A test image on the chip: it says what it found by the address at which the program counter stays.
 
-use r6501q::{run, Number, State};
+use r6501q::{Chip, Number, State};
 
 use crate::registers::Registers;
 
-/// The clocks of a piece, and the free records that it is lent: a clock needs one at most.
+/// The clocks of a piece.
 const PIECE: u32 = 1_000_000;
-const RECORDS: usize = PIECE as usize;
 
 /// The most clocks that can be asked for: the instruction that is looked at behind them, 7 clocks at most, ends within the clock's range.
 pub const MOST: u32 = u32::MAX - 7;
@@ -24,10 +23,7 @@ pub enum Ending {
 
 /// The chip with the image in its memory.
 pub struct Image {
-    state: State,
-    memory: Vec<u8>,
-    times: Vec<u32>,
-    words: Vec<u32>,
+    chip: Chip,
 }
 
 impl Image {
@@ -35,27 +31,19 @@ impl Image {
     pub fn new(file: &[u8], load: u16, start: u16) -> Result<Image, String> {
         let mut memory = vec![0; 0x10000];
         let load = usize::from(load);
-        memory
-            .get_mut(load..load + file.len())
-            .ok_or("it reaches past the memory")?
-            .copy_from_slice(file);
+        memory.get_mut(load..load + file.len()).ok_or("it reaches past the memory")?.copy_from_slice(file);
         let mut state = State::fresh();
         state.due.reset = 0;
         state.cpu.pc = start;
-        Ok(Image {
-            state,
-            memory,
-            times: vec![0; RECORDS],
-            words: vec![0; RECORDS],
-        })
+        Ok(Image { chip: Chip::with(state, memory) })
     }
 
     /// Runs for so many clocks, `MOST` or fewer. After each piece it looks whether the next instruction goes to itself, which takes up to 7
     /// clocks more.
     pub fn run(&mut self, clocks: u32) -> Ending {
         assert!(clocks <= MOST);
-        while self.state.clock < clocks {
-            let piece = PIECE.min(clocks - self.state.clock);
+        while self.chip.state.clock < clocks {
+            let piece = PIECE.min(clocks - self.chip.state.clock);
             if let Some(ending) = self.go(piece).or_else(|| self.stays()) {
                 return ending;
             }
@@ -64,31 +52,28 @@ impl Image {
     }
 
     pub fn clock(&self) -> u32 {
-        self.state.clock
+        self.chip.state.clock
     }
 
     pub fn registers(&self) -> Registers {
-        Registers::from(&self.state)
+        Registers::from(&self.chip.state)
     }
 
-    /// So many clocks. With as many records as clocks, no inputs and a clock that stays within its range, an undefined opcode alone ends them
-    /// early.
+    /// So many clocks; the records are of no interest. With no inputs and a clock that stays within its range, an
+    /// undefined opcode alone ends them early.
     fn go(&mut self, clocks: u32) -> Option<Ending> {
-        let (times, words) = (&mut self.times, &mut self.words);
-        let told = run(self.state, &mut self.memory, &[], &[], times, words, clocks);
-        self.state = told.state;
-        match told.number {
-            Number::Done => None,
-            Number::UndefinedOpcode => Some(Ending::Undefined(self.state.cpu.pc)),
-            other => unreachable!("{other}"),
+        match self.chip.run_with(clocks, |_| {}) {
+            Ok(()) => None,
+            Err(Number::UndefinedOpcode) => Some(Ending::Undefined(self.chip.state.cpu.pc)),
+            Err(other) => unreachable!("{other}"),
         }
     }
 
     /// Whether the next instruction goes to itself.
     fn stays(&mut self) -> Option<Ending> {
-        let at = self.state.cpu.pc;
-        let ending = self.go(u32::from(self.state.cpu.wait) + 1);
-        ending.or((self.state.cpu.pc == at).then_some(Ending::Stays(at)))
+        let at = self.chip.state.cpu.pc;
+        let ending = self.go(u32::from(self.chip.state.cpu.wait) + 1);
+        ending.or((self.chip.state.cpu.pc == at).then_some(Ending::Stays(at)))
     }
 }
 

@@ -17,23 +17,13 @@ pub struct Registers {
 impl From<&State> for Registers {
     fn from(state: &State) -> Registers {
         let cpu = &state.cpu;
-        Registers {
-            a: cpu.a,
-            x: cpu.x,
-            y: cpu.y,
-            sp: cpu.sp,
-            p: cpu.p,
-            pc: cpu.pc,
-        }
+        Registers { a: cpu.a, x: cpu.x, y: cpu.y, sp: cpu.sp, p: cpu.p, pc: cpu.pc }
     }
 }
 
 impl std::fmt::Display for Registers {
     fn fmt(&self, f: &mut std::fmt::Formatter<'_>) -> std::fmt::Result {
         let Registers { a, x, y, sp, p, pc } = self;
-        write!(
-            f,
-            "A {a:02X} X {x:02X} Y {y:02X} SP {sp:02X} P {p:02X} PC {pc:04X}"
-        )
+        write!(f, "A {a:02X} X {x:02X} Y {y:02X} SP {sp:02X} P {p:02X} PC {pc:04X}")
     }
 }

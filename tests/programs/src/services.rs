@@ -39,21 +39,11 @@ pub fn called(registers: &Registers) -> bool {
 
 impl Services {
     pub fn new(c_stack: u8, name: &str) -> Services {
-        Services {
-            c_stack,
-            name: name.to_string(),
-            files: Vec::new(),
-            output: Vec::new(),
-            errors: Vec::new(),
-        }
+        Services { c_stack, name: name.to_string(), files: Vec::new(), output: Vec::new(), errors: Vec::new() }
     }
 
     /// Does the work of the address that PC is at, and returns to the caller. An exit gives its code instead.
-    pub fn serve(
-        &mut self,
-        registers: &mut Registers,
-        memory: &mut [u8],
-    ) -> Result<Option<u8>, String> {
+    pub fn serve(&mut self, registers: &mut Registers, memory: &mut [u8]) -> Result<Option<u8>, String> {
         let last = u16::from_le_bytes([registers.a, registers.x]);
         let result = match registers.pc {
             OPEN => self.open(registers.y, memory)?,
@@ -73,11 +63,7 @@ impl Services {
     /// The word on the C stack, whose pointer then goes up by `size`.
     fn argument(&self, size: u8, memory: &mut [u8]) -> u16 {
         let pointer = word(memory, u16::from(self.c_stack));
-        put(
-            memory,
-            u16::from(self.c_stack),
-            pointer.wrapping_add(u16::from(size)),
-        );
+        put(memory, u16::from(self.c_stack), pointer.wrapping_add(u16::from(size)));
         word(memory, pointer)
     }
 
@@ -102,9 +88,7 @@ impl Services {
     }
 
     fn close(&mut self, descriptor: u16) -> u16 {
-        let open = usize::from(descriptor)
-            .checked_sub(STANDARD)
-            .and_then(|i| self.files.get_mut(i));
+        let open = usize::from(descriptor).checked_sub(STANDARD).and_then(|i| self.files.get_mut(i));
         match open.and_then(Option::take) {
             Some(_) => 0,
             None => FAILED,
@@ -118,16 +102,12 @@ impl Services {
         if descriptor == 0 {
             return Ok(0);
         }
-        let open = usize::from(descriptor)
-            .checked_sub(STANDARD)
-            .and_then(|i| self.files.get_mut(i));
+        let open = usize::from(descriptor).checked_sub(STANDARD).and_then(|i| self.files.get_mut(i));
         let Some(Some(file)) = open else {
             return Ok(FAILED);
         };
         let mut bytes = Vec::new();
-        file.take(u64::from(count))
-            .read_to_end(&mut bytes)
-            .map_err(|e| e.to_string())?;
+        file.take(u64::from(count)).read_to_end(&mut bytes).map_err(|e| e.to_string())?;
         for (i, byte) in bytes.iter().enumerate() {
             memory[usize::from(place.wrapping_add(i as u16))] = *byte;
         }
@@ -169,10 +149,7 @@ fn pull(registers: &mut Registers, memory: &[u8]) -> u8 {
 }
 
 fn word(memory: &[u8], address: u16) -> u16 {
-    u16::from_le_bytes([
-        memory[usize::from(address)],
-        memory[usize::from(address.wrapping_add(1))],
-    ])
+    u16::from_le_bytes([memory[usize::from(address)], memory[usize::from(address.wrapping_add(1))]])
 }
 
 fn put(memory: &mut [u8], address: u16, value: u16) {

@@ -21,19 +21,9 @@ pub fn outcome(folder: &Path, name: &str, limit: u32) -> Result<Sim65, String> {
         .stdout
         .strip_prefix(&plain.stdout[..])
         .and_then(cycles)
-        .ok_or_else(|| {
-            format!(
-                "sim65: {}",
-                String::from_utf8_lossy(&counted.stderr).trim_end()
-            )
-        })?;
+        .ok_or_else(|| format!("sim65: {}", String::from_utf8_lossy(&counted.stderr).trim_end()))?;
     let code = plain.status.code().ok_or("sim65 was killed")?;
-    Ok(Sim65 {
-        code: code as u8,
-        output: plain.stdout,
-        errors: plain.stderr,
-        cycles,
-    })
+    Ok(Sim65 { code: code as u8, output: plain.stdout, errors: plain.stderr, cycles })
 }
 
 fn simulate(folder: &Path, name: &str, limit: u32, options: &[&str]) -> Result<Output, String> {
@@ -48,9 +38,5 @@ fn simulate(folder: &Path, name: &str, limit: u32, options: &[&str]) -> Result<O
 
 /// The count in the line `.. cycles`.
 fn cycles(line: &[u8]) -> Option<u32> {
-    std::str::from_utf8(line)
-        .ok()?
-        .strip_suffix(" cycles\n")?
-        .parse()
-        .ok()
+    std::str::from_utf8(line).ok()?.strip_suffix(" cycles\n")?.parse().ok()
 }

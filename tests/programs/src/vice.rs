@@ -1,9 +1,9 @@
 //! VICE's 6510 core, linked from tests/peers, beside the chip: after each instruction both must have the same registers, and it must have
 //! taken as many clocks.
 
-use r6501q::Number;
+use r6501q::{Number, State};
 
-use crate::chip::{Chip, Outcome, RESET_CLOCKS};
+use crate::chip::{Outcome, Served, RESET_CLOCKS};
 use crate::executable::Executable;
 use crate::registers::Registers;
 use crate::services::{called, Services};
@@ -45,78 +45,60 @@ pub struct Beside {
 
 /// Runs the program on both until it exits.
 pub fn beside(program: &Executable, name: &str, limit: u32) -> Result<Beside, String> {
-    let mut chip = Chip::new(program, name);
+    let mut served = Served::new(program, name);
     let mut vice = Vice::new(program, name);
     let mut branches = Branches::default();
     let mut instructions = 0;
     let mut opcodes = [false; 256];
-    expect_done(&mut chip)?; // the reset entry
+    expect_done(&mut served)?; // the reset entry
     let mut clocks = u64::from(RESET_CLOCKS);
-    same(&chip, &vice, clocks)?;
-    while chip.state.clock < limit {
-        let at = chip.registers();
-        let opcode = chip.memory[usize::from(at.pc)];
-        match chip.begin_next() {
+    same(&served, &vice, clocks)?;
+    while served.chip.state.clock < limit {
+        let at = served.registers();
+        let opcode = served.chip.memory[usize::from(at.pc)];
+        match served.begin_next() {
             Number::Done => {
                 clocks += vice.instruction();
                 instructions += 1;
                 opcodes[usize::from(opcode)] = true;
-                branches.count(opcode, at.pc, &chip);
+                branches.count(opcode, at.pc, &served.chip.state);
             }
             number => {
-                let code = chip.serve(number)?;
+                let code = served.serve(number)?;
                 if code != vice.serve()? {
                     return Err("the two exit otherwise".to_string());
                 }
                 if let Some(code) = code {
-                    same_ends(&chip, &vice)?;
-                    let outcome = chip.exit(code)?;
-                    return Ok(Beside {
-                        outcome,
-                        instructions,
-                        opcodes,
-                        branches,
-                    });
+                    same_ends(&served, &vice)?;
+                    let outcome = served.exit(code)?;
+                    return Ok(Beside { outcome, instructions, opcodes, branches });
                 }
             }
         }
-        same(&chip, &vice, clocks).map_err(|e| format!("after {at}: {e}"))?;
+        same(&served, &vice, clocks).map_err(|e| format!("after {at}: {e}"))?;
     }
     Err(format!("no exit in {limit} clocks"))
 }
 
-fn expect_done(chip: &mut Chip) -> Result<(), String> {
-    chip.begin_next()
-        .done()
-        .map_err(|number| number.to_string())
+fn expect_done(served: &mut Served) -> Result<(), String> {
+    served.begin_next().done().map_err(|number| number.to_string())
 }
 
 /// The same registers, and the chip's clock with its wait is the clocks of all instructions.
-fn same(chip: &Chip, vice: &Vice, clocks: u64) -> Result<(), String> {
-    let told = u64::from(chip.state.clock) + u64::from(chip.state.cpu.wait);
-    if chip.registers() == vice.registers && told == clocks {
+fn same(served: &Served, vice: &Vice, clocks: u64) -> Result<(), String> {
+    let taken = u64::from(served.chip.state.clock) + u64::from(served.chip.state.cpu.wait);
+    if served.registers() == vice.registers && taken == clocks {
         return Ok(());
     }
-    Err(format!(
-        "{} and {told} clocks, VICE {} and {clocks}",
-        chip.registers(),
-        vice.registers
-    ))
+    Err(format!("{} and {taken} clocks, VICE {} and {clocks}", served.registers(), vice.registers))
 }
 
 /// The same memory and output at the exit.
-fn same_ends(chip: &Chip, vice: &Vice) -> Result<(), String> {
-    if let Some(at) = MEMORY
-        .into_iter()
-        .find(|i| chip.memory[*i] != vice.memory[*i])
-    {
-        return Err(format!(
-            "{at:04X}h holds {:02X}h, on VICE {:02X}h",
-            chip.memory[at], vice.memory[at]
-        ));
+fn same_ends(served: &Served, vice: &Vice) -> Result<(), String> {
+    if let Some(at) = MEMORY.into_iter().find(|i| served.chip.memory[*i] != vice.memory[*i]) {
+        return Err(format!("{at:04X}h holds {:02X}h, on VICE {:02X}h", served.chip.memory[at], vice.memory[at]));
     }
-    if chip.services.output != vice.services.output || chip.services.errors != vice.services.errors
-    {
+    if served.services.output != vice.services.output || served.services.errors != vice.services.errors {
         return Err("the output differs from VICE's".to_string());
     }
     Ok(())
@@ -126,14 +108,7 @@ impl Vice {
     /// As the chip is after its reset entry.
     fn new(program: &Executable, name: &str) -> Vice {
         Vice {
-            registers: Registers {
-                a: 0,
-                x: 0,
-                y: 0,
-                sp: 0xFF,
-                p: INTERRUPT,
-                pc: program.start,
-            },
+            registers: Registers { a: 0, x: 0, y: 0, sp: 0xFF, p: INTERRUPT, pc: program.start },
             memory: program.memory(),
             services: Services::new(program.c_stack, name),
         }
@@ -156,12 +131,12 @@ impl Vice {
 
 impl Branches {
     /// The chip has just begun this opcode, which was at `from`: counts it where it is a branch taken.
-    fn count(&mut self, opcode: u8, from: u16, chip: &Chip) {
-        if opcode & 0x1F != 0x10 || chip.state.cpu.wait < 2 {
+    fn count(&mut self, opcode: u8, from: u16, after: &State) {
+        if opcode & 0x1F != 0x10 || after.cpu.wait < 2 {
             return;
         }
         let page = |address: u16| address >> 8;
-        let (next, to) = (from.wrapping_add(2), chip.state.cpu.pc);
+        let (next, to) = (from.wrapping_add(2), after.cpu.pc);
         self.longer += u32::from(page(to) != page(next) && page(to) == page(from));
         self.shorter += u32::from(page(to) == page(next) && page(to) != page(from));
     }

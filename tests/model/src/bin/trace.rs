@@ -28,7 +28,10 @@ fn print_world(world: &World) {
 fn print_cpu(state: &State) {
     let (a, x, y, sp, p, pc) = (state.a, state.x, state.y, state.sp, state.p, state.pc);
     let due = format!("{}{}", u8::from(state.reset_due), u8::from(state.nmi_due));
-    print!("{:5} PC {pc:04X} A {a:02X} X {x:02X} Y {y:02X} SP {sp:02X} P {p:02X} w {} due {due}", state.clock, state.wait);
+    print!(
+        "{:5} PC {pc:04X} A {a:02X} X {x:02X} Y {y:02X} SP {sp:02X} P {p:02X} w {} due {due}",
+        state.clock, state.wait
+    );
 }
 
 fn print_peripherals(state: &State) {
@@ -37,7 +40,10 @@ fn print_peripherals(state: &State) {
     print!(" CA {:04X}/{:04X}", state.counter_a, state.latch_a);
     print!(" CB {:04X}/{:04X}/{:04X}{turn}", state.counter_b, state.latch_b, state.latch_c);
     print!(" IFR {:02X} IER {:02X} MCR {:02X}", state.ifr, state.ier, state.mcr);
-    print!(" SCCR {:02X} SCSR {:02X} TD {:02X} RD {:02X}", state.sccr, state.scsr, state.data_sent, state.data_received);
+    print!(
+        " SCCR {:02X} SCSR {:02X} TD {:02X} RD {:02X}",
+        state.sccr, state.scsr, state.data_sent, state.data_received
+    );
     let (tx, rx) = (&state.transmitter, &state.receiver);
     print!(" TX {} {} {:03X}", tx.bits_left, tx.phase, tx.register);
     print!(" RX {} {} {} {:03X}", rx.sub_interval, rx.half, rx.bits_left, rx.register);

@@ -57,10 +57,7 @@ fn main() -> ExitCode {
     };
     let peers = std::fs::canonicalize(peers).expect("a folder of programs for sim65");
     std::env::set_current_dir(chips).expect("a folder of programs for the chip");
-    let asked = Asked {
-        peers: (!without_sim65).then_some(peers.as_path()),
-        zero,
-    };
+    let asked = Asked { peers: (!without_sim65).then_some(peers.as_path()), zero };
     let mut sums = Sums {
         programs: 0,
         output: 0,
@@ -145,11 +142,7 @@ fn same_bytes(which: &str, peer: &[u8], chip: &[u8]) -> Result<(), String> {
         return Ok(());
     }
     let same = peer.iter().zip(chip).take_while(|(a, b)| a == b).count();
-    Err(format!(
-        "{which} of {} bytes differs from sim65's of {} from byte {same} on",
-        chip.len(),
-        peer.len()
-    ))
+    Err(format!("{which} of {} bytes differs from sim65's of {} from byte {same} on", chip.len(), peer.len()))
 }
 
 /// The chip's clocks are sim65's cycles with the reset entry, the last jump and the branches' difference.

@@ -10,7 +10,8 @@ use programs::image::{Ending, Image, MOST};
 
 const CLOCKS: u32 = 400_000_000;
 
-const USAGE: &str = "usage: image FILE LOAD START SUCCESS [CLOCKS]; addresses are hexadecimal, CLOCKS is 1 to 4294967288";
+const USAGE: &str =
+    "usage: image FILE LOAD START SUCCESS [CLOCKS]; addresses are hexadecimal, CLOCKS is 1 to 4294967288";
 
 struct Asked {
     file: String,
@@ -27,13 +28,7 @@ fn asked() -> Option<Asked> {
         [file, load, start, success, clocks] => (file, load, start, success, count(clocks)?),
         _ => return None,
     };
-    Some(Asked {
-        file: file.clone(),
-        load: address(load)?,
-        start: address(start)?,
-        success: address(success)?,
-        clocks,
-    })
+    Some(Asked { file: file.clone(), load: address(load)?, start: address(start)?, success: address(success)?, clocks })
 }
 
 fn count(text: &str) -> Option<u32> {
@@ -50,7 +45,7 @@ fn main() -> ExitCode {
         eprintln!("{USAGE}");
         return ExitCode::from(2);
     };
-    match told(&asked) {
+    match outcome(&asked) {
         Ok((ending, image)) => {
             let success = ending == Ending::Stays(asked.success);
             let registers = image.registers();
@@ -68,7 +63,7 @@ fn main() -> ExitCode {
     }
 }
 
-fn told(asked: &Asked) -> Result<(Ending, Image), String> {
+fn outcome(asked: &Asked) -> Result<(Ending, Image), String> {
     let file = std::fs::read(&asked.file).map_err(|e| e.to_string())?;
     let mut image = Image::new(&file, asked.load, asked.start)?;
     let ending = image.run(asked.clocks);

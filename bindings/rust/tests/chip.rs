@@ -1,0 +1,124 @@
+//! A chip that owns its lists does what the plain calls do, and 7 never ends a run of it.
+use r6501q::{run, Chip, Level, Number, Pin, Record, State, MEMORY_LENGTH};
+
+// INC 00h, then again: a record each 8 clocks, the first on clock 8.
+fn counting() -> Vec<u8> {
+    let mut memory = vec![0; MEMORY_LENGTH];
+    memory[0x0200..0x0205].copy_from_slice(&[0xE6, 0x00, 0x4C, 0x00, 0x02]);
+    memory[0xFFFD] = 2;
+    memory
+}
+
+// PB0 falls and rises by turns, each 7 clocks.
+fn inputs(n: u32) -> impl Iterator<Item = (u32, Level)> {
+    (1..=n).map(|i| (7 * i, Level::from(i % 2 == 0)))
+}
+
+fn with_inputs(n: u32) -> Chip {
+    let mut chip = Chip::with(State::fresh(), counting());
+    for (clock, level) in inputs(n) {
+        assert_eq!(chip.input(clock, Pin::PB0, level), Ok(()));
+    }
+    chip
+}
+
+// The same by one plain call with all the space that it needs.
+fn plainly(n: u32) -> (State, Vec<u8>, Vec<Record>) {
+    let mut memory = counting();
+    let (clocks, codes): (Vec<u32>, Vec<u8>) =
+        inputs(n / 7 + 10).map(|(clock, level)| (clock, Pin::PB0.code(level))).unzip();
+    let (mut output_clocks, mut output_words) = (vec![0; n as usize], vec![0; n as usize]);
+    let result = run(State::fresh(), &mut memory, &clocks, &codes, &mut output_clocks, &mut output_words, n);
+    assert_eq!(result.number, Number::Done);
+    let records = output_clocks.into_iter().zip(output_words).take(result.written);
+    (result.state, memory, records.map(|(clock, word)| Record { clock, word }).collect())
+}
+
+#[test]
+fn a_run_makes_space_for_its_records() {
+    let n = 200_000; // 25,000 records: several times the first space
+    let mut chip = with_inputs(n / 7 + 10);
+    assert_eq!(chip.run(n), Ok(()));
+    let (state, memory, records) = plainly(n);
+    assert_eq!((chip.state, chip.read()), (state, (n / 7) as usize));
+    assert_eq!(chip.memory, memory);
+    assert_eq!(chip.take_records(), records);
+    assert_eq!(chip.take_records(), []);
+}
+
+#[test]
+fn records_in_pieces_are_all_records() {
+    let n = 200_000;
+    let mut chip = with_inputs(n / 7 + 10);
+    chip.run(1_000).unwrap(); // records not taken come first
+    let mut taken = Vec::new();
+    chip.run_with(n - 1_000, |record| taken.push(record)).unwrap();
+    let (state, _, records) = plainly(n);
+    assert_eq!(chip.state, state);
+    assert_eq!(taken, records);
+    assert_eq!((chip.written(), chip.output_clocks().len()), (0, 4_096));
+}
+
+#[test]
+fn steps_are_runs_of_one() {
+    let mut chip = with_inputs(1_000);
+    for _ in 0..1_000 {
+        chip.step().unwrap();
+    }
+    let (state, _, records) = plainly(1_000);
+    assert_eq!((chip.state, chip.leaps()), (state, 1_000));
+    assert_eq!(chip.take_records(), records);
+}
+
+#[test]
+fn a_stop_keeps_what_was_reached() {
+    let mut chip = Chip::with(State::fresh(), counting());
+    chip.memory[0x0202] = 2; // undefined
+    let mut taken = Vec::new();
+    assert_eq!(chip.run_with(100, |record| taken.push(record)), Err(Number::UndefinedOpcode));
+    assert_eq!((chip.state.clock, taken), (12, vec![Record { clock: 8, word: 0xFFFF_FF00 }]));
+    assert_eq!(chip.step(), Err(Number::UndefinedOpcode));
+}
+
+#[test]
+fn refusals_change_nothing() {
+    let mut chip = with_inputs(3);
+    chip.state.clock = 5;
+    assert_eq!(chip.run(u32::MAX - 4), Err(Number::ClockTooHigh));
+    chip.state.clock = 7; // the first input is not above it any more
+    assert_eq!(chip.run(10), Err(Number::WrongPinList));
+    assert_eq!(chip.step(), Err(Number::WrongPinList));
+    chip.set_inputs(&[9, 10], &[8]);
+    assert_eq!(chip.run(1), Err(Number::UnequalLists));
+    chip.memory.pop();
+    assert_eq!(chip.run(0), Err(Number::WrongMemoryLength));
+    assert_eq!(chip.load(b";0000010001").map_err(|refused| refused.number), Err(Number::WrongMemoryLength));
+    assert_eq!((chip.state.clock, chip.read(), chip.leaps()), (7, 0, 0));
+}
+
+#[test]
+fn a_call_takes_the_space_as_it_is() {
+    let mut chip = Chip::with(State::fresh(), counting());
+    chip.set_space(&[1; 2], &[2; 2]);
+    let result = chip.call_run(100);
+    assert_eq!((result.number, result.written, result.state.clock), (Number::NoFreeRecord, 2, 23));
+    assert_eq!((chip.output_clocks(), chip.output_words()), (&[8, 16][..], &[0xFFFF_FF00, 0xFFFF_FF01][..]));
+    assert_eq!(chip.call_step().number, Number::NoFreeRecord);
+    chip.set_space(&[1], &[2, 2]);
+    assert_eq!(chip.call_step().number, Number::UnequalLists);
+    assert_eq!(chip.run(1), Err(Number::UnequalLists));
+}
+
+#[test]
+fn an_input_must_come_behind_the_last() {
+    let mut chip = Chip::with(State::fresh(), counting());
+    assert_eq!(chip.input(0, Pin::PA0, Level::Low), Err(Number::WrongPinList));
+    assert_eq!(chip.input(10, Pin::PA1, Level::High), Ok(()));
+    assert_eq!(chip.input(10, Pin::PA1, Level::Low), Err(Number::WrongPinList));
+    assert_eq!(chip.input(9, Pin::PA2, Level::Low), Err(Number::WrongPinList));
+    chip.run(10).unwrap();
+    assert_eq!(chip.input(10, Pin::PA2, Level::Low), Err(Number::WrongPinList));
+    assert_eq!(chip.input(11, Pin::PA0, Level::Low), Ok(()));
+    chip.run(1).unwrap();
+    assert_eq!((chip.read(), chip.state.external.ports), (2, 0xFFFF_FFFE));
+}

@@ -1,0 +1,48 @@
+/* What document 01 says of a call before it does anything, and of what it hands back: written from the paper, apart
+ * from the library. */
+#ifndef RULES_H
+#define RULES_H
+
+#include "r6501q.h"
+
+/* What a run is given. Lengths are in entries. */
+typedef struct given {
+    r6501q_state state;
+    size_t memory_length;
+    const uint32_t *input_clocks;
+    size_t input_clocks_length;
+    const uint8_t *input_codes;
+    size_t input_codes_length;
+    size_t output_clocks_length;
+    size_t output_words_length;
+    uint32_t n;
+} given;
+
+/* Document 01, "Machine state": every field within its range. */
+int well_formed(const r6501q_state *s);
+
+/* The same in every field. Bytes between fields do not count. */
+int same_state(const r6501q_state *s, const r6501q_state *t);
+
+/* Document 01, "What is handed back", 1 to 5; 0 where none holds. */
+int refusal(const given *g);
+
+/* The input entries whose clock is at most this one. */
+size_t entries_up_to(const given *g, uint32_t clock);
+
+/* The external levels once the first so many inputs are read. */
+r6501q_levels levels_after(const given *g, size_t entries);
+
+/* Document 01, "Pin lists": the driven word. */
+uint32_t driven_word(const r6501q_state *s);
+
+/* Document 01, "Instructions". */
+int is_defined(uint8_t opcode);
+
+/* A count after n clocks in interval mode. */
+uint16_t counted(uint16_t count, uint16_t latch, uint32_t n);
+
+/* Document 01, "Tape": what a load hands back, and what it leaves in a memory of 65,536 bytes. */
+r6501q_load_result loaded_from(const uint8_t *tape, size_t tape_length, uint8_t *memory, size_t memory_length);
+
+#endif

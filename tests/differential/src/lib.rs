@@ -1,0 +1,3 @@
+//! The model's state as the library's. The benchmark compares the two sides by it too.
+
+pub mod convert;

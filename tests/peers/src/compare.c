@@ -1,0 +1,166 @@
+/* Compares the chip, through the library's calls, with VICE's cores in the same process: for each of the 183 opcodes,
+ * so many random states; for ADC and SBC, all operands; and runs of instructions. Ends with 1 at the first difference.
+ * Arguments: cases for each opcode (20000), seed (1). */
+#include <stdio.h>
+#include <stdlib.h>
+#include <string.h>
+
+#include "arguments.h"
+#include "cases.h"
+#include "chip.h"
+#include "instructions.h"
+#include "peer.h"
+#include "r6501q.h"
+#include "runs.h"
+
+static uint8_t ours[R6501Q_MEMORY_LENGTH], peers[R6501Q_MEMORY_LENGTH];
+
+static r6501q_call_result step(r6501q_state state)
+{
+    return r6501q_step(state, ours, sizeof ours, 0, 0, 0, 0, 0, 0, 0, 0);
+}
+
+static void print_accesses(const char *kind, unsigned count, const struct peer_access *access)
+{
+    printf("  peer's %s:", kind);
+    for (unsigned i = 0; i < count; i++)
+        printf(" %04X=%02X", access[i].address, access[i].value);
+    printf("\n");
+}
+
+static void print_difference(uint8_t opcode, const struct peer_registers *before, const struct peer_registers *after,
+    const struct peer_record *record, const r6501q_call_result *result)
+{
+    printf("difference: %02X %s %s\n", opcode, instructions[opcode].name, mode_words[instructions[opcode].mode]);
+    print_registers("before", before);
+    printf("\n");
+    print_registers("peer", after);
+    printf(" wait %u, clock 1, number 0, leaps 1, read 0, written 0\n", record->clocks - 1);
+    print_result(result);
+    print_accesses("reads", record->reads, record->read);
+    print_accesses("writes", record->writes, record->write);
+    print_memory_differences(peers, ours);
+}
+
+/* Runs ours where the peer has run, and compares all that there is. */
+static void compare_with(uint8_t opcode, const struct peer_registers *before, const struct peer_registers *after,
+    const struct peer_record *record)
+{
+    r6501q_call_result result = step(chip_start(before));
+    r6501q_state expected = chip_after(after, 1, record->clocks - 1);
+    if (result.number != R6501Q_DONE || result.leaps != 1 || result.read != 0 || result.written != 0
+        || !same_state(&result.state, &expected) || memcmp(ours, peers, sizeof ours) != 0) {
+        print_difference(opcode, before, after, record, &result);
+        exit(1);
+    }
+}
+
+/* One random state; the memories are equal before and after. */
+static enum verdict compare_case(struct random *random, uint8_t opcode)
+{
+    struct test_case c = make_case(random, opcode, peers);
+    for (unsigned i = 0; i < c.bytes; i++)
+        ours[c.address[i]] = peers[c.address[i]];
+    struct peer_registers after = c.registers;
+    struct peer_record record;
+    peer_step(&after, peers, &record);
+    enum verdict v = verdict(opcode, &record);
+    if (v == POINTER_AT_PAGE_END) {
+        /* The R65C02 goes to the pointer plus 1 as the chip does, but takes a clock more. */
+        unsigned clocks = record.clocks;
+        after = c.registers;
+        peer_r65c02_step(&after, peers, &record);
+        v = verdict(opcode, &record);
+        record.clocks = clocks;
+    }
+    if (v == REGISTER_ACCESS)
+        peer_undo(peers, &record);
+    else
+        compare_with(opcode, &c.registers, &after, &record);
+    return v;
+}
+
+/* Every A, operand and carry, in both modes. Gives their number. */
+static unsigned compare_operands(uint8_t opcode)
+{
+    const uint16_t pc = 0x0200;
+    unsigned number = 0;
+    for (unsigned flags = 0; flags < 4; flags++)
+        for (unsigned a = 0; a < 256; a++)
+            for (unsigned operand = 0; operand < 256; operand++) {
+                struct peer_registers before = {.a = a, .p = (flags & 1) | (flags & 2) << 2, .pc = pc};
+                struct peer_registers after = before;
+                struct peer_record record;
+                ours[pc] = peers[pc] = opcode;
+                ours[pc + 1] = peers[pc + 1] = operand;
+                peer_step(&after, peers, &record);
+                compare_with(opcode, &before, &after, &record);
+                number++;
+            }
+    return number;
+}
+
+struct counts {
+    unsigned opcodes;
+    unsigned long verdicts[VERDICTS];
+};
+
+static struct counts compare_group(const struct group *group, unsigned cases, struct random *random)
+{
+    struct counts counts = {0};
+    for (unsigned opcode = 0; opcode < 256; opcode++)
+        if (in_group(group, &instructions[opcode])) {
+            counts.opcodes++;
+            for (unsigned done = 0; done < cases;) {
+                enum verdict v = compare_case(random, opcode);
+                counts.verdicts[v]++;
+                done += v == REGULAR;
+            }
+        }
+    return counts;
+}
+
+static void print_counts(const char *name, const struct counts *counts)
+{
+    printf("%-14s%8u", name, counts->opcodes);
+    for (unsigned v = 0; v < VERDICTS; v++)
+        printf("%12lu", counts->verdicts[v]);
+    printf("\n");
+}
+
+static void compare_groups(unsigned cases, struct random *random)
+{
+    struct counts all = {0};
+    printf("%-14s%8s", "", "opcodes");
+    for (unsigned v = 0; v < VERDICTS; v++)
+        printf("%12s", verdict_words[v]);
+    printf("\n");
+    for (unsigned g = 0; g < GROUPS; g++) {
+        struct counts counts = compare_group(&groups[g], cases, random);
+        print_counts(groups[g].name, &counts);
+        all.opcodes += counts.opcodes;
+        for (unsigned v = 0; v < VERDICTS; v++)
+            all.verdicts[v] += counts.verdicts[v];
+    }
+    print_counts("all", &all);
+}
+
+int main(int count, char **arguments)
+{
+    uint64_t cases = 20000, seed = 1;
+    if (count > 3 || (count > 1 && !read_number(arguments[1], 1, UINT32_MAX, &cases))
+        || (count > 2 && !read_number(arguments[2], 0, UINT64_MAX, &seed))) {
+        fprintf(stderr, "usage: compare [cases [seed]]; cases for each opcode, from 1 up\n");
+        return 2;
+    }
+    struct random random = {seed};
+
+    setvbuf(stdout, 0, _IOLBF, 0);
+    for (unsigned i = 0; i < sizeof ours; i++)
+        ours[i] = peers[i] = random_below(&random, 256);
+    compare_groups(cases, &random);
+    printf("ADC, all operands, both modes: %u\n", compare_operands(ADC_IMMEDIATE));
+    printf("SBC, all operands, both modes: %u\n", compare_operands(SBC_IMMEDIATE));
+    compare_runs(cases, &random);
+    return 0;
+}
