@@ -7,10 +7,10 @@ use std::time::Duration;
 use programs::chip::{by_runs, RESET_CLOCKS};
 use programs::executable::Executable;
 
-use crate::chip::Chip;
 use crate::processor_time::Least;
 use crate::sim65::Sim65;
 use crate::table::{count, speed, Table};
+use crate::timed::{chip, run, same, steps, Inputs};
 use crate::vice::Vice;
 use crate::PIECE;
 
@@ -49,12 +49,7 @@ impl Busy {
                 on_chip.code, on_chip.state.clock, whole.code
             ));
         }
-        Ok(Busy {
-            program,
-            clocks: on_chip.state.clock,
-            whole,
-            one_round: Sim65::new(&folder, "one_round", LIMIT)?,
-        })
+        Ok(Busy { program, clocks: on_chip.state.clock, whole, one_round: Sim65::new(&folder, "one_round", LIMIT)? })
     }
 
     pub fn memory(&self) -> Vec<u8> {
@@ -95,11 +90,7 @@ impl Busy {
         let mut table = Table::new(&["busy program", "clocks per second", "to `run`"]);
         for (name, clocks, seconds) in ways {
             let ratio = clocks / seconds / (ways[0].1 / ways[0].2);
-            table.row(&[
-                name.to_string(),
-                speed(clocks, seconds),
-                format!("{ratio:.2}"),
-            ]);
+            table.row(&[name.to_string(), speed(clocks, seconds), format!("{ratio:.2}")]);
         }
         table.print();
         Ok(())
@@ -107,25 +98,23 @@ impl Busy {
 
     // The program once by each way in this process.
     fn turn(&self) -> Result<Turn, String> {
-        let mut run = Chip::new(self.memory());
-        let mut step = Chip::new(self.memory());
+        let none = Inputs::default();
+        let (mut by_run, mut by_step) = (chip(self.memory(), &none), chip(self.memory(), &none));
         let mut plain = Vice::plain(self.program.start, self.memory());
         let mut machine = Vice::machine(self.program.start, self.memory());
         let mut turn = Turn::default();
-        while run.state.clock < self.clocks {
-            let piece = PIECE.min(self.clocks - run.state.clock);
-            turn.run += run.run(piece)?;
-            turn.step += step.steps(piece)?;
-            turn.plain += plain.run_to(run.state.clock);
-            turn.machine += machine.run_to(run.state.clock);
-            run.same(&step)
-                .map_err(|e| format!("`run` and `step`: {e}"))?;
+        while by_run.state.clock < self.clocks {
+            let piece = PIECE.min(self.clocks - by_run.state.clock);
+            turn.run += run(&mut by_run, piece)?;
+            turn.step += steps(&mut by_step, piece)?;
+            turn.plain += plain.run_to(by_run.state.clock);
+            turn.machine += machine.run_to(by_run.state.clock);
+            same(&by_run, &by_step).map_err(|e| format!("`run` and `step`: {e}"))?;
             for vice in [&plain, &machine] {
-                vice.same(&run.state, &run.memory)
-                    .map_err(|e| format!("`run` and VICE: {e}"))?;
+                vice.same(&by_run.state, &by_run.memory).map_err(|e| format!("`run` and VICE: {e}"))?;
             }
         }
-        turn.leaps = run.leaps;
+        turn.leaps = by_run.leaps();
         Ok(turn)
     }
 }

@@ -1,11 +1,11 @@
 // What a call costs: runs of growing length, and the same clocks in calls of growing length.
 
-use r6501q::{run, Number, State, Told};
+use r6501q::{run, CallResult, Number, State};
 
-use crate::chip::same_memory;
 use crate::processor_time::{self, Least};
 use crate::start::Start;
 use crate::table::{count, speed, time, Table};
+use crate::timed::same_memory;
 
 // A call of fewer clocks is made often enough for so many, and timed with the others.
 const TIMED_TOGETHER: u32 = 100_000;
@@ -17,7 +17,7 @@ const TOTAL: u32 = 1_000_000;
 const ENOUGH_CALLS: u32 = 100_000;
 
 // No inputs, and no records, as the program writes no port.
-fn call(state: State, memory: &mut [u8], n: u32) -> Told {
+fn call(state: State, memory: &mut [u8], n: u32) -> CallResult {
     run(state, memory, &[], &[], &mut [], &mut [], n)
 }
 
@@ -32,9 +32,7 @@ pub fn print(start: &Start, longest: u32, turns: u32) -> Result<(), String> {
 
 // 1, 10, 100 and so on.
 fn powers(longest: u32) -> impl Iterator<Item = u32> {
-    (0..10)
-        .map(|i| 10u32.pow(i))
-        .take_while(move |n| *n <= longest)
+    (0..10).map(|i| 10u32.pow(i)).take_while(move |n| *n <= longest)
 }
 
 // Runs of growing length, each from the same state. A call with n = 0 makes all checks and does nothing: it is the cost of a call itself.
@@ -46,8 +44,8 @@ fn print_lengths(start: &Start, longest: u32, turns: u32) -> Result<(), String> 
             let calls = (TIMED_TOGETHER / (*n).max(1)).max(1);
             let mut memory = start.memory.clone();
             let (number, time) = processor_time::of(|| {
-                let told = (0..calls).map(|_| call(start.state, &mut memory, *n).number);
-                told.max()
+                let result = (0..calls).map(|_| call(start.state, &mut memory, *n).number);
+                result.max()
             });
             done(number.unwrap_or(Number::Done))?;
             least.take(time / calls);
@@ -70,23 +68,20 @@ fn print_lengths(start: &Start, longest: u32, turns: u32) -> Result<(), String> 
 fn print_total(start: &Start, turns: u32) -> Result<(), String> {
     let mut rows: Vec<(u32, Least)> = powers(TOTAL).map(|n| (n, Least::new())).collect();
     let mut whole = start.memory.clone();
-    let told = call(start.state, &mut whole, TOTAL);
-    done(told.number)?;
+    let result = call(start.state, &mut whole, TOTAL);
+    done(result.number)?;
     for _ in 0..turns {
         for (n, least) in &mut rows {
             let mut memory = start.memory.clone();
             let (state, time) = processor_time::of(|| {
                 (0..TOTAL / *n).try_fold(start.state, |state, _| {
-                    let told = call(state, &mut memory, *n);
-                    told.number.done().map(|()| told.state)
+                    let result = call(state, &mut memory, *n);
+                    result.number.done().map(|()| result.state)
                 })
             });
             let state = state.map_err(|number| number.to_string())?;
-            if state != told.state {
-                return Err(format!(
-                    "in calls of {n} clocks: {state:?}\n{:?}",
-                    told.state
-                ));
+            if state != result.state {
+                return Err(format!("in calls of {n} clocks: {state:?}\n{:?}", result.state));
             }
             same_memory(&memory, &whole).map_err(|e| format!("in calls of {n} clocks: {e}"))?;
             least.take(time);
@@ -104,12 +99,7 @@ fn print_total(start: &Start, turns: u32) -> Result<(), String> {
             ..ENOUGH_CALLS => String::new(),
             calls => time((least.seconds() - one) / f64::from(calls)),
         };
-        table.row(&[
-            count(u64::from(*n)),
-            count(u64::from(calls)),
-            speed(f64::from(TOTAL), least.seconds()),
-            cost,
-        ]);
+        table.row(&[count(u64::from(*n)), count(u64::from(calls)), speed(f64::from(TOTAL), least.seconds()), cost]);
     }
     table.print();
     Ok(())

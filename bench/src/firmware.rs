@@ -1,64 +1,113 @@
-// Firmware that does ordinary work. Counter A goes round every 1,000 clocks in interval mode; each time its flag is found
-// set, port A is written.
+// Firmware on the chip and on the plain-clock model: a mill's, and small loops. Each is an image of memory from 0800h on
+// that bench/run has assembled, with the inputs that go with it.
 
-// Where the program begins.
-const START: u16 = 0x0800;
+use std::path::Path;
 
-// The program, written out for the addresses in its jumps.
-const PROGRAM: &[u8] = &[
-    0xA2, 0xFF, //       0800  LDX #$FF
-    0x9A, //             0802  TXS
-    0xD8, //             0803  CLD
-    0xA9, 0x00, //       0804  LDA #$00
-    0x85, 0x14, //       0806  STA $14      mode control: both counters in interval mode
-    0xA9, 0xE7, //       0808  LDA #$E7
-    0x85, 0x18, //       080A  STA $18      counter A's lower latch
-    0xA9, 0x03, //       080C  LDA #$03
-    0x85, 0x1A, //       080E  STA $1A      counter A's upper latch; 03E7h is 999; starts
-    // loop: a sum of sixteen bits
-    0x18, //             0810  CLC
-    0xA5, 0x50, //       0811  LDA $50
-    0x69, 0x03, //       0813  ADC #$03
-    0x85, 0x50, //       0815  STA $50
-    0xA5, 0x51, //       0817  LDA $51
-    0x69, 0x00, //       0819  ADC #$00
-    0x85, 0x51, //       081B  STA $51
-    // two arrays of eight bytes added into a third
-    0xA2, 0x08, //       081D  LDX #$08
-    0xBD, 0x00, 0x03, // 081F  LDA $0300,X
-    0x7D, 0x10, 0x03, // 0822  ADC $0310,X
-    0x9D, 0x00, 0x03, // 0825  STA $0300,X
-    0xCA, //             0828  DEX
-    0xD0, 0xF4, //       0829  BNE $081F
-    0x20, 0x40, 0x08, // 082B  JSR $0840
-    0xA5, 0x11, //       082E  LDA $11      interrupt flags
-    0x29, 0x10, //       0830  AND #$10     counter A's underflow
-    0xF0, 0xDC, //       0832  BEQ $0810
-    0xA5, 0x18, //       0834  LDA $18      clears the flag
-    0xE6, 0x52, //       0836  INC $52
-    0xA5, 0x52, //       0838  LDA $52
-    0x85, 0x00, //       083A  STA $00      port A
-    0x4C, 0x10, 0x08, // 083C  JMP $0810
-    0xEA, //             083F  NOP
-    // a subroutine
-    0x48, //             0840  PHA
-    0xA0, 0x02, //       0841  LDY #$02
-    0xB1, 0x60, //       0843  LDA ($60),Y
-    0x45, 0x50, //       0845  EOR $50
-    0x91, 0x60, //       0847  STA ($60),Y
-    0x68, //             0849  PLA
-    0x60, //             084A  RTS
+use r6501q::{Frame, Level, Pin, MEMORY_LENGTH};
+
+use crate::timed::Inputs;
+
+// Where an image begins (image.cfg).
+const START: usize = 0x0800;
+
+// When the first byte or input comes: the firmware has set all registers by then.
+const FIRST: u32 = 2_000;
+
+// A bit is 16 ticks, a tick latch A + 1 clocks.
+pub const fn clocks_per_bit(latch: u32) -> u32 {
+    16 * (latch + 1)
+}
+
+// What comes in while a firmware runs.
+#[derive(Clone, Copy)]
+enum Coming {
+    Nothing,
+    // Moves for the mill on PA7 with latch A 6, one each so many clocks.
+    Moves { each: u32 },
+    // Bytes on PA7, one right behind the other.
+    Bytes { latch: u32 },
+    // PB0 changes each so many clocks.
+    Changes { each: u32 },
+}
+
+pub struct Firmware {
+    // As in the tables.
+    pub name: &'static str,
+    // The image's file.
+    image: &'static str,
+    coming: Coming,
+}
+
+pub const ALL: [Firmware; 9] = [
+    Firmware { name: "mill, interrupt handler", image: "mill_interrupt", coming: Coming::Moves { each: 8_000 } },
+    Firmware { name: "mill, polled", image: "mill_polled", coming: Coming::Moves { each: 8_000 } },
+    Firmware { name: "counter and port", image: "counter", coming: Coming::Nothing },
+    Firmware { name: "a register polled", image: "poll", coming: Coming::Nothing },
+    Firmware { name: "a port written", image: "port", coming: Coming::Nothing },
+    Firmware { name: "serial both ways, latch 0", image: "serial_0", coming: Coming::Bytes { latch: 0 } },
+    Firmware { name: "serial both ways, latch 6", image: "serial_6", coming: Coming::Bytes { latch: 6 } },
+    Firmware { name: "serial both ways, latch 12", image: "serial_12", coming: Coming::Bytes { latch: 12 } },
+    Firmware { name: "an input each 100 clocks", image: "work", coming: Coming::Changes { each: 100 } },
 ];
 
-// A memory with the program, its data and the reset vector.
-pub fn memory() -> Vec<u8> {
-    let mut memory = vec![0u8; 65536];
-    let start = START as usize;
-    memory[start..start + PROGRAM.len()].copy_from_slice(PROGRAM);
-    for i in 0..8u8 {
-        memory[0x0311 + i as usize] = 37 * i + 1;
+impl Firmware {
+    // By the name of its image.
+    pub fn find(image: &str) -> Option<&'static Firmware> {
+        ALL.iter().find(|firmware| firmware.image == image)
     }
-    memory[0x60..0x62].copy_from_slice(&0x0400u16.to_le_bytes());
-    memory[0xFFFC..0xFFFE].copy_from_slice(&START.to_le_bytes());
-    memory
+
+    // A memory with the image, from the folder of what bench/run has assembled.
+    pub fn memory(&self, made: &Path) -> Result<Vec<u8>, String> {
+        let file = made.join("images").join(self.image);
+        let image = std::fs::read(&file).map_err(|e| format!("{}: {e}", file.display()))?;
+        let mut memory = vec![0; START];
+        memory.extend(image);
+        match memory.len() {
+            MEMORY_LENGTH => Ok(memory),
+            _ => Err(format!("{} does not end at FFFFh", file.display())),
+        }
+    }
+
+    // The inputs of so many clocks.
+    pub fn inputs(&self, clocks: u32) -> Inputs {
+        match self.coming {
+            Coming::Nothing => Inputs::default(),
+            Coming::Moves { each } => {
+                let moves = (FIRST..clocks).step_by(each as usize).zip(0..);
+                frames(moves.map(|(clock, i)| (clock, a_move(i))), clocks_per_bit(6))
+            }
+            Coming::Bytes { latch } => {
+                let bit = clocks_per_bit(latch);
+                let frame = bit * Frame::EIGHT_BITS.levels(0).len() as u32;
+                let bytes = (FIRST..clocks).step_by(frame as usize).zip(0..);
+                frames(bytes.map(|(clock, i): (u32, u32)| (clock, i as u8)), bit)
+            }
+            Coming::Changes { each } => {
+                let changes = (FIRST..clocks).step_by(each as usize).zip(0..);
+                changes.map(|(clock, i): (u32, u32)| (clock, Pin::PB0.code(Level::from(i % 2 == 1)))).unzip()
+            }
+        }
+    }
+}
+
+// Moves of 0 to 15 steps, forward and backward (mill.s), drawn by a linear congruence.
+fn a_move(i: u32) -> u8 {
+    let drawn = i.wrapping_mul(1_103_515_245).wrapping_add(12_345) >> 16;
+    (drawn & 0x8F) as u8
+}
+
+// Frames on PA7, each from its clock on; an entry for each change of level.
+fn frames(bytes: impl Iterator<Item = (u32, u8)>, bit: u32) -> Inputs {
+    let mut inputs = Inputs::default();
+    let mut last = Level::High;
+    for (start, byte) in bytes {
+        for (clock, level) in (start..).step_by(bit as usize).zip(Frame::EIGHT_BITS.levels(byte)) {
+            if level != last {
+                inputs.0.push(clock);
+                inputs.1.push(Pin::PA7.code(level));
+                last = level;
+            }
+        }
+    }
+    inputs
 }

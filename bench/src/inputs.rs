@@ -44,18 +44,18 @@ impl Row {
     fn run(&mut self, start: &Start, n: u32, runs: u32, read: usize) -> Result<(), String> {
         let mut memory = start.memory.clone();
         let (clocks, codes) = (&self.clocks, &self.codes);
-        let (told, time) = processor_time::of(|| {
+        let (result, time) = processor_time::of(|| {
             let mut leaps = Ok(0);
             for _ in 0..runs {
-                let told = run(start.state, &mut memory, clocks, codes, &mut [], &mut [], n);
-                if (told.number, told.read) != (Number::Done, read) {
-                    return Err(format!("{}, {} inputs read", told.number, told.read));
+                let result = run(start.state, &mut memory, clocks, codes, &mut [], &mut [], n);
+                if (result.number, result.read) != (Number::Done, read) {
+                    return Err(format!("{}, {} inputs read", result.number, result.read));
                 }
-                leaps = Ok(told.leaps);
+                leaps = Ok(result.leaps);
             }
             leaps
         });
-        self.leaps = told?;
+        self.leaps = result?;
         self.least.take(time / runs);
         Ok(())
     }
@@ -82,17 +82,10 @@ fn print_later(start: &Start, lengths: &[u32], turns: u32) -> Result<(), String>
             row.run(start, LATER_CLOCKS, LATER_RUNS, 0)?;
         }
     }
-    println!(
-        "Inputs later than a run of {} clocks; least of {turns} turns.\n",
-        count(u64::from(LATER_CLOCKS))
-    );
+    println!("Inputs later than a run of {} clocks; least of {turns} turns.\n", count(u64::from(LATER_CLOCKS)));
     let mut table = Table::new(&["later inputs", "time of the run", "each input"]);
     for row in &rows {
-        table.row(&[
-            count(row.entries() as u64),
-            time(row.least.seconds()),
-            row.each(rows[0].least, ENOUGH_LATER),
-        ]);
+        table.row(&[count(row.entries() as u64), time(row.least.seconds()), row.each(rows[0].least, ENOUGH_LATER)]);
     }
     table.print();
     Ok(())
@@ -101,9 +94,7 @@ fn print_later(start: &Start, lengths: &[u32], turns: u32) -> Result<(), String>
 fn print_within(start: &Start, lengths: &[u32], turns: u32) -> Result<(), String> {
     let row = |entries: &u32| {
         let entries = *entries;
-        Row::new(entries, |i| {
-            start.state.clock + (i + 1) * (WITHIN_CLOCKS / entries)
-        })
+        Row::new(entries, |i| start.state.clock + (i + 1) * (WITHIN_CLOCKS / entries))
     };
     let mut rows: Vec<Row> = lengths.iter().map(row).collect();
     for _ in 0..turns {
@@ -111,10 +102,7 @@ fn print_within(start: &Start, lengths: &[u32], turns: u32) -> Result<(), String
             row.run(start, WITHIN_CLOCKS, 1, row.entries())?;
         }
     }
-    println!(
-        "Inputs spread within a run of {} clocks; least of {turns} turns.\n",
-        count(u64::from(WITHIN_CLOCKS))
-    );
+    println!("Inputs spread within a run of {} clocks; least of {turns} turns.\n", count(u64::from(WITHIN_CLOCKS)));
     let mut table = Table::new(&["inputs within", "leaps", "clocks per second", "each input"]);
     for row in &rows {
         table.row(&[

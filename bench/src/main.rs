@@ -1,25 +1,27 @@
-// How fast the chip is, by `run` and by `step`, beside VICE's core and sim65, and how its cost grows with lists and lengths. Whatever is timed side by
-// side must come to the same, or the program ends with 1.
+// How fast the chip is, by `run` and by `step`, beside VICE's core, sim65 and the plain-clock model, and how its cost
+// grows with lists and lengths. Whatever is timed side by side must come to the same, or the program ends with 1.
 //
-// usage: bench FOLDER [--short], or for a profiler, nothing timed: bench FOLDER --only busy|firmware run|step
+// usage: bench FOLDER [--short], or for a profiler, nothing timed: bench FOLDER --only PROGRAM run|step, where PROGRAM is
+// `busy` or an image of bench/run's.
+mod beside_model;
 mod busy;
 mod calls;
-mod chip;
-mod counter_and_port;
 mod firmware;
 mod inputs;
 mod processor_time;
 mod sim65;
 mod start;
 mod table;
+mod timed;
 mod vice;
 
 use std::path::Path;
 use std::process::ExitCode;
 
 use busy::Busy;
-use chip::Chip;
+use firmware::Firmware;
 use start::Start;
+use timed::Inputs;
 
 // The clocks of a piece.
 pub const PIECE: u32 = 1_000_000;
@@ -27,7 +29,7 @@ pub const PIECE: u32 = 1_000_000;
 // How much is measured.
 struct Extent {
     turns: u32,
-    // Of the firmware in a turn; the busy program has its own length.
+    // Of each firmware in a turn; the busy program has its own length.
     pieces: u32,
     // Of the tables of growth, whose runs are short.
     growth_turns: u32,
@@ -37,19 +39,14 @@ struct Extent {
 
 const WHOLE: Extent = Extent {
     turns: 7,
-    pieces: 20,
+    pieces: 5,
     growth_turns: 15,
     input_lists: &[0, 1_000, 10_000, 100_000, 1_000_000],
     longest_run: 10_000_000,
 };
 
-const SHORT: Extent = Extent {
-    turns: 2,
-    pieces: 2,
-    growth_turns: 3,
-    input_lists: &[0, 1_000, 10_000, 100_000],
-    longest_run: 1_000_000,
-};
+const SHORT: Extent =
+    Extent { turns: 2, pieces: 1, growth_turns: 3, input_lists: &[0, 1_000, 10_000, 100_000], longest_run: 1_000_000 };
 
 fn main() -> ExitCode {
     let arguments: Vec<String> = std::env::args().skip(1).collect();
@@ -57,11 +54,9 @@ fn main() -> ExitCode {
     let result = match arguments[..] {
         [made] => measure(Path::new(made), &WHOLE),
         [made, "--short"] => measure(Path::new(made), &SHORT),
-        [made, "--only", program @ ("busy" | "firmware"), way @ ("run" | "step")] => {
-            only(Path::new(made), program, way)
-        }
+        [made, "--only", program, way @ ("run" | "step")] => only(Path::new(made), program, way),
         _ => {
-            eprintln!("usage: bench FOLDER [--short | --only busy|firmware run|step]");
+            eprintln!("usage: bench FOLDER [--short | --only PROGRAM run|step]");
             return ExitCode::from(2);
         }
     };
@@ -76,27 +71,30 @@ fn main() -> ExitCode {
 
 fn measure(made: &Path, extent: &Extent) -> Result<(), String> {
     let busy = Busy::new(made).map_err(|e| format!("busy program: {e}"))?;
-    busy.print(extent.turns)
-        .map_err(|e| format!("busy program: {e}"))?;
-    counter_and_port::print(extent.pieces, extent.turns)
-        .map_err(|e| format!("counter and port: {e}"))?;
+    busy.print(extent.turns).map_err(|e| format!("busy program: {e}"))?;
+    beside_model::print(made, extent.pieces, extent.turns)?;
     let start = Start::new(busy.memory())?;
-    inputs::print(&start, extent.input_lists, extent.growth_turns)
-        .map_err(|e| format!("inputs: {e}"))?;
+    inputs::print(&start, extent.input_lists, extent.growth_turns).map_err(|e| format!("inputs: {e}"))?;
     calls::print(&start, extent.longest_run, extent.growth_turns).map_err(|e| format!("calls: {e}"))
 }
 
-// One program by one way, as many clocks as the firmware takes in a turn; the busy program takes some more.
+// The pieces that a profiler sees.
+const ONLY_PIECES: u32 = 20;
+
+// One program by one way.
 fn only(made: &Path, program: &str, way: &str) -> Result<(), String> {
-    let mut chip = Chip::new(match program {
-        "busy" => busy::program(made)?.memory(),
-        _ => firmware::memory(),
-    });
-    for _ in 0..WHOLE.pieces {
+    let (memory, inputs) = match (program, Firmware::find(program)) {
+        ("busy", _) => (busy::program(made)?.memory(), Inputs::default()),
+        (_, Some(firmware)) => (firmware.memory(made)?, firmware.inputs(ONLY_PIECES * PIECE)),
+        (_, None) => return Err(format!("{program} is no program of bench/run")),
+    };
+    let mut chip = timed::chip(memory, &inputs);
+    for _ in 0..ONLY_PIECES {
         match way {
-            "run" => chip.run(PIECE)?,
-            _ => chip.steps(PIECE)?,
+            "run" => timed::run(&mut chip, PIECE)?,
+            _ => timed::steps(&mut chip, PIECE)?,
         };
+        chip.take_records();
     }
     Ok(())
 }

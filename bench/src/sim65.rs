@@ -18,23 +18,14 @@ pub struct Sim65 {
 
 impl Sim65 {
     pub fn new(folder: &Path, name: &'static str, limit: u32) -> Result<Sim65, String> {
-        let told = outcome(folder, name, limit)?;
-        Ok(Sim65 {
-            folder: folder.to_path_buf(),
-            name,
-            code: told.code,
-            cycles: told.cycles,
-        })
+        let ended = outcome(folder, name, limit)?;
+        Ok(Sim65 { folder: folder.to_path_buf(), name, code: ended.code, cycles: ended.cycles })
     }
 
     // The processor time of the process.
     pub fn run(&self) -> Result<Duration, String> {
         let (ended, time) = processor_time::of_children(|| {
-            Command::new("sim65")
-                .arg(self.name)
-                .current_dir(&self.folder)
-                .stdin(Stdio::null())
-                .status()
+            Command::new("sim65").arg(self.name).current_dir(&self.folder).stdin(Stdio::null()).status()
         });
         let status = ended.map_err(|e| format!("sim65: {e}"))?;
         if status.code() != Some(i32::from(self.code)) {

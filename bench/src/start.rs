@@ -1,6 +1,6 @@
 // A chip amid the busy program, at the start of an instruction: where runs begin again and again.
 
-use r6501q::{run, State};
+use r6501q::{Chip, State};
 
 // Past what the program does before its rounds.
 const BEFORE: u32 = 100_000;
@@ -11,15 +11,11 @@ pub struct Start {
 }
 
 impl Start {
-    pub fn new(mut memory: Vec<u8>) -> Result<Start, String> {
-        let amid = go(State::fresh(), &mut memory, BEFORE)?;
-        let state = go(amid, &mut memory, u32::from(amid.cpu.wait))?;
-        Ok(Start { state, memory })
+    // The program writes no port.
+    pub fn new(memory: Vec<u8>) -> Result<Start, String> {
+        let mut chip = Chip::with(State::fresh(), memory);
+        chip.run(BEFORE).map_err(|number| number.to_string())?;
+        chip.run(u32::from(chip.state.cpu.wait)).map_err(|number| number.to_string())?;
+        Ok(Start { state: chip.state, memory: chip.memory })
     }
-}
-
-fn go(state: State, memory: &mut [u8], n: u32) -> Result<State, String> {
-    let told = run(state, memory, &[], &[], &mut [], &mut [], n);
-    told.number.done().map_err(|number| number.to_string())?;
-    Ok(told.state)
 }

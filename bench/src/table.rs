@@ -18,12 +18,7 @@ impl Table {
     // The first column goes to the left, the figures to the right.
     pub fn print(&self) {
         let columns = self.rows[0].len();
-        let width = |column: usize| {
-            self.rows
-                .iter()
-                .map(|row| row[column].chars().count())
-                .max()
-        };
+        let width = |column: usize| self.rows.iter().map(|row| row[column].chars().count()).max();
         let widths: Vec<usize> = (0..columns).map(|c| width(c).unwrap_or(0)).collect();
         for (number, row) in self.rows.iter().enumerate() {
             let mut line = format!("| {:<1$} |", row[0], widths[0]);

@@ -6,8 +6,8 @@ use programs::chip::RESET_CLOCKS;
 use programs::registers::Registers;
 use r6501q::State;
 
-use crate::chip::same_memory;
 use crate::processor_time;
+use crate::timed::same_memory;
 
 // Whole instructions until at least so many clocks are done; gives the clocks done.
 type Loop = unsafe extern "C" fn(*mut Registers, *mut u8, u64) -> u64;
@@ -44,14 +44,7 @@ impl Vice {
         assert_eq!(memory.len(), MEMORY_LENGTH);
         Vice {
             core,
-            registers: Registers {
-                a: 0,
-                x: 0,
-                y: 0,
-                sp: 0xFF,
-                p: INTERRUPT,
-                pc: start,
-            },
+            registers: Registers { a: 0, x: 0, y: 0, sp: 0xFF, p: INTERRUPT, pc: start },
             memory,
             clocks: u64::from(RESET_CLOCKS),
         }
@@ -75,10 +68,7 @@ impl Vice {
         let registers = Registers::from(state);
         let clocks = u64::from(state.clock) + u64::from(state.cpu.wait);
         if (registers, clocks) != (self.registers, self.clocks) {
-            return Err(format!(
-                "{registers} and {clocks} clocks, VICE {} and {}",
-                self.registers, self.clocks
-            ));
+            return Err(format!("{registers} and {clocks} clocks, VICE {} and {}", self.registers, self.clocks));
         }
         same_memory(memory, &self.memory)
     }
