@@ -1,6 +1,6 @@
 ; Small firmware for the benchmark, each a loop around one kind of work, by the symbol that is defined:
-; POLL a register polled; PORT a port written; SERIAL_BOTH bytes sent and received without a pause, counter A with LATCH;
-; COUNTER work, with a port written at each underflow of counter A, which is polled; none of them: work alone.
+; POLL a register polled; PORT a port written; SERIAL_BOTH bytes sent and received without a pause, counter A with LATCH,
+; and work; none of them: work alone.
 
         .setcpu "65C02"         ; for BBR
         .include "registers.inc"
@@ -9,7 +9,6 @@ LENGTH  = 8                     ; of an array
 
         .zeropage
 sum:    .res 2
-count:  .res 1
 last:   .res 1
 first:  .res LENGTH+1
 second: .res LENGTH+1
@@ -33,12 +32,6 @@ fill:   txa
         lda #0
         sta A_LOAD
 .endif
-.ifdef COUNTER
-        lda #<999
-        sta A_LOW
-        lda #>999
-        sta A_LOAD
-.endif
 
 main:
 .ifdef POLL
@@ -58,14 +51,6 @@ no_room:
         lda SERIAL
         sta last
 no_byte:
-.endif
-.ifdef COUNTER
-        bbr4 IFR,work
-        lda A_LOW               ; clears the flag
-        inc count
-        lda count
-        sta PORT_A
-work:
 .endif
         clc
         lda sum
