@@ -1,5 +1,5 @@
-// The busy program on the chip and its peers, from reset to exit: by `run` in pieces, by `step`, on VICE's core in its two loops, by turns piece by
-// piece, and on sim65. At the end of each piece all must be the same.
+// The busy program on the chip and its peers, from reset to exit: by `run` in pieces, by `step`, on VICE's core in its
+// two loops, by turns piece by piece, and on sim65. At the end of each piece all must be the same.
 
 use std::path::Path;
 use std::time::Duration;

@@ -1,7 +1,9 @@
-; Ordinary work for the benchmark, in rounds: sums of sixteen bits, array loops, products by a subroutine, accesses through pointers, a sort. It
-; touches no register of the chip, is never in decimal mode and takes no interrupt. The linker is given `rounds`.
+; Ordinary work for the benchmark, in rounds: sums of sixteen bits, array loops, products by a subroutine, accesses
+; through pointers, a sort. It touches no register of the chip, is never in decimal mode and takes no interrupt. The
+; linker is given `rounds`.
 ;
-; It exits as a program for sim65 does, by a jump to FFF9h with the exit code in A: a check sum over what the rounds have left.
+; It exits as a program for sim65 does, by a jump to FFF9h with the exit code in A: a check sum over what the rounds
+; have left.
 
         .export __EXEHDR__ : absolute = 1
         .import __MAIN_START__, rounds

@@ -35,7 +35,8 @@ fn powers(longest: u32) -> impl Iterator<Item = u32> {
     (0..10).map(|i| 10u32.pow(i)).take_while(move |n| *n <= longest)
 }
 
-// Runs of growing length, each from the same state. A call with n = 0 makes all checks and does nothing: it is the cost of a call itself.
+// Runs of growing length, each from the same state. A call with n = 0 makes all checks and does nothing: it is the cost
+// of a call itself.
 fn print_lengths(start: &Start, longest: u32, turns: u32) -> Result<(), String> {
     let lengths = std::iter::once(0).chain(powers(longest));
     let mut rows: Vec<(u32, Least)> = lengths.map(|n| (n, Least::new())).collect();
@@ -88,7 +89,7 @@ fn print_total(start: &Start, turns: u32) -> Result<(), String> {
         }
     }
     println!(
-        "{} clocks in calls of n; least of {turns} turns. The cost of a call is what the time is above that of a single call.\n",
+        "{} clocks in calls of n; least of {turns} turns. The cost of a call is the time above that of a single call.\n",
         count(u64::from(TOTAL))
     );
     let one = rows.last().map_or(0.0, |(_, least)| least.seconds());

@@ -1,6 +1,6 @@
 ; Firmware that does ordinary work: a sum of sixteen bits, an array added into another, a subroutine that goes through a
-; pointer and the stack. Counter A goes round every 1,000 clocks in interval mode; each time its flag is found set, port A
-; is written.
+; pointer and the stack. Counter A goes round every 1,000 clocks in interval mode; each time its flag is found set, port
+; A is written.
 
         .include "registers.inc"
 

@@ -1,5 +1,5 @@
-// Firmware on the chip and on the plain-clock model: a mill's, and small loops. Each is an image of memory from 0800h on
-// that bench/run has assembled, with the inputs that go with it.
+// Firmware on the chip and on the plain-clock model: a mill's, and small loops. Each is an image of memory from 0800h
+// on that bench/run has assembled, with the inputs that go with it.
 
 use std::path::Path;
 

@@ -1,5 +1,5 @@
-// What a list of inputs costs a run: entries later than the run, which are checked and stay unread, and entries spread within it. The inputs change
-// PB0, which the program never looks at.
+// What a list of inputs costs a run: entries later than the run, which are checked and stay unread, and entries spread
+// within it. The inputs change PB0, which the program never looks at.
 
 use r6501q::{code, run, Number};
 

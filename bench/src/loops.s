@@ -1,6 +1,6 @@
-; Small firmware for the benchmark, each a loop around one kind of work, by the symbol that is defined:
-; POLL a register polled; PORT a port written; SERIAL_BOTH bytes sent and received without a pause, counter A with LATCH,
-; and work; none of them: work alone.
+; Small firmware for the benchmark, each a loop around one kind of work, by the symbol that is defined: POLL a register
+; polled; PORT a port written; SERIAL_BOTH bytes sent and received without a pause, counter A with LATCH, and work; none
+; of them: work alone.
 
         .setcpu "65C02"         ; for BBR
         .include "registers.inc"

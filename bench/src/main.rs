@@ -1,8 +1,8 @@
 // How fast the chip is, by `run` and by `step`, beside VICE's core, sim65 and the plain-clock model, and how its cost
 // grows with lists and lengths. Whatever is timed side by side must come to the same, or the program ends with 1.
 //
-// usage: bench FOLDER [--short], or for a profiler, nothing timed: bench FOLDER --only PROGRAM run|step, where PROGRAM is
-// `busy` or an image of bench/run's.
+// usage: bench FOLDER [--short], or for a profiler, nothing timed: bench FOLDER --only PROGRAM run|step, where PROGRAM
+// is `busy` or an image of bench/run's.
 mod beside_model;
 mod busy;
 mod calls;

@@ -54,16 +54,17 @@ impl Vice {
     pub fn run_to(&mut self, clock: u32) -> Duration {
         let clocks = u64::from(clock).saturating_sub(self.clocks);
         let (done, time) = processor_time::of(|| {
-            // SAFETY: the core stays within the registers and the 65,536 bytes lent as long as the program counter does not run past
-            // FFFFh. The busy program runs to its exit and no further.
+            // SAFETY: the core stays within the registers and the 65,536 bytes lent as long as the program counter does
+            // not run past FFFFh. The busy program runs to its exit and no further.
             unsafe { (self.core)(&mut self.registers, self.memory.as_mut_ptr(), clocks) }
         });
         self.clocks += done;
         time
     }
 
-    // The same registers, clocks and memory as the chip's, or what differs. All that an instruction does is in its first clock; the
-    // others are the chip's wait. The program touches no register of the chip, so all memory must be the same.
+    // The same registers, clocks and memory as the chip's, or what differs. All that an instruction does is in its
+    // first clock; the others are the chip's wait. The program touches no register of the chip, so all memory must be
+    // the same.
     pub fn same(&self, state: &State, memory: &[u8]) -> Result<(), String> {
         let registers = Registers::from(state);
         let clocks = u64::from(state.clock) + u64::from(state.cpu.wait);

@@ -25,7 +25,7 @@ fn main() {
     println!("cargo:rerun-if-changed={}", library.display());
     if !library.is_file() {
         panic!(
-            "{} is not there: run `rt staticlib r6501q` in the repository, or set R6501Q_LIBRARY to the folder of {LIBRARY}",
+            "{} is not there: run `rt staticlib r6501q` in the repository, or set R6501Q_LIBRARY to its folder",
             library.display()
         );
     }

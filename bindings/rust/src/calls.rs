@@ -14,8 +14,8 @@ pub const PIN_RES: u8 = 33;
 // Added to a pin in an input code where the new level is high.
 const HIGH: u8 = 64;
 
-/// The input code that sets a pin (0 to 31 for A0 to D7, [`PIN_NMI`], [`PIN_RES`]) to a level. A pin above 33 makes a code that
-/// is refused.
+/// The input code that sets a pin (0 to 31 for A0 to D7, [`PIN_NMI`], [`PIN_RES`]) to a level. A pin above 33 makes a
+/// code that is refused.
 ///
 /// ```
 /// use r6501q::{code, PIN_RES};
@@ -58,8 +58,8 @@ pub struct CallResult {
 pub struct LoadResult {
     /// [`Number::Done`], [`Number::WrongMemoryLength`], or 8 to 10.
     pub number: Number,
-    /// Done: the index past the last record. 8 to 10: the index of the faulty record's `;`, or the tape's length where the
-    /// last record is missing. Wrong memory: 0.
+    /// Done: the index past the last record. 8 to 10: the index of the faulty record's `;`, or the tape's length where
+    /// the last record is missing. Wrong memory: 0.
     pub place: usize,
 }
 
@@ -141,8 +141,8 @@ pub fn run(
     call_result(library::run(state, memory, input_clocks, input_codes, output_clocks, output_words, n))
 }
 
-/// A paper tape into memory (document 01, "Tape"). The tape is checked whole before a byte is stored; a refused tape leaves
-/// memory unchanged. Bytes for 0 to 3Fh are dropped.
+/// A paper tape into memory (document 01, "Tape"). The tape is checked whole before a byte is stored; a refused tape
+/// leaves memory unchanged. Bytes for 0 to 3Fh are dropped.
 ///
 /// ```
 /// use r6501q::{load, LoadResult, Number, MEMORY_LENGTH};

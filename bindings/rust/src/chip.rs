@@ -245,7 +245,8 @@ impl Chip {
         self.read = 0;
     }
 
-    /// Puts these in place of the output lists, all free, whatever they hold. Lists of unequal length are refused with 3.
+    /// Puts these in place of the output lists, all free, whatever they hold. Lists of unequal length are refused with
+    /// 3.
     pub fn set_space(&mut self, clocks: &[u32], words: &[u32]) {
         refill(&mut self.output_clocks, clocks);
         refill(&mut self.output_words, words);

@@ -15,11 +15,11 @@
 //! ```
 //!
 //! Below it are the plain calls [`load`], [`run`] and [`step`]. They hold nothing between calls: the caller keeps the
-//! chip's [`State`], its memory of 65,536 bytes and its lists, and lends them to each call. Every call comes back with one
-//! of document 01's numbers ([`Number`]), whatever it is given, and none panics. A run goes by leaps from event to event
-//! and, where it is not refused, ends as the same number of single clocks would. Inputs are two lists of equal length,
-//! clocks and codes ([`code`] makes one); outputs are two lists, clocks and driven words. A call gives back how many
-//! entries it has read and written, and the next call is lent the rest:
+//! chip's [`State`], its memory of 65,536 bytes and its lists, and lends them to each call. Every call comes back with
+//! one of document 01's numbers ([`Number`]), whatever it is given, and none panics. A run goes by leaps from event to
+//! event and, where it is not refused, ends as the same number of single clocks would. Inputs are two lists of equal
+//! length, clocks and codes ([`code`] makes one); outputs are two lists, clocks and driven words. A call gives back how
+//! many entries it has read and written, and the next call is lent the rest:
 //!
 //! ```
 //! use r6501q::{code, run, step, Number, State, MEMORY_LENGTH};

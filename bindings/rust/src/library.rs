@@ -2,8 +2,8 @@
 //!
 //! Why the wrappers are safe: a slice's pointer is aligned and its length true, an empty slice's pointer is not used by
 //! the library, what is lent mutably overlaps nothing else, nobody else writes what is lent while a call goes on, the
-//! structs have the library's layout (asserted beside them), and the library is proved to come back from every input and
-//! to touch nothing outside what it is lent.
+//! structs have the library's layout (asserted beside them), and the library is proved to come back from every input
+//! and to touch nothing outside what it is lent.
 #![allow(unsafe_code)]
 use crate::state::{layout, State};
 

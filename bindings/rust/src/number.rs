@@ -2,8 +2,8 @@
 use std::error::Error;
 use std::fmt;
 
-/// Why a call ended. 1 to 5 are refusals: the state given comes back, nothing is read, counted or changed. 6 and 7 are stops:
-/// all is as reached. 8 to 10 are refused tapes: memory is unchanged.
+/// Why a call ended. 1 to 5 are refusals: the state given comes back, nothing is read, counted or changed. 6 and 7 are
+/// stops: all is as reached. 8 to 10 are refused tapes: memory is unchanged.
 ///
 /// ```
 /// use r6501q::Number;

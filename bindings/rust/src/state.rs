@@ -1,5 +1,5 @@
-//! The machine state (document 01, "Machine state"), laid out as the library has it. The range of a field is that of its type
-//! where none is given. Flags and levels are bytes, so that a damaged state can be held and is refused.
+//! The machine state (document 01, "Machine state"), laid out as the library has it. The range of a field is that of
+//! its type where none is given. Flags and levels are bytes, so that a damaged state can be held and is refused.
 use crate::library;
 
 /// The CPU's registers, and the clocks that the present instruction or entry (reset, NMI, IRQ) still takes.
@@ -224,6 +224,9 @@ layout!(Control, 5, ifr at 0, ier at 1, mcr at 2, sccr at 3, scsr at 4);
 layout!(SerialData, 2, sent at 0, received at 1);
 layout!(Transmitter, 4, left at 0, phase at 1, register at 2);
 layout!(Receiver, 6, subinterval at 0, half at 1, left at 2, register at 4);
-layout!(Peripherals, 34, ports at 0, countera at 4, counterb at 8, control at 16, serial at 21, transmitter at 24, receiver at 28);
+layout!(
+    Peripherals, 34,
+    ports at 0, countera at 4, counterb at 8, control at 16, serial at 21, transmitter at 24, receiver at 28
+);
 layout!(Levels, 8, ports at 0, nmi at 4, res at 5);
 layout!(State, 68, cpu at 0, due at 10, peripherals at 12, external at 48, last at 56, clock at 64);

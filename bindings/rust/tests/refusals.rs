@@ -210,8 +210,8 @@ fn the_lowest_refusal_is_given() {
 
 #[test]
 fn an_undefined_opcode_is_6() {
-    // 02h is undefined, and every vector leads to 0202h. The reset entry takes clocks 1 to 7, the NMI entry 8 to 14; the fall of NMI
-    // came on clock 3. Event clocks are 1, 3 and 8.
+    // 02h is undefined, and every vector leads to 0202h. The reset entry takes clocks 1 to 7, the NMI entry 8 to 14;
+    // the fall of NMI came on clock 3. Event clocks are 1, 3 and 8.
     let mut lent = Lent { memory: vec![2; MEMORY_LENGTH], ..Lent::good() };
     let result = lent.run(State::fresh(), 100);
     assert_eq!((result.number, result.state.clock, result.leaps), (Number::UndefinedOpcode, 14, 4));

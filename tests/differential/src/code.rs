@@ -1,4 +1,5 @@
-//! Random code: blocks of instructions with operands that meet the registers, the stack, the code itself and the ends of pages.
+//! Random code: blocks of instructions with operands that meet the registers, the stack, the code itself and the ends
+//! of pages.
 
 use crate::random::Random;
 use crate::states::{interrupt_enables, latch, serial_control};
@@ -15,8 +16,8 @@ const REGISTERS: [u8; 24] = [
 pub enum Style {
     /// Anything.
     Wild,
-    /// Reads anything, but writes only ports, flags, serial data and page zero's memory, keeps SP and does not leave its loop:
-    /// so that counters and the serial channel go on undisturbed.
+    /// Reads anything, but writes only ports, flags, serial data and page zero's memory, keeps SP and does not leave
+    /// its loop: so that counters and the serial channel go on undisturbed.
     Quiet,
 }
 

@@ -1,5 +1,5 @@
-//! One scenario on both sides: the library's calls over the list, the model's plain clocks over the same list from a copy of the
-//! start, and the library's single clocks alone.
+//! One scenario on both sides: the library's calls over the list, the model's plain clocks over the same list from a
+//! copy of the start, and the library's single clocks alone.
 
 use crate::coverage::Coverage;
 use crate::scenario::{Call, Scenario};
@@ -111,7 +111,8 @@ impl Sides {
         }
     }
 
-    /// The model's side of a call. A flag that is a byte above 1 makes the state not well-formed; the model's flags have no such value.
+    /// The model's side of a call. A flag that is a byte above 1 makes the state not well-formed; the model's flags
+    /// have no such value.
     fn model_call(&mut self, scenario: &Scenario, call: Call, coverage: &mut Coverage) -> Outcome {
         if scenario.flag_damage.is_some() {
             let number = if scenario.memory.len() == plain_clock::run::MEMORY_LENGTH { 2 } else { 1 };

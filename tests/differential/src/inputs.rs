@@ -77,7 +77,8 @@ impl Inputs {
         }
     }
 
-    /// Characters on PA7 in the format of `sccr`, a bit being 16 underflows of counter A long; some with a wrong parity or a low stop.
+    /// Characters on PA7 in the format of `sccr`, a bit being 16 underflows of counter A long; some with a wrong parity
+    /// or a low stop.
     pub fn characters(&mut self, random: &Random, sccr: u8, latch_a: u16, span: u32) {
         let mut bit_length = 16 * (u32::from(latch_a) + 1);
         if random.percent(15) {
@@ -124,7 +125,8 @@ impl Inputs {
         at
     }
 
-    /// The list by absolute clocks: clocks never fall, and within one clock pins rise strictly. Inputs that have no clock are left out.
+    /// The list by absolute clocks: clocks never fall, and within one clock pins rise strictly. Inputs that have no
+    /// clock are left out.
     pub fn finish(&mut self, clock: u32, clocks: &mut Vec<u32>, codes: &mut Vec<u8>) {
         self.list.sort_unstable_by_key(|&(distance, code)| (distance, code % 64));
         self.list.dedup_by_key(|&mut (distance, code)| (distance, code % 64));

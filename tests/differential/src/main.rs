@@ -1,7 +1,7 @@
 //! The library's calls against the plain-clock model, over lists of calls.
 //!
-//! `differential run scenarios seed [threads]`, `differential tapes number seed`, `differential replay seed index`. It ends with 1 at a
-//! difference, with 2 where an argument is wrong.
+//! `differential run scenarios seed [threads]`, `differential tapes number seed`, `differential replay seed index`. It
+//! ends with 1 at a difference, with 2 where an argument is wrong.
 
 mod code;
 mod compare;
@@ -31,13 +31,16 @@ const PART: u64 = 1_000;
 const COUNTED: u64 = 100_000;
 const RAREST: u64 = 10_000;
 
+const USAGE: &str =
+    "usage: differential run scenarios seed [threads] | tapes number seed | replay seed index; counts from 1 up";
+
 fn main() -> ExitCode {
     let arguments: Vec<String> = std::env::args().skip(1).collect();
     match right(&arguments) {
         Some(true) => ExitCode::SUCCESS,
         Some(false) => ExitCode::FAILURE,
         None => {
-            eprintln!("usage: differential run scenarios seed [threads] | tapes number seed | replay seed index; counts from 1 up");
+            eprintln!("{USAGE}");
             ExitCode::from(2)
         }
     }

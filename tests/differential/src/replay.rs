@@ -1,4 +1,5 @@
-//! One scenario in detail: what it is, what each side says after each call, and the first clock on which the two differ.
+//! One scenario in detail: what it is, what each side says after each call, and the first clock on which the two
+//! differ.
 
 use crate::compare::{list_difference, Difference, Sides};
 use crate::coverage::Coverage;

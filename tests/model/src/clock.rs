@@ -42,8 +42,8 @@ pub struct Met {
 /// What one done clock was.
 #[derive(Clone, Copy, PartialEq, Eq, Debug)]
 pub struct ClockReport {
-    /// "An event clock is one with an input, with pin levels unlike the last ones, with an underflow, where RES low changes any
-    /// field, or where the CPU starts."
+    /// "An event clock is one with an input, with pin levels unlike the last ones, with an underflow, where RES low
+    /// changes any field, or where the CPU starts."
     pub event: bool,
     pub met: Met,
     pub start: Option<Start>,
@@ -56,8 +56,8 @@ pub struct ClockReport {
     pub record: bool,
 }
 
-/// One plain clock: "Each, after a stop, does nothing. Where its clock meets 6, else 7, that is the stop and nothing else changes.
-/// Otherwise steps 1 to 5 happen once". Gives a report for a clock that is done.
+/// One plain clock: "Each, after a stop, does nothing. Where its clock meets 6, else 7, that is the stop and nothing
+/// else changes. Otherwise steps 1 to 5 happen once". Gives a report for a clock that is done.
 pub fn plain(world: &mut World) -> Option<ClockReport> {
     if world.stop != 0 {
         return None;

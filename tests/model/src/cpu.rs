@@ -23,7 +23,8 @@ pub enum Start {
 }
 
 /// 01, One clock, 4: "CPU, if RES is high. With wait above 0: wait minus 1. Otherwise start: reset, then NMI, then IRQ
-/// (I clear, IFR AND IER nonzero) ...; else one whole instruction." Nothing is started under RES low or with wait above 0.
+/// (I clear, IFR AND IER nonzero) ...; else one whole instruction." Nothing is started under RES low or with wait above
+/// 0.
 pub fn start_on(state: &State) -> Option<Start> {
     if !level(state.last, PIN_RES) || state.wait > 0 {
         None
@@ -415,8 +416,8 @@ fn add_binary(bus: &mut Bus, value: u8) {
     bus.set_a(result);
 }
 
-/// 01, Instructions: "Decimal ADC: low digits plus C; from 10 up, that sum becomes ((it + 6) mod 16) + 16. Add the high digits;
-/// N, V from this; from A0h up add 60h; C if 100h or more. Z is binary."
+/// 01, Instructions: "Decimal ADC: low digits plus C; from 10 up, that sum becomes ((it + 6) mod 16) + 16. Add the high
+/// digits; N, V from this; from A0h up add 60h; C if 100h or more. Z is binary."
 fn add_decimal(bus: &mut Bus, value: u8) {
     let a = bus.state.a;
     let carry = u16::from(bus.flag(FLAG_C));
@@ -445,8 +446,8 @@ fn subtract(bus: &mut Bus, value: u8) {
     }
 }
 
-/// 01, Instructions: "Decimal SBC: low difference less borrow; if negative, ((it - 6) mod 16) - 16; add the high difference; if
-/// negative subtract 60h."
+/// 01, Instructions: "Decimal SBC: low difference less borrow; if negative, ((it - 6) mod 16) - 16; add the high
+/// difference; if negative subtract 60h."
 fn decimal_difference(bus: &Bus, value: u8) -> u8 {
     let a = bus.state.a;
     let borrow = i16::from(!bus.flag(FLAG_C));

@@ -275,7 +275,8 @@ const fn describe(opcode: u8) -> Entry {
         0xFD => entry_star(Sbc, AbsoluteX, 4),
         0xFE => entry(Inc, AbsoluteX, 7),
 
-        // "for bit m: RMB 07h, SMB 87h, BBR 0Fh, BBS 8Fh, each + 10h × m"; "RMB and SMB 5, BBR and BBS 5 and a branch's extras"
+        // "for bit m: RMB 07h, SMB 87h, BBR 0Fh, BBS 8Fh, each + 10h × m"; "RMB and SMB 5, BBR and BBS 5 and a branch's
+        // extras"
         _ => match opcode & 0x8F {
             0x07 => entry(Rmb(opcode >> 4 & 7), ZeroPage, 5),
             0x87 => entry(Smb(opcode >> 4 & 7), ZeroPage, 5),

@@ -24,7 +24,8 @@ pub fn falls(before: u64, now: u64) -> u64 {
     before & !now
 }
 
-/// 01, Pin lists: "A pin's drive ... is its port latch; but PA6 is the transmitter's line (high when idle) while SCCR7 is set".
+/// 01, Pin lists: "A pin's drive ... is its port latch; but PA6 is the transmitter's line (high when idle) while SCCR7
+/// is set".
 fn drive_port_a(state: &State) -> u8 {
     let latch = state.ports[PORT_A];
     if state.sccr & 0x80 == 0 {

@@ -99,7 +99,8 @@ fn with_upper(word: u16, value: u8) -> u16 {
     word & 0x00FF | u16::from(value) << 8
 }
 
-/// 001, 6.1.2: "The CA output is initialized high when entering the mode". `before` is A's mode in force before the write.
+/// 001, 6.1.2: "The CA output is initialized high when entering the mode". `before` is A's mode in force before the
+/// write.
 fn enter_pulse_mode_a(state: &mut State, before: Mode) {
     if before != Mode::Pulse && mode_a(state) == Mode::Pulse {
         state.ports[PORT_A] |= PA4_BIT;
@@ -112,7 +113,8 @@ fn write_mcr(state: &mut State, value: u8) {
     enter_pulse_mode_a(state, before);
 }
 
-/// 01, Serial channel: "Writing SCCR zeroes the progress of each half that the new value has off or in shift-register mode."
+/// 01, Serial channel: "Writing SCCR zeroes the progress of each half that the new value has off or in shift-register
+/// mode."
 fn write_sccr(state: &mut State, value: u8) {
     let before = mode_a(state);
     state.sccr = value;
@@ -147,8 +149,8 @@ fn write_upper_latch_b_and_copy(state: &mut State, value: u8) {
     state.latch_c = state.latch_b;
 }
 
-/// "writing ... 1Eh sets the upper latch, loads the counter, clears the flag"; "in mode 01 ... 1Eh clears PA5's and makes the
-/// turn C (001, 6.2.2)".
+/// "writing ... 1Eh sets the upper latch, loads the counter, clears the flag"; "in mode 01 ... 1Eh clears PA5's and
+/// makes the turn C (001, 6.2.2)".
 fn write_upper_latch_b_and_load(state: &mut State, value: u8) {
     state.latch_b = with_upper(state.latch_b, value);
     state.counter_b = state.latch_b;

@@ -55,7 +55,8 @@ fn data_mask(sccr: u8) -> u8 {
     0xFF >> (8 - data_bits(sccr))
 }
 
-/// "While bits are left, bit 0 is the line"; high when idle. An idle half's line is high whatever its progress (DECISIONS).
+/// "While bits are left, bit 0 is the line"; high when idle. An idle half's line is high whatever its progress
+/// (DECISIONS).
 pub fn transmitter_line(state: &State) -> bool {
     if transmitter_active(state.sccr) && state.transmitter.bits_left > 0 {
         state.transmitter.register & 1 == 1
@@ -89,7 +90,8 @@ fn transmitter_tick(state: &mut State) {
     end_transmitted_bit(state);
 }
 
-/// "from 15 to 0 shifts the register down, one bit fewer left"; "None left: it takes the next data that tick, or sets SCSR7."
+/// "from 15 to 0 shifts the register down, one bit fewer left"; "None left: it takes the next data that tick, or sets
+/// SCSR7."
 fn end_transmitted_bit(state: &mut State) {
     state.transmitter.phase = 0;
     state.transmitter.register >>= 1;
@@ -149,8 +151,8 @@ fn receiver_tick(state: &mut State, line: bool) {
     }
 }
 
-/// "With no bits left, sub-interval counts lows running, a high zeroes it; a low at 3 or more makes a start: sub-interval 0,
-/// bits left data + parity + one stop."
+/// "With no bits left, sub-interval counts lows running, a high zeroes it; a low at 3 or more makes a start:
+/// sub-interval 0, bits left data + parity + one stop."
 fn look_for_start(state: &mut State, line: bool) {
     if line {
         state.receiver.sub_interval = 0;
@@ -177,9 +179,9 @@ fn look_in_character(state: &mut State, line: bool) {
     }
 }
 
-/// "At the last, by SCCR then, bit 10 is the stop, parity and data below it: if SCSR0 is clear the byte (high bits 0) is kept
-/// and SCSR0 set; else SCSR1 is set. Wrong parity sets SCSR2, a low stop SCSR3."
-/// SCSR0 is not set where the character has a fault (001, 5.3, SCSR 0); the byte is still kept (DECISIONS).
+/// "At the last, by SCCR then, bit 10 is the stop, parity and data below it: if SCSR0 is clear the byte (high bits 0)
+/// is kept and SCSR0 set; else SCSR1 is set. Wrong parity sets SCSR2, a low stop SCSR3." SCSR0 is not set where the
+/// character has a fault (001, 5.3, SCSR 0); the byte is still kept (DECISIONS).
 fn end_character(state: &mut State) {
     let (data, faults) = judge_character(state.sccr, state.receiver.register);
     if state.scsr & SCSR_FULL != 0 {

@@ -16,9 +16,9 @@ struct Record {
     check_sum: usize,
 }
 
-/// Reads a tape into the memory. Gives the number (0, 1, 8, 9, 10) and the place.
-/// "8 to 10 the record's place, memory unchanged"; "on a tape 1 comes first, with place 0, then the earliest record, then 8, 9, 10";
-/// "An accepted tape gives 0 and the place past its last record; what follows is ignored."
+/// Reads a tape into the memory. Gives the number (0, 1, 8, 9, 10) and the place. "8 to 10 the record's place, memory
+/// unchanged"; "on a tape 1 comes first, with place 0, then the earliest record, then 8, 9, 10"; "An accepted tape
+/// gives 0 and the place past its last record; what follows is ignored."
 pub fn load_tape(tape: &[u8], memory: &mut [u8]) -> (u8, usize) {
     if memory.len() != MEMORY_LENGTH {
         return (1, 0);
@@ -57,8 +57,8 @@ fn read_records(tape: &[u8]) -> Result<(Vec<Record>, usize), (u8, usize)> {
     }
 }
 
-/// "`;`, count (2 hex digits), address (4), data, check sum (4)". None where malformed: "a digit missing or not of 0 to 9, A to F;
-/// count above 18h; address + count above 65,536".
+/// "`;`, count (2 hex digits), address (4), data, check sum (4)". None where malformed: "a digit missing or not of 0 to
+/// 9, A to F; count above 18h; address + count above 65,536".
 fn parse_record(text: &[u8]) -> Option<Record> {
     let count = number(text.get(0..2)?)?;
     let address = number(text.get(2..6)?)?;

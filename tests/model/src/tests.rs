@@ -108,7 +108,8 @@ fn p5_frame_of_176_clocks() {
     run(&mut world, 1);
     assert_eq!(world.state.transmitter.bits_left, 0);
     assert_eq!(world.state.scsr, 0xC0);
-    // 41h: start low from 1; bit 0 high from 17; bits 1 to 5 low from 33; bit 6 high from 113; bit 7 low from 129; stops from 145
+    // 41h: start low from 1; bit 0 high from 17; bits 1 to 5 low from 33; bit 6 high from 113; bit 7 low from 129;
+    // stops from 145
     let clocks: Vec<u32> = records(&world).iter().map(|record| record.0).collect();
     assert_eq!(clocks, [1, 17, 33, 113, 129, 145]);
 }
@@ -157,7 +158,8 @@ fn example_tape() {
     let outcome = run(&mut world, 100);
     assert_eq!(outcome.number, 0);
     assert_eq!(records(&world), [(10, 0xFFFFFF55)]);
-    // Event clocks: reset on 1, LDA 8, STA 10, level change on 11 (PA1, PA3, PA5, PA7 fall), JMP on 13, 16, ... 100: 30 times.
+    // Event clocks: reset on 1, LDA 8, STA 10, level change on 11 (PA1, PA3, PA5, PA7 fall), JMP on 13, 16, ... 100: 30
+    // times.
     assert_eq!(outcome.leaps, 4 + 30);
 }
 

@@ -1,6 +1,7 @@
-; Every opcode of the 6502 in every addressing mode, with registers, flags and data drawn anew each round; then branches near
-; the end of a page, taken and not, to both sides. Registers and flags after each instruction, and the data after each round, go to
-; standard output. With SIM65 defined ROL absolute,X is left out: sim65 takes it for an instruction of two bytes.
+; Every opcode of the 6502 in every addressing mode, with registers, flags and data drawn anew each round; then branches
+; near the end of a page, taken and not, to both sides. Registers and flags after each instruction, and the data after
+; each round, go to standard output. With SIM65 defined ROL absolute,X is left out: sim65 takes it for an instruction of
+; two bytes.
 
         .export _main
         .import pushax, _write

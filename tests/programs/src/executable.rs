@@ -15,7 +15,7 @@ const FILL: u8 = 0xFF;
 const GUARD: std::ops::Range<usize> = 0x80..0x90;
 const GUARD_FILL: u8 = 0x5A;
 
-/// What the header tells, and the bytes behind it.
+/// What the header says, and the bytes behind it.
 pub struct Executable {
     /// Where in the zero page the pointer to the C stack is.
     pub c_stack: u8,

@@ -7,7 +7,8 @@ use crate::registers::Registers;
 /// The clocks of a piece.
 const PIECE: u32 = 1_000_000;
 
-/// The most clocks that can be asked for: the instruction that is looked at behind them, 7 clocks at most, ends within the clock's range.
+/// The most clocks that can be asked for: the instruction that is looked at behind them, 7 clocks at most, ends within
+/// the clock's range.
 pub const MOST: u32 = u32::MAX - 7;
 
 /// How a test image ended.
@@ -38,8 +39,8 @@ impl Image {
         Ok(Image { chip: Chip::with(state, memory) })
     }
 
-    /// Runs for so many clocks, `MOST` or fewer. After each piece it looks whether the next instruction goes to itself, which takes up to 7
-    /// clocks more.
+    /// Runs for so many clocks, `MOST` or fewer. After each piece it looks whether the next instruction goes to itself,
+    /// which takes up to 7 clocks more.
     pub fn run(&mut self, clocks: u32) -> Ending {
         assert!(clocks <= MOST);
         while self.chip.state.clock < clocks {

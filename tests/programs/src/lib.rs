@@ -1,4 +1,5 @@
-//! Whole programs on the chip, through the C interface, and on two peers: sim65, and VICE's 6510 core in the same process.
+//! Whole programs on the chip, through the C interface, and on two peers: sim65, and VICE's 6510 core in the same
+//! process.
 
 pub mod chip;
 pub mod executable;

@@ -1,5 +1,6 @@
-; A test image like those that `image` is for: it stays at `success` or, where what it finds is not what it wants, at `failure`. The sum is
-; document 01's P3. It then counts on port A for some 2,600,000 clocks. Loaded and started at 0400h.
+; A test image like those that `image` is for: it stays at `success` or, where what it finds is not what it wants, at
+; `failure`. The sum is document 01's P3. It then counts on port A for some 2,600,000 clocks. Loaded and started at
+; 0400h.
 
 PORT_A = $00
 ROUNDS = $40                    ; the lowest zero page address that is no register

@@ -1,5 +1,5 @@
-//! What sim65 does for a program that calls FFF4h to FFF9h: open, close, read, write, arguments, exit. The argument passed
-//! last is in A and X, the others on the C stack, whose pointer is in the zero page. The result goes to A and X.
+//! What sim65 does for a program that calls FFF4h to FFF9h: open, close, read, write, arguments, exit. The argument
+//! passed last is in A and X, the others on the C stack, whose pointer is in the zero page. The result goes to A and X.
 
 use std::fs::File;
 use std::io::Read;

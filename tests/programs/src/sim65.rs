@@ -12,8 +12,8 @@ pub struct Sim65 {
     pub cycles: u32,
 }
 
-/// Runs a program in its folder, with an empty standard input, for at most `limit` cycles. With `-c` sim65 puts the count behind
-/// the program's own output, so it runs once without and once with it.
+/// Runs a program in its folder, with an empty standard input, for at most `limit` cycles. With `-c` sim65 puts the
+/// count behind the program's own output, so it runs once without and once with it.
 pub fn outcome(folder: &Path, name: &str, limit: u32) -> Result<Sim65, String> {
     let plain = simulate(folder, name, limit, &[])?;
     let counted = simulate(folder, name, limit, &["-c"])?;

@@ -1,5 +1,5 @@
-//! VICE's 6510 core, linked from tests/peers, beside the chip: after each instruction both must have the same registers, and it must have
-//! taken as many clocks.
+//! VICE's 6510 core, linked from tests/peers, beside the chip: after each instruction both must have the same
+//! registers, and it must have taken as many clocks.
 
 use r6501q::{Number, State};
 
@@ -25,8 +25,8 @@ struct Vice {
     services: Services,
 }
 
-/// Branches that sim65 times by another rule. For the extra clock of a taken branch the chip and VICE compare the target's page with that of
-/// the next instruction, sim65 with that of the branch itself.
+/// Branches that sim65 times by another rule. For the extra clock of a taken branch the chip and VICE compare the
+/// target's page with that of the next instruction, sim65 with that of the branch itself.
 #[derive(Default)]
 pub struct Branches {
     /// Taken into the branch's own page, from a next instruction in the page behind: one clock more on the chip.

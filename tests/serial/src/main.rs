@@ -1,8 +1,8 @@
 //! The chip sends all 256 bytes in each form of a frame, and with several latches of counter A. For each case two files
 //! go into a folder: NAME.vcd with PA6 as the records have it, and NAME.bytes with the bytes that a decoder must find.
 //!
-//! usage: serial_frames FOLDER. Prints a line for each case: its name, the bits a second with a clock of 1 MHz, data bits,
-//! parity, and the clocks from one frame to the next.
+//! usage: serial_frames FOLDER. Prints a line for each case: its name, the bits a second with a clock of 1 MHz, data
+//! bits, parity, and the clocks from one frame to the next.
 
 mod firmware;
 mod vcd;

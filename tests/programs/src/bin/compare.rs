@@ -1,9 +1,8 @@
 //! Runs programs on the chip, on VICE's core and on sim65, and compares what they do.
 //!
-//! usage: compare [--vice] [--zero] SIM65-FOLDER CHIP-FOLDER NAME..
-//! Each folder holds the program NAME, linked for it. On the chip it runs by large pieces, by instructions beside VICE's core, and, where it
-//! is short, by single clocks; with `--vice` sim65 is left out, with `--zero` the exit code must be 0. A difference is printed, and ends
-//! it with 1.
+//! usage: compare [--vice] [--zero] SIM65-FOLDER CHIP-FOLDER NAME.. Each folder holds the program NAME, linked for it.
+//! On the chip it runs by large pieces, by instructions beside VICE's core, and, where it is short, by single clocks;
+//! with `--vice` sim65 is left out, with `--zero` the exit code must be 0. A difference is printed, and ends it with 1.
 
 use std::path::Path;
 use std::process::ExitCode;

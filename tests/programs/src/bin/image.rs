@@ -1,8 +1,7 @@
 //! Runs a test image: a file put into memory, started at an address, until the program counter stays at one address.
 //!
-//! usage: image FILE LOAD START SUCCESS [CLOCKS]
-//! Addresses are hexadecimal, CLOCKS, the most that it may take, decimal, 1 to 4,294,967,288. Ends with 0 where the program counter stays at
-//! SUCCESS, else with 1 and where it is.
+//! usage: image FILE LOAD START SUCCESS [CLOCKS] Addresses are hexadecimal, CLOCKS, the most that it may take, decimal,
+//! 1 to 4,294,967,288. Ends with 0 where the program counter stays at SUCCESS, else with 1 and where it is.
 
 use std::process::ExitCode;
 
