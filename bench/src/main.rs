@@ -1,8 +1,8 @@
 // How fast the chip is, by `run` and by `step`, beside VICE's core, sim65 and the plain-clock model, and how its cost
 // grows with lists and lengths. Whatever is timed side by side must come to the same, or the program ends with 1.
 //
-// usage: bench FOLDER [--short], or for a profiler, nothing timed: bench FOLDER --only PROGRAM run|step, where PROGRAM
-// is `busy` or an image of bench/run's.
+// usage: bench FOLDER [--short], or for a profiler, nothing timed: bench FOLDER --only PROGRAM run|step|model, where
+// PROGRAM is `busy` or an image of bench/assemble.
 mod beside_model;
 mod busy;
 mod calls;
@@ -54,9 +54,9 @@ fn main() -> ExitCode {
     let result = match arguments[..] {
         [made] => measure(Path::new(made), &WHOLE),
         [made, "--short"] => measure(Path::new(made), &SHORT),
-        [made, "--only", program, way @ ("run" | "step")] => only(Path::new(made), program, way),
+        [made, "--only", program, way @ ("run" | "step" | "model")] => only(Path::new(made), program, way),
         _ => {
-            eprintln!("usage: bench FOLDER [--short | --only PROGRAM run|step]");
+            eprintln!("usage: bench FOLDER [--short | --only PROGRAM run|step|model]");
             return ExitCode::from(2);
         }
     };
@@ -79,7 +79,7 @@ fn measure(made: &Path, extent: &Extent) -> Result<(), String> {
 }
 
 // The pieces that a profiler sees.
-const ONLY_PIECES: u32 = 20;
+const ONLY_PIECES: u32 = 2;
 
 // One program by one way.
 fn only(made: &Path, program: &str, way: &str) -> Result<(), String> {
@@ -88,13 +88,14 @@ fn only(made: &Path, program: &str, way: &str) -> Result<(), String> {
         (_, Some(firmware)) => (firmware.memory(made)?, firmware.inputs(ONLY_PIECES * PIECE)),
         (_, None) => return Err(format!("{program} is no program of bench/run")),
     };
-    let mut chip = timed::chip(memory, &inputs);
-    for _ in 0..ONLY_PIECES {
-        match way {
-            "run" => timed::run(&mut chip, PIECE)?,
-            _ => timed::steps(&mut chip, PIECE)?,
-        };
-        chip.take_records();
+    if way == "model" {
+        let mut world = timed::model(memory, &inputs);
+        return timed::walk(&mut world, ONLY_PIECES * PIECE).map(|_| ());
     }
-    Ok(())
+    let mut chip = timed::chip(memory, &inputs);
+    match way {
+        "run" => timed::run(&mut chip, ONLY_PIECES * PIECE),
+        _ => timed::steps(&mut chip, ONLY_PIECES * PIECE),
+    }
+    .map(|_| ())
 }
