@@ -1,4 +1,4 @@
-// VICE's 6510 core in its two loops (tests/peers/peer.h), on a chip's program.
+// VICE's 6510 core in its two loops (tests/peers/src/peer.h), on a chip's program.
 
 use std::time::Duration;
 

@@ -20,9 +20,9 @@ const SPACE: usize = 4_096;
 /// chip.memory[0xFFFC..0xFFFE].copy_from_slice(&0x0200u16.to_le_bytes());
 /// chip.input(1_000, Pin::PB0, Level::Low)?;
 ///
-/// let mut pieces = 0;
-/// chip.run_with(1_000_000, |_record| pieces += 1)?;
-/// assert_eq!((chip.state.clock, pieces), (1_000_000, 125_000));
+/// let mut records = 0;
+/// chip.run_with(1_000_000, |_record| records += 1)?;
+/// assert_eq!((chip.state.clock, records), (1_000_000, 125_000));
 ///
 /// chip.step()?;
 /// chip.run(99)?;

@@ -2,7 +2,7 @@
 
 use r6501q::State;
 
-/// Laid out as `struct peer_registers` (tests/peers/peer.h). Bits 4 and 5 of P are 0 (01, Machine state).
+/// Laid out as `struct peer_registers` (tests/peers/src/peer.h). Bits 4 and 5 of P are 0 (01, Machine state).
 #[repr(C)]
 #[derive(Clone, Copy, PartialEq, Eq, Debug)]
 pub struct Registers {

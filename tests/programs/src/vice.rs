@@ -9,7 +9,7 @@ use crate::registers::Registers;
 use crate::services::{called, Services};
 
 extern "C" {
-    /// Whole instructions until at least so many clocks are done (tests/peers/peer.h).
+    /// Whole instructions until at least so many clocks are done (tests/peers/src/peer.h).
     fn peer_6510_run_from(registers: *mut Registers, memory: *mut u8, clocks: u64) -> u64;
 }
 
