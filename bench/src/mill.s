@@ -109,9 +109,11 @@ begin:  lda #0
         sta half
         lda #>SLOWEST
         sta half+1
+        jsr set_latches
+        sta B_LOAD              ; far from an underflow, which would be an edge in pulse mode
         lda #PULSES
         sta MCR
-        jsr set_latches
+        lda half+1
         sta B_LOAD              ; PA5 low, and the first half step begins
         jmp main
 
