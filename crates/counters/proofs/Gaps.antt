@@ -5,7 +5,7 @@ use Prim.Native.Nat.{ℕ, zero, suc, _+_, _-_, _≤_, _<_}
 use native.Mathlib.Omega.{arith}
 use lib.Dec.{ltb, eqb}
 use borrow.Author.Tests.{ne-eqb, eqb-true, le-ltb}
-use Rattle.words.proofs.Cond.{digit-le}
+use Rattle.bits.proofs.Cond.{digit-le}
 use Rattle.counters.specs.declared.time.Clocks.{Clocks}
 use Rattle.counters.specs.declared.a.CounterA.{CounterA}
 use Rattle.counters.specs.declared.b.CounterB.{CounterB}

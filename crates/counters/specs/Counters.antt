@@ -2,7 +2,7 @@
 use mathlib.Core.Bool.{Bool, true, false, _&&_, not, cond}
 use Prim.Native.Nat.{ℕ, _+_, _-_, _*_, _/_, _%_}
 use lib.Dec.{leb, ltb, eqb}
-use Rattle.words.specs.Bits.{low, high, word, digit}
+use Rattle.bits.specs.Bits.{low, high, word, digit}
 use Rattle.counters.specs.declared.time.Clocks.{Clocks}
 use Rattle.counters.specs.declared.time.Ticks.{Ticks}
 use Rattle.counters.specs.declared.a.CounterA.{CounterA}
@@ -55,8 +55,8 @@ lowerA c v = record { count = c .count; latch = word (high (c .latch)) v }
 unfoldable pub upperA : CounterA → ℕ → CounterA
 upperA c v = record { count = c .count; latch = word v (low (c .latch)) }
 
-unfoldable pub loadA : CounterA → CounterA
-loadA c = atA c (c .latch)
+unfoldable pub loadCounterA : CounterA → CounterA
+loadCounterA c = atA c (c .latch)
 
 abbrev pub countedB : CounterB → Bool → CountedB
 countedB c u = record { counter = c; underflow = u }
@@ -99,8 +99,8 @@ upperB c v = latchesB c (word v (low (c .latchb))) (c .latchc)
 unfoldable pub copyB : CounterB → CounterB
 copyB c = latchesB c (c .latchb) (c .latchb)
 
-unfoldable pub loadB : CounterB → CounterB
-loadB c = atB c (c .latchb) (c .turnc)
+unfoldable pub loadCounterB : CounterB → CounterB
+loadCounterB c = atB c (c .latchb) (c .turnc)
 
 -- 01, Registers: "makes the turn C"
 unfoldable pub turnToC : CounterB → CounterB

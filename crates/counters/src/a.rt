@@ -1,6 +1,6 @@
 // A counter with one latch: counter A.
 ghost use mathlib.Core.Path.{_≡_};
-ghost use Rattle.counters.specs.Counters.{downA, countsA, clockA, runsA, passA, lowerA, upperA, loadA};
+ghost use Rattle.counters.specs.Counters.{downA, countsA, clockA, runsA, passA, lowerA, upperA, loadCounterA};
 use crate::time::Clocks;
 use crate::time::count_after;
 
@@ -84,7 +84,7 @@ impl CounterA {
     pub fn with_lower(mut self, value: u8) -> CounterA
         ensures { λ r. ⌜ r ≡ lowerA self value ⌝ }
     {
-        self.latch = words::word16(words::high_byte(self.latch), value);
+        self.latch = bits::word16(bits::high_byte(self.latch), value);
         self
     }
 
@@ -92,13 +92,13 @@ impl CounterA {
     pub fn with_upper(mut self, value: u8) -> CounterA
         ensures { λ r. ⌜ r ≡ upperA self value ⌝ }
     {
-        self.latch = words::word16(value, words::low_byte(self.latch));
+        self.latch = bits::word16(value, bits::low_byte(self.latch));
         self
     }
 
     // The counter loaded from the latch.
     pub fn load(mut self) -> CounterA
-        ensures { λ r. ⌜ r ≡ loadA self ⌝ }
+        ensures { λ r. ⌜ r ≡ loadCounterA self ⌝ }
     {
         self.count = self.latch;
         self

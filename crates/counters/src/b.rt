@@ -1,6 +1,6 @@
 // A counter with two latches: counter B with latches B and C.
 ghost use mathlib.Core.Path.{_≡_};
-ghost use Rattle.counters.specs.Counters.{reloadB, downB, clockB, runsB, passB, lowerB, upperB, copyB, loadB, turnToC};
+ghost use Rattle.counters.specs.Counters.{reloadB, downB, clockB, runsB, passB, lowerB, upperB, copyB, loadCounterB, turnToC};
 use crate::time::Clocks;
 use crate::time::count_after;
 
@@ -104,7 +104,7 @@ impl CounterB {
     pub fn with_lower(mut self, value: u8) -> CounterB
         ensures { λ r. ⌜ r ≡ lowerB self value ⌝ }
     {
-        self.latchb = words::word16(words::high_byte(self.latchb), value);
+        self.latchb = bits::word16(bits::high_byte(self.latchb), value);
         self
     }
 
@@ -112,7 +112,7 @@ impl CounterB {
     pub fn with_upper(mut self, value: u8) -> CounterB
         ensures { λ r. ⌜ r ≡ upperB self value ⌝ }
     {
-        self.latchb = words::word16(value, words::low_byte(self.latchb));
+        self.latchb = bits::word16(value, bits::low_byte(self.latchb));
         self
     }
 
@@ -126,7 +126,7 @@ impl CounterB {
 
     // The counter loaded from latch B.
     pub fn load(mut self) -> CounterB
-        ensures { λ r. ⌜ r ≡ loadB self ⌝ }
+        ensures { λ r. ⌜ r ≡ loadCounterB self ⌝ }
     {
         self.count = self.latchb;
         self

@@ -6,11 +6,11 @@ use Prim.Native.Nat.{ℕ, _+_, _-_, _≤_, _<_}
 use native.Mathlib.Omega.{arith}
 use lib.Dec.{leb, eqb}
 use borrow.Author.Tests.{leb-false, eqb-true}
-use Rattle.operations.specs.declared.Worked.{Worked}
+use Rattle.cpu_operations.specs.declared.Worked.{Worked}
 use Rattle.cpu.specs.declared.Outcome.the-variants.{Done}
 use Rattle.cpu.specs.declared.quiet.Work.{Work}
 use Rattle.cpu.specs.Instruction.{instructionOf}
-use Rattle.cpu.specs.Quiet.{Room, nextWork, Quietly, none, more}
+use Rattle.cpu.specs.Quiet.{WithinSpan, nextWork, Quietly, none, more}
 
 module _ (span : ℕ) (answers memory : List ℕ) (start : Work) where
   -- what each such instruction keeps, all of them keep
@@ -21,9 +21,9 @@ module _ (span : ℕ) (answers memory : List ℕ) (start : Work) where
   quietly-keeps P first next none = first
   quietly-keeps P first next (more {w = w} worked q inside e z) = next w worked (quietly-keeps P first next q) inside e z
 
-  pub quietly-room : Room start span → {v : Work} → Quietly span answers memory start v → Room v span
+  pub quietly-room : WithinSpan start span → {v : Work} → Quietly span answers memory start v → WithinSpan v span
   quietly-room room =
-      quietly-keeps (λ (v : Work). Room v span) room
+      quietly-keeps (λ (v : Work). WithinSpan v span) room
       (λ w worked kept inside e z. record { gone = omega arith; leaps = omega (arith, kept .leaps) })
 
 -- none starts within a span of no clocks
@@ -40,9 +40,9 @@ goes-on rest wait count e = by-tests (leb rest wait) (eqb count 0) refl refl e
     by-tests false true p q k = (leb-false rest wait p, eqb-true count 0 q)
     by-tests false false p q k = absurd (false≢true (sym k))
 
-pub goes-quietly : (span : ℕ) (answers memory : List ℕ) (start w : Work) (worked : Worked) → Room w span → Quietly span answers memory start w
+pub goes-quietly : (span : ℕ) (answers memory : List ℕ) (start w : Work) (worked : Worked) → WithinSpan w span → Quietly span answers memory start w
     → (leb (span - w .gone .0) (w .wait) || not (eqb (worked .writes .count) 0)) ≡ false → instructionOf (w .registers) answers memory ≡ Done worked
-    → Room (nextWork w worked) span × Quietly span answers memory start (nextWork w worked)
+    → WithinSpan (nextWork w worked) span × Quietly span answers memory start (nextWork w worked)
 goes-quietly span answers memory start w worked room q left e =
     let on = goes-on (span - w .gone .0) (w .wait) (worked .writes .count) left in
     (record { gone = omega (arith, on .0, room .gone); leaps = omega (arith, room .leaps) }, more worked q (omega (arith, on .0, room .gone)) e (on .1))

@@ -6,33 +6,34 @@ use Prim.Native.Nat.{ℕ, suc, _+_, _≤_, _<_}
 use native.Mathlib.Omega.{arith}
 use lib.Dec.{T, leb, leb→le, lit≤}
 use lib.ListN.{length}
-use Rattle.words.proofs.Cond.{cond-both, both-left, both-right}
-use Rattle.opcodes.specs.Rows.{rows}
-use Rattle.opcodes.specs.Decode.{decodeOf}
-use Rattle.opcodes.specs.declared.Decoded.{Decoded}
-use Rattle.opcodes.specs.declared.Decoded.the-variants as decoded
-use Rattle.opcodes.specs.declared.Entry.{Entry}
-use Rattle.opcodes.proofs.Laws.{passes, looked-up}
-use Rattle.bus.specs.declared.Bus.{Bus}
-use Rattle.bus.specs.declared.Registers.{Registers}
-use Rattle.bus.specs.declared.modes.Place.{Place}
-use Rattle.bus.specs.declared.stack.Writes.{Writes}
-use Rattle.bus.specs.Bus.{isRegister, idle, got, askOf, readOf, fetchOf}
-use Rattle.bus.specs.Stack.{noWrites, pushWord, readAfter}
-use Rattle.bus.specs.Modes.{locateOf}
-use Rattle.bus.proofs.Accesses.{readsOfMode, read-keeps, fetch-keeps, read-after-keeps, locate-keeps}
-use Rattle.bus.proofs.Asks.{AsksRegister, idle-asks-register, register-more, register-asks, Answered, Within, idle-answered, answered-more, answered-asks}
+use Rattle.bits.proofs.Cond.{cond-both, both-left, both-right}
+use Rattle.cpu_opcodes.specs.Rows.{rows}
+use Rattle.cpu_opcodes.specs.Decode.{decodeOf}
+use Rattle.cpu_opcodes.specs.declared.Decoded.{Decoded}
+use Rattle.cpu_opcodes.specs.declared.Decoded.the-variants as decoded
+use Rattle.cpu_opcodes.specs.declared.Entry.{Entry}
+use Rattle.cpu_opcodes.proofs.Laws.{passes, looked-up}
+use Rattle.cpu_access.specs.declared.Bus.{Bus}
+use Rattle.cpu_access.specs.declared.CpuRegisters.{CpuRegisters}
+use Rattle.cpu_access.specs.declared.modes.Place.{Place}
+use Rattle.cpu_access.specs.declared.stack.Writes.{Writes}
+use Rattle.cpu_access.specs.Bus.{idle, got, askOf, readOf, fetchOf}
+use Rattle.memory.specs.Memory.{isRegister}
+use Rattle.cpu_access.specs.Stack.{noWrites, pushWord, readAfter}
+use Rattle.cpu_access.specs.Modes.{locateOf}
+use Rattle.cpu_access.proofs.Accesses.{readsOfMode, read-keeps, fetch-keeps, read-after-keeps, locate-keeps}
+use Rattle.cpu_access.proofs.Asks.{AsksRegister, idle-asks-register, register-more, register-asks, Answered, Within, idle-answered, answered-more, answered-asks}
 use Rattle.cpu.specs.declared.Ask.{Ask}
-use Rattle.operations.specs.declared.Worked.{Worked}
+use Rattle.cpu_operations.specs.declared.Worked.{Worked}
 use Rattle.cpu.specs.declared.Outcome.{Outcome}
 use Rattle.cpu.specs.declared.Outcome.the-variants.{Undefined, Asked, Done}
-use Rattle.operations.specs.declared.Ended.{Ended}
-use Rattle.operations.specs.declared.Access.{Access}
-use Rattle.operations.specs.declared.Access.the-variants.{Nothing, Read, Modify, Call}
-use Rattle.operations.specs.Effects.{withPc}
-use Rattle.operations.specs.Operations.{accessOf, calls}
-use Rattle.cpu.specs.Instruction.{askWith, outcomeOf, operandByte, operandOf, carriedOut, writesAsked, callTo, callOf, executeOf, decodedTo, instructionOf}
-use Rattle.operations.proofs.Sound.{Cost, costOf, Sound, work-sound}
+use Rattle.cpu_operations.specs.declared.Executed.{Executed}
+use Rattle.cpu_operations.specs.declared.Access.{Access}
+use Rattle.cpu_operations.specs.declared.Access.the-variants.{Nothing, Read, Modify, Call}
+use Rattle.cpu_operations.specs.Effects.{withPc}
+use Rattle.cpu_operations.specs.Operations.{accessOf, isCall}
+use Rattle.cpu.specs.Instruction.{askWith, outcomeOf, operandByte, operandOf, carriedOut, writesAsked, callTo, subroutineCall, executeOf, decodedTo, instructionOf}
+use Rattle.cpu_operations.proofs.Sound.{Cost, costOf, Sound, work-sound}
 
 -- an instruction that is done
 pub record Fits (w : Worked) : Type 0 where
@@ -113,14 +114,14 @@ module _ (P : ℕ → Bus → Type 0) (answers memory : List ℕ)
   asked-lawful k w b m h t l =
       record { reads = k; most = m; bus = b; known = h; missing = t; address = refl; writes = l }
 
-  outcome-lawful : (k : ℕ) (w : Writes) (e : Ended) → k ≤ 5 → P k (e .bus) → w .count ≤ 3 → Fits (e .worked) → Lawful P (outcomeOf w e)
+  outcome-lawful : (k : ℕ) (w : Writes) (e : Executed) → k ≤ 5 → P k (e .bus) → w .count ≤ 3 → Fits (e .worked) → Lawful P (outcomeOf w e)
   unfolding outcomeOf
   outcome-lawful k w e m h l f =
       cond-both (Lawful P) (e .bus .missing) (Asked (askWith w (e .bus))) (Done (e .worked))
       (λ t. asked-lawful k w (e .bus) m h t l)
       (λ t. f)
 
-  carried-lawful : (e : Entry) (r : Registers) (b : Bus) → CostFits e → P 1 b → Lawful P (outcomeOf noWrites (carriedOut answers memory e r b))
+  carried-lawful : (e : Entry) (r : CpuRegisters) (b : Bus) → CostFits e → P 1 b → Lawful P (outcomeOf noWrites (carriedOut answers memory e r b))
   unfolding carriedOut
   carried-lawful e r b c h =
       let p = locateOf answers memory (e .mode) r b in
@@ -132,8 +133,8 @@ module _ (P : ℕ → Bus → Type 0) (answers memory : List ℕ)
       outcome-lawful (readsOf e) noWrites _ (c .reads) (s .bus) (lit≤ tt)
       (record { writes = s .writes; least = s .least (c .least); most = s .most (c .most) })
 
-  call-lawful : (r : Registers) (n : ℕ) (b : Bus) → 2 ≤ n → n ≤ 7 → P 1 b → Lawful P (callOf answers memory r n b)
-  unfolding callOf
+  call-lawful : (r : CpuRegisters) (n : ℕ) (b : Bus) → 2 ≤ n → n ≤ 7 → P 1 b → Lawful P (subroutineCall answers memory r n b)
+  unfolding subroutineCall
   call-lawful r n b l m h =
       let f = fetchOf answers memory (r .pc) b in
       let w = pushWord (r .sp) (f .pc) in
@@ -142,18 +143,18 @@ module _ (P : ℕ → Bus → Type 0) (answers memory : List ℕ)
       outcome-lawful 3 (writesAsked (f .bus) w) (callTo r n f w g) (lit≤ tt) q (asking-writes (f .bus) (r .sp) (f .pc))
       (record { writes = pushed-writes (r .sp) (f .pc); least = l; most = m })
 
-  execute-lawful : (e : Entry) (r : Registers) (b : Bus) → CostFits e → P 1 b → Lawful P (executeOf answers memory e r b)
+  execute-lawful : (e : Entry) (r : CpuRegisters) (b : Bus) → CostFits e → P 1 b → Lawful P (executeOf answers memory e r b)
   unfolding executeOf
   execute-lawful e r b c h =
-      cond-both (Lawful P) (calls (accessOf (e .operation))) (callOf answers memory r (e .length) b) (outcomeOf noWrites (carriedOut answers memory e r b))
+      cond-both (Lawful P) (isCall (accessOf (e .operation))) (subroutineCall answers memory r (e .length) b) (outcomeOf noWrites (carriedOut answers memory e r b))
       (λ t. call-lawful r (e .length) b (c .least) (let m = c .most in omega arith) h)
       (λ t. carried-lawful e r b c h)
 
-  decoded-lawful : (d : Decoded) (r : Registers) (b : Bus) → T (passes costFits d) → P 1 b → Lawful P (decodedTo answers memory r b d)
+  decoded-lawful : (d : Decoded) (r : CpuRegisters) (b : Bus) → T (passes costFits d) → P 1 b → Lawful P (decodedTo answers memory r b d)
   decoded-lawful decoded.Undefined r b t h = tt
   decoded-lawful (decoded.Defined e) r b t h = execute-lawful e r b (cost-fits e t) h
 
-  pub lawful : (r : Registers) → P 0 idle → Lawful P (instructionOf r answers memory)
+  pub lawful : (r : CpuRegisters) → P 0 idle → Lawful P (instructionOf r answers memory)
   unfolding instructionOf
   lawful r h =
       let f = fetchOf answers memory (r .pc) idle in
@@ -162,7 +163,7 @@ module _ (P : ℕ → Bus → Type 0) (answers memory : List ℕ)
       (λ t. asked-lawful 1 noWrites (f .bus) (lit≤ tt) q t (lit≤ tt))
       (λ t. decoded-lawful (decodeOf (f .value)) (withPc (f .pc) r) (f .bus) (table-fits (f .value)) q)
 
-module _ (r : Registers) (answers memory : List ℕ) where
+module _ (r : CpuRegisters) (answers memory : List ℕ) where
   by-register : Lawful AsksRegister (instructionOf r answers memory)
   by-register = lawful AsksRegister answers memory register-more (register-asks answers) r (idle-asks-register 0)
 

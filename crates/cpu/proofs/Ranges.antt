@@ -9,50 +9,51 @@ use lib.Bits.{and-lt, or-lt, xor-lt}
 use lib.Dec.{ltb, leb, eqb}
 use lib.IntN.{ℤ, pos, negsuc}
 use lib.ListN.{getD, length}
-use Rattle.words.specs.Bits.{bit, digit, withBit, word, wrapping8, wrapping16}
-use Rattle.words.proofs.Bits.{bit-room}
-use Rattle.words.proofs.Cond.{cond-both, digit-le}
-use Rattle.opcodes.specs.Decode.{decodeOf}
-use Rattle.opcodes.specs.declared.Decoded.{Decoded}
-use Rattle.opcodes.specs.declared.Decoded.the-variants as decoded
-use Rattle.opcodes.specs.declared.Entry.{Entry}
-use Rattle.opcodes.specs.declared.Mode.{Mode}
-use Rattle.opcodes.specs.declared.Mode.the-variants.{Implied, Accumulator, Immediate, ZeroPage, ZeroPageX, ZeroPageY, Absolute, AbsoluteX, AbsoluteY, IndexedIndirect, IndirectIndexed, Indirect, Relative, ZeroPageRelative}
-use Rattle.opcodes.specs.declared.Operation.{Operation}
-use Rattle.opcodes.specs.declared.Operation.the-variants.{Adc, And, Asl, Bcc, Bcs, Beq, Bit, Bmi, Bne, Bpl, Brk, Bvc, Bvs, Clc, Cld, Cli, Clv, Cmp, Cpx, Cpy, Dec, Dex, Dey, Eor, Inc, Inx, Iny, Jmp, Jsr, Lda, Ldx, Ldy, Lsr, Nop, Ora, Pha, Php, Pla, Plp, Rol, Ror, Rti, Rts, Sbc, Sec, Sed, Sei, Sta, Stx, Sty, Tax, Tay, Tsx, Txa, Txs, Tya, Rmb, Smb, Bbr, Bbs}
-use Rattle.alu.specs.Status.{packed, pushed}
-use Rattle.alu.specs.Arithmetic.{modulo, lowered, digitDifference, decimalDifference, subtractBinary, addBinary, addDecimal, adcOf, sbcOf}
-use Rattle.alu.specs.Logic.{andOf, oraOf, eorOf}
-use Rattle.alu.specs.Shift.{aslOf, lsrOf, rolOf, rorOf, incrementOf, decrementOf, resetBitOf, setBitOf}
-use Rattle.alu.specs.declared.Status.{Status}
-use Rattle.alu.specs.declared.Computed.{Computed}
-use Rattle.alu.proofs.Bounds.{packed-le}
-use Rattle.bus.specs.declared.Bus.{Bus}
-use Rattle.bus.specs.declared.Fetched.{Fetched}
-use Rattle.bus.specs.declared.Registers.{Registers}
-use Rattle.bus.specs.declared.modes.Place.{Place}
-use Rattle.bus.specs.declared.stack.Write.{Write}
-use Rattle.bus.specs.declared.stack.Writes.{Writes}
-use Rattle.bus.specs.Bus.{isRegister, nextAddress, memoryByte, vectorOf, idle, got, answered, asking, askOf, readOf, readWord, fetchOf, fetchWord}
-use Rattle.bus.specs.Stack.{noWrites, up, pushWord, pushInterrupt, pullOf, pullWord, writtenOver, readAfter}
-use Rattle.bus.specs.Modes.{zeroPageIndexed, zeroPagePointer, secondAddress, indexedBy, relativeTo, locateOf}
-use Rattle.operations.specs.declared.Access.{Access}
-use Rattle.operations.specs.declared.Access.the-variants.{Nothing, Read, Modify, Call}
-use Rattle.operations.specs.declared.Worked.{Worked}
-use Rattle.operations.specs.declared.Operand.{Operand}
-use Rattle.operations.specs.declared.Ended.{Ended}
-use Rattle.operations.specs.Effects.{withPc, withSp, withStatus, intoA, intoX, intoY, loadA, loadX, loadY, quiet, settled, stored, modified, branched, branchOperand, bitBranched, jumped, pushedByte, pulledAccumulator, pulledStatus, returned, resumed, interrupted, broken}
-use Rattle.operations.specs.Operations.{accessOf, calls, unflagged, workOf}
+use Rattle.bits.specs.Bits.{bit, digit, withBit, word, wrapping8, wrapping16}
+use Rattle.bits.proofs.Bits.{bit-room}
+use Rattle.bits.proofs.Cond.{cond-both, digit-le}
+use Rattle.cpu_opcodes.specs.Decode.{decodeOf}
+use Rattle.cpu_opcodes.specs.declared.Decoded.{Decoded}
+use Rattle.cpu_opcodes.specs.declared.Decoded.the-variants as decoded
+use Rattle.cpu_opcodes.specs.declared.Entry.{Entry}
+use Rattle.cpu_opcodes.specs.declared.Mode.{Mode}
+use Rattle.cpu_opcodes.specs.declared.Mode.the-variants.{Implied, Accumulator, Immediate, ZeroPage, ZeroPageX, ZeroPageY, Absolute, AbsoluteX, AbsoluteY, IndexedIndirect, IndirectIndexed, Indirect, Relative, ZeroPageRelative}
+use Rattle.cpu_opcodes.specs.declared.Operation.{Operation}
+use Rattle.cpu_opcodes.specs.declared.Operation.the-variants.{Adc, And, Asl, Bcc, Bcs, Beq, Bit, Bmi, Bne, Bpl, Brk, Bvc, Bvs, Clc, Cld, Cli, Clv, Cmp, Cpx, Cpy, Dec, Dex, Dey, Eor, Inc, Inx, Iny, Jmp, Jsr, Lda, Ldx, Ldy, Lsr, Nop, Ora, Pha, Php, Pla, Plp, Rol, Ror, Rti, Rts, Sbc, Sec, Sed, Sei, Sta, Stx, Sty, Tax, Tay, Tsx, Txa, Txs, Tya, Rmb, Smb, Bbr, Bbs}
+use Rattle.cpu_alu.specs.Status.{packed, pushed}
+use Rattle.cpu_alu.specs.Arithmetic.{modulo, lowered, digitDifference, decimalDifference, subtractBinary, addBinary, addDecimal, adcOf, sbcOf}
+use Rattle.cpu_alu.specs.Logic.{andOf, oraOf, eorOf}
+use Rattle.cpu_alu.specs.Shift.{aslOf, lsrOf, rolOf, rorOf, incrementOf, decrementOf, resetBitOf, setBitOf}
+use Rattle.cpu_alu.specs.declared.Status.{Status}
+use Rattle.cpu_alu.specs.declared.Computed.{Computed}
+use Rattle.cpu_alu.proofs.Bounds.{packed-le}
+use Rattle.cpu_access.specs.declared.Bus.{Bus}
+use Rattle.cpu_access.specs.declared.Fetched.{Fetched}
+use Rattle.cpu_access.specs.declared.CpuRegisters.{CpuRegisters}
+use Rattle.cpu_access.specs.declared.modes.Place.{Place}
+use Rattle.cpu_access.specs.declared.stack.Write.{Write}
+use Rattle.cpu_access.specs.declared.stack.Writes.{Writes}
+use Rattle.cpu_access.specs.Bus.{nextAddress, memoryByte, vectorOf, idle, got, answered, asking, askOf, readOf, readWord, fetchOf, fetchWord, resetVector}
+use Rattle.memory.specs.Memory.{isRegister}
+use Rattle.cpu_access.specs.Stack.{noWrites, up, pushWord, pushInterrupt, pullOf, pullWord, writtenOver, readAfter}
+use Rattle.cpu_access.specs.Modes.{zeroPageIndexed, zeroPagePointer, secondAddress, indexedBy, relativeTo, locateOf}
+use Rattle.cpu_operations.specs.declared.Access.{Access}
+use Rattle.cpu_operations.specs.declared.Access.the-variants.{Nothing, Read, Modify, Call}
+use Rattle.cpu_operations.specs.declared.Worked.{Worked}
+use Rattle.cpu_operations.specs.declared.Operand.{Operand}
+use Rattle.cpu_operations.specs.declared.Executed.{Executed}
+use Rattle.cpu_operations.specs.Effects.{withPc, withSp, withStatus, intoA, intoX, intoY, loadA, loadX, loadY, quiet, completed, stored, modified, branched, branchOperand, bitBranched, jumped, pushedByte, pulledAccumulator, pulledStatus, returned, returnedFromInterrupt, interrupted, breakTaken}
+use Rattle.cpu_operations.specs.Operations.{accessOf, isCall, unflagged, workOf}
 use Rattle.cpu.specs.declared.Outcome.{Outcome}
 use Rattle.cpu.specs.declared.Outcome.the-variants.{Undefined, Asked, Done}
-use Rattle.cpu.specs.Entries.{resetVector, resetEntry, interruptEntry}
-use Rattle.cpu.specs.Instruction.{askWith, outcomeOf, operandByte, operandOf, carriedOut, writesAsked, callTo, callOf, executeOf, decodedTo, instructionOf}
+use Rattle.cpu.specs.Entries.{resetEntry, interruptEntry}
+use Rattle.cpu.specs.Instruction.{askWith, outcomeOf, operandByte, operandOf, carriedOut, writesAsked, callTo, subroutineCall, executeOf, decodedTo, instructionOf}
 
 -- each element of a list is a byte
 abbrev pub Bytes : List ℕ → Type 0
 Bytes l = (k : ℕ) → getD l k 0 < 256
 
-pub record InRange (r : Registers) : Type 0 where
+pub record InRange (r : CpuRegisters) : Type 0 where
   pub a : r .a < 256
   pub x : r .x < 256
   pub y : r .y < 256
@@ -93,31 +94,31 @@ byte-fits : (v : ℕ) → v < 256 → v < 65536
 byte-fits v h = omega arith
 
 -- the registers
-pc-in : (v : ℕ) (r : Registers) → v < 65536 → InRange r → InRange (withPc v r)
+pc-in : (v : ℕ) (r : CpuRegisters) → v < 65536 → InRange r → InRange (withPc v r)
 pc-in v r h i = record { a = i .a; x = i .x; y = i .y; sp = i .sp; pc = h }
 
-sp-in : (v : ℕ) (r : Registers) → v < 256 → InRange r → InRange (withSp v r)
+sp-in : (v : ℕ) (r : CpuRegisters) → v < 256 → InRange r → InRange (withSp v r)
 sp-in v r h i = record { a = i .a; x = i .x; y = i .y; sp = h; pc = i .pc }
 
-status-in : (s : Status) (r : Registers) → InRange r → InRange (withStatus s r)
+status-in : (s : Status) (r : CpuRegisters) → InRange r → InRange (withStatus s r)
 status-in s r i = record { a = i .a; x = i .x; y = i .y; sp = i .sp; pc = i .pc }
 
-a-in : (k : Computed) (r : Registers) → k .value < 256 → InRange r → InRange (intoA k r)
+a-in : (k : Computed) (r : CpuRegisters) → k .value < 256 → InRange r → InRange (intoA k r)
 a-in k r h i = record { a = h; x = i .x; y = i .y; sp = i .sp; pc = i .pc }
 
-x-in : (k : Computed) (r : Registers) → k .value < 256 → InRange r → InRange (intoX k r)
+x-in : (k : Computed) (r : CpuRegisters) → k .value < 256 → InRange r → InRange (intoX k r)
 x-in k r h i = record { a = i .a; x = h; y = i .y; sp = i .sp; pc = i .pc }
 
-y-in : (k : Computed) (r : Registers) → k .value < 256 → InRange r → InRange (intoY k r)
+y-in : (k : Computed) (r : CpuRegisters) → k .value < 256 → InRange r → InRange (intoY k r)
 y-in k r h i = record { a = i .a; x = i .x; y = h; sp = i .sp; pc = i .pc }
 
-load-a-in : (v : ℕ) (r : Registers) → v < 256 → InRange r → InRange (loadA v r)
+load-a-in : (v : ℕ) (r : CpuRegisters) → v < 256 → InRange r → InRange (loadA v r)
 load-a-in v r h i = record { a = h; x = i .x; y = i .y; sp = i .sp; pc = i .pc }
 
-load-x-in : (v : ℕ) (r : Registers) → v < 256 → InRange r → InRange (loadX v r)
+load-x-in : (v : ℕ) (r : CpuRegisters) → v < 256 → InRange r → InRange (loadX v r)
 load-x-in v r h i = record { a = i .a; x = h; y = i .y; sp = i .sp; pc = i .pc }
 
-load-y-in : (v : ℕ) (r : Registers) → v < 256 → InRange r → InRange (loadY v r)
+load-y-in : (v : ℕ) (r : CpuRegisters) → v < 256 → InRange r → InRange (loadY v r)
 load-y-in v r h i = record { a = i .a; x = i .x; y = h; sp = i .sp; pc = i .pc }
 
 -- what is computed is a byte
@@ -219,39 +220,39 @@ interrupt-writes sp pc p h q = record {
   third = record { address = omega arith; value = q };
 }
 
-quiet-fits : (r : Registers) (n : ℕ) (b : Bus) → InRange r → WorkedFits (quiet r n b .worked)
+quiet-fits : (r : CpuRegisters) (n : ℕ) (b : Bus) → InRange r → WorkedFits (quiet r n b .worked)
 quiet-fits r n b i = record { registers = i; writes = no-writes }
 
-settled-fits : (o : Operand) (r : Registers) → InRange r → WorkedFits (settled o r .worked)
-unfolding settled
-settled-fits o r i = record { registers = i; writes = no-writes }
+completed-fits : (o : Operand) (r : CpuRegisters) → InRange r → WorkedFits (completed o r .worked)
+unfolding completed
+completed-fits o r i = record { registers = i; writes = no-writes }
 
-stored-fits : (o : Operand) (r : Registers) (v : ℕ) → OperandFits o → v < 256 → InRange r → WorkedFits (stored o r v .worked)
+stored-fits : (o : Operand) (r : CpuRegisters) (v : ℕ) → OperandFits o → v < 256 → InRange r → WorkedFits (stored o r v .worked)
 unfolding stored
 stored-fits o r v f h i = record {
   registers = i;
   writes = record { first = record { address = f .address; value = h }; second = no-write; third = no-write };
 }
 
-modified-fits : (o : Operand) (r : Registers) (k : Computed) → OperandFits o → k .value < 256 → InRange r → WorkedFits (modified o r k .worked)
+modified-fits : (o : Operand) (r : CpuRegisters) (k : Computed) → OperandFits o → k .value < 256 → InRange r → WorkedFits (modified o r k .worked)
 unfolding modified
 modified-fits o r k f h i =
     cond-both (λ e. WorkedFits (e .worked)) (o .accumulator) (quiet (intoA k r) (o .length) (o .bus)) (stored o (withStatus (k .status) r) (k .value))
     (λ t. quiet-fits (intoA k r) (o .length) (o .bus) (a-in k r h i))
     (λ t. stored-fits o (withStatus (k .status) r) (k .value) f h (status-in (k .status) r i))
 
-branched-fits : (o : Operand) (r : Registers) (taken : Bool) → o .address < 65536 → InRange r → WorkedFits (branched o r taken .worked)
+branched-fits : (o : Operand) (r : CpuRegisters) (taken : Bool) → o .address < 65536 → InRange r → WorkedFits (branched o r taken .worked)
 unfolding branched
 branched-fits o r taken h i =
     cond-both (λ e. WorkedFits (e .worked)) taken (quiet (withPc (o .address) r) (o .length + 1 + digit (o .crossed)) (o .bus)) (quiet r (o .length) (o .bus))
     (λ t. quiet-fits (withPc (o .address) r) (o .length + 1 + digit (o .crossed)) (o .bus) (pc-in (o .address) r h i))
     (λ t. quiet-fits r (o .length) (o .bus) i)
 
-jumped-fits : (o : Operand) (r : Registers) → OperandFits o → InRange r → WorkedFits (jumped o r .worked)
+jumped-fits : (o : Operand) (r : CpuRegisters) → OperandFits o → InRange r → WorkedFits (jumped o r .worked)
 unfolding jumped
 jumped-fits o r f i = quiet-fits (withPc (o .address) r) (o .length) (o .bus) (pc-in (o .address) r (f .address) i)
 
-pushed-fits : (o : Operand) (r : Registers) (v : ℕ) → v < 256 → InRange r → WorkedFits (pushedByte o r v .worked)
+pushed-fits : (o : Operand) (r : CpuRegisters) (v : ℕ) → v < 256 → InRange r → WorkedFits (pushedByte o r v .worked)
 unfolding pushedByte
 pushed-fits o r v h i =
     let s = i .sp in
@@ -355,7 +356,7 @@ module _ (answers memory : List ℕ) (given : Bytes answers) (bytes : Bytes memo
   unfolding zeroPagePointer
   pointer-lt z b = read-word-lt z (wrapping8 z 1) b
 
-  locate-fits : (mode : Mode) (r : Registers) (b : Bus) → InRange r → PlaceFits (locateOf answers memory mode r b)
+  locate-fits : (mode : Mode) (r : CpuRegisters) (b : Bus) → InRange r → PlaceFits (locateOf answers memory mode r b)
   unfolding locateOf
   locate-fits Implied r b i = record { address = omega arith; pc = i .pc }
   locate-fits Accumulator r b i = record { address = omega arith; pc = i .pc }
@@ -383,7 +384,7 @@ module _ (answers memory : List ℕ) (given : Bytes answers) (bytes : Bytes memo
   locate-fits Relative r b i = relative-fits (fetchOf answers memory (r .pc) b) (fetch-pc (r .pc) b)
   locate-fits ZeroPageRelative r b i = record { address = byte-fits _ (fetch-lt (r .pc) b); pc = fetch-pc (r .pc) b }
 
-  bit-branched-fits : (o : Operand) (r : Registers) (taken : Bool) → InRange r → WorkedFits (bitBranched answers memory o r taken .worked)
+  bit-branched-fits : (o : Operand) (r : CpuRegisters) (taken : Bool) → InRange r → WorkedFits (bitBranched answers memory o r taken .worked)
   unfolding bitBranched
   bit-branched-fits o r taken i =
       let f = fetchOf answers memory (r .pc) (o .bus) in
@@ -391,102 +392,102 @@ module _ (answers memory : List ℕ) (given : Bytes answers) (bytes : Bytes memo
       let q = relative-fits f (fetch-pc (r .pc) (o .bus)) in
       branched-fits (branchOperand o p) (withPc (p .pc) r) taken (q .address) (pc-in (p .pc) r (q .pc) i)
 
-  accumulator-fits : (o : Operand) (r : Registers) → InRange r → WorkedFits (pulledAccumulator answers memory o r .worked)
+  accumulator-fits : (o : Operand) (r : CpuRegisters) → InRange r → WorkedFits (pulledAccumulator answers memory o r .worked)
   unfolding pulledAccumulator
   accumulator-fits o r i =
       let p = pullOf answers memory (r .sp) (o .bus) in
       quiet-fits (loadA (p .value) (withSp (p .sp) r)) (o .length) (p .bus)
       (load-a-in (p .value) (withSp (p .sp) r) (pull-lt (r .sp) (o .bus)) (sp-in (p .sp) r (pull-sp (r .sp) (o .bus)) i))
 
-  status-fits : (o : Operand) (r : Registers) → InRange r → WorkedFits (pulledStatus answers memory o r .worked)
+  status-fits : (o : Operand) (r : CpuRegisters) → InRange r → WorkedFits (pulledStatus answers memory o r .worked)
   unfolding pulledStatus
   status-fits o r i =
       let p = pullOf answers memory (r .sp) (o .bus) in
       quiet-fits _ (o .length) (p .bus) (status-in _ (withSp (p .sp) r) (sp-in (p .sp) r (pull-sp (r .sp) (o .bus)) i))
 
-  returned-fits : (o : Operand) (r : Registers) → InRange r → WorkedFits (returned answers memory o r .worked)
+  returned-fits : (o : Operand) (r : CpuRegisters) → InRange r → WorkedFits (returned answers memory o r .worked)
   unfolding returned
   returned-fits o r i =
       let w = pullWord answers memory (r .sp) (o .bus) in
       quiet-fits _ (o .length) (w .bus) (pc-in (nextAddress (w .value)) (withSp (w .sp) r) (address-wraps (w .value) 1) (sp-in (w .sp) r (pull-word-sp (r .sp) (o .bus)) i))
 
-  resumed-fits : (o : Operand) (r : Registers) → InRange r → WorkedFits (resumed answers memory o r .worked)
-  unfolding resumed
-  resumed-fits o r i =
+  returnedFromInterrupt-fits : (o : Operand) (r : CpuRegisters) → InRange r → WorkedFits (returnedFromInterrupt answers memory o r .worked)
+  unfolding returnedFromInterrupt
+  returnedFromInterrupt-fits o r i =
       let p = pullOf answers memory (r .sp) (o .bus) in
       let w = pullWord answers memory (p .sp) (p .bus) in
       quiet-fits _ (o .length) (w .bus)
       (pc-in (w .value) _ (pull-word-lt (p .sp) (p .bus)) (status-in _ (withSp (w .sp) r) (sp-in (w .sp) r (pull-word-sp (p .sp) (p .bus)) i)))
 
-  interrupted-fits : (vector p : ℕ) (r : Registers) → p < 256 → InRange r → WorkedFits (interrupted memory vector p r)
+  interrupted-fits : (vector p : ℕ) (r : CpuRegisters) → p < 256 → InRange r → WorkedFits (interrupted memory vector p r)
   unfolding interrupted
   interrupted-fits vector p r h i = record {
     registers = record { a = i .a; x = i .x; y = i .y; sp = byte-wraps _ 255; pc = vector-lt vector };
     writes = interrupt-writes (r .sp) (r .pc) p (i .sp) h;
   }
 
-  broken-fits : (o : Operand) (r : Registers) → InRange r → WorkedFits (broken memory o r .worked)
-  unfolding broken
-  broken-fits o r i = interrupted-fits 0xFFFE (pushed (r .status) true) (withPc (nextAddress (r .pc)) r) (pushed-lt (r .status) true) (pc-in (nextAddress (r .pc)) r (address-wraps (r .pc) 1) i)
+  breakTaken-fits : (o : Operand) (r : CpuRegisters) → InRange r → WorkedFits (breakTaken memory o r .worked)
+  unfolding breakTaken
+  breakTaken-fits o r i = interrupted-fits 0xFFFE (pushed (r .status) true) (withPc (nextAddress (r .pc)) r) (pushed-lt (r .status) true) (pc-in (nextAddress (r .pc)) r (address-wraps (r .pc) 1) i)
 
-  work-fits : (op : Operation) (r : Registers) (o : Operand) → OperandFits o → InRange r → WorkedFits (workOf answers memory op r o .worked)
+  work-fits : (op : Operation) (r : CpuRegisters) (o : Operand) → OperandFits o → InRange r → WorkedFits (workOf answers memory op r o .worked)
   unfolding workOf
-  work-fits Adc r o f i = settled-fits o _ (a-in _ r (adc-lt (r .a) (o .value) (r .status)) i)
-  work-fits And r o f i = settled-fits o _ (a-in _ r (and-of-lt (r .a) (o .value) (r .status) (i .a) (f .value)) i)
+  work-fits Adc r o f i = completed-fits o _ (a-in _ r (adc-lt (r .a) (o .value) (r .status)) i)
+  work-fits And r o f i = completed-fits o _ (a-in _ r (and-of-lt (r .a) (o .value) (r .status) (i .a) (f .value)) i)
   work-fits Asl r o f i = modified-fits o r _ f (asl-lt (o .value) (r .status)) i
   work-fits Bcc r o f i = branched-fits o r _ (f .address) i
   work-fits Bcs r o f i = branched-fits o r _ (f .address) i
   work-fits Beq r o f i = branched-fits o r _ (f .address) i
-  work-fits Bit r o f i = settled-fits o _ (status-in _ r i)
+  work-fits Bit r o f i = completed-fits o _ (status-in _ r i)
   work-fits Bmi r o f i = branched-fits o r _ (f .address) i
   work-fits Bne r o f i = branched-fits o r _ (f .address) i
   work-fits Bpl r o f i = branched-fits o r _ (f .address) i
-  work-fits Brk r o f i = broken-fits o r i
+  work-fits Brk r o f i = breakTaken-fits o r i
   work-fits Bvc r o f i = branched-fits o r _ (f .address) i
   work-fits Bvs r o f i = branched-fits o r _ (f .address) i
-  work-fits Clc r o f i = settled-fits o _ (status-in _ r i)
-  work-fits Cld r o f i = settled-fits o _ (status-in _ r i)
-  work-fits Cli r o f i = settled-fits o _ (status-in _ r i)
-  work-fits Clv r o f i = settled-fits o _ (status-in _ r i)
-  work-fits Cmp r o f i = settled-fits o _ (status-in _ r i)
-  work-fits Cpx r o f i = settled-fits o _ (status-in _ r i)
-  work-fits Cpy r o f i = settled-fits o _ (status-in _ r i)
+  work-fits Clc r o f i = completed-fits o _ (status-in _ r i)
+  work-fits Cld r o f i = completed-fits o _ (status-in _ r i)
+  work-fits Cli r o f i = completed-fits o _ (status-in _ r i)
+  work-fits Clv r o f i = completed-fits o _ (status-in _ r i)
+  work-fits Cmp r o f i = completed-fits o _ (status-in _ r i)
+  work-fits Cpx r o f i = completed-fits o _ (status-in _ r i)
+  work-fits Cpy r o f i = completed-fits o _ (status-in _ r i)
   work-fits Dec r o f i = modified-fits o r _ f (decrement-lt (o .value) (r .status)) i
-  work-fits Dex r o f i = settled-fits o _ (x-in _ r (decrement-lt (r .x) (r .status)) i)
-  work-fits Dey r o f i = settled-fits o _ (y-in _ r (decrement-lt (r .y) (r .status)) i)
-  work-fits Eor r o f i = settled-fits o _ (a-in _ r (eor-of-lt (r .a) (o .value) (r .status) (i .a) (f .value)) i)
+  work-fits Dex r o f i = completed-fits o _ (x-in _ r (decrement-lt (r .x) (r .status)) i)
+  work-fits Dey r o f i = completed-fits o _ (y-in _ r (decrement-lt (r .y) (r .status)) i)
+  work-fits Eor r o f i = completed-fits o _ (a-in _ r (eor-of-lt (r .a) (o .value) (r .status) (i .a) (f .value)) i)
   work-fits Inc r o f i = modified-fits o r _ f (increment-lt (o .value) (r .status)) i
-  work-fits Inx r o f i = settled-fits o _ (x-in _ r (increment-lt (r .x) (r .status)) i)
-  work-fits Iny r o f i = settled-fits o _ (y-in _ r (increment-lt (r .y) (r .status)) i)
+  work-fits Inx r o f i = completed-fits o _ (x-in _ r (increment-lt (r .x) (r .status)) i)
+  work-fits Iny r o f i = completed-fits o _ (y-in _ r (increment-lt (r .y) (r .status)) i)
   work-fits Jmp r o f i = jumped-fits o r f i
-  work-fits Jsr r o f i = settled-fits o r i
-  work-fits Lda r o f i = settled-fits o _ (load-a-in _ r (f .value) i)
-  work-fits Ldx r o f i = settled-fits o _ (load-x-in _ r (f .value) i)
-  work-fits Ldy r o f i = settled-fits o _ (load-y-in _ r (f .value) i)
+  work-fits Jsr r o f i = completed-fits o r i
+  work-fits Lda r o f i = completed-fits o _ (load-a-in _ r (f .value) i)
+  work-fits Ldx r o f i = completed-fits o _ (load-x-in _ r (f .value) i)
+  work-fits Ldy r o f i = completed-fits o _ (load-y-in _ r (f .value) i)
   work-fits Lsr r o f i = modified-fits o r _ f (lsr-lt (o .value) (r .status) (f .value)) i
-  work-fits Nop r o f i = settled-fits o r i
-  work-fits Ora r o f i = settled-fits o _ (a-in _ r (ora-of-lt (r .a) (o .value) (r .status) (i .a) (f .value)) i)
+  work-fits Nop r o f i = completed-fits o r i
+  work-fits Ora r o f i = completed-fits o _ (a-in _ r (ora-of-lt (r .a) (o .value) (r .status) (i .a) (f .value)) i)
   work-fits Pha r o f i = pushed-fits o r _ (i .a) i
   work-fits Php r o f i = pushed-fits o r _ (pushed-lt (r .status) true) i
   work-fits Pla r o f i = accumulator-fits o r i
   work-fits Plp r o f i = status-fits o r i
   work-fits Rol r o f i = modified-fits o r _ f (rol-lt (o .value) (r .status)) i
   work-fits Ror r o f i = modified-fits o r _ f (ror-lt (o .value) (r .status) (f .value)) i
-  work-fits Rti r o f i = resumed-fits o r i
+  work-fits Rti r o f i = returnedFromInterrupt-fits o r i
   work-fits Rts r o f i = returned-fits o r i
-  work-fits Sbc r o f i = settled-fits o _ (a-in _ r (sbc-lt (r .a) (o .value) (r .status)) i)
-  work-fits Sec r o f i = settled-fits o _ (status-in _ r i)
-  work-fits Sed r o f i = settled-fits o _ (status-in _ r i)
-  work-fits Sei r o f i = settled-fits o _ (status-in _ r i)
+  work-fits Sbc r o f i = completed-fits o _ (a-in _ r (sbc-lt (r .a) (o .value) (r .status)) i)
+  work-fits Sec r o f i = completed-fits o _ (status-in _ r i)
+  work-fits Sed r o f i = completed-fits o _ (status-in _ r i)
+  work-fits Sei r o f i = completed-fits o _ (status-in _ r i)
   work-fits Sta r o f i = stored-fits o r _ f (i .a) i
   work-fits Stx r o f i = stored-fits o r _ f (i .x) i
   work-fits Sty r o f i = stored-fits o r _ f (i .y) i
-  work-fits Tax r o f i = settled-fits o _ (load-x-in _ r (i .a) i)
-  work-fits Tay r o f i = settled-fits o _ (load-y-in _ r (i .a) i)
-  work-fits Tsx r o f i = settled-fits o _ (load-x-in _ r (i .sp) i)
-  work-fits Txa r o f i = settled-fits o _ (load-a-in _ r (i .x) i)
-  work-fits Txs r o f i = settled-fits o _ (sp-in _ r (i .x) i)
-  work-fits Tya r o f i = settled-fits o _ (load-a-in _ r (i .y) i)
+  work-fits Tax r o f i = completed-fits o _ (load-x-in _ r (i .a) i)
+  work-fits Tay r o f i = completed-fits o _ (load-y-in _ r (i .a) i)
+  work-fits Tsx r o f i = completed-fits o _ (load-x-in _ r (i .sp) i)
+  work-fits Txa r o f i = completed-fits o _ (load-a-in _ r (i .x) i)
+  work-fits Txs r o f i = completed-fits o _ (sp-in _ r (i .x) i)
+  work-fits Tya r o f i = completed-fits o _ (load-a-in _ r (i .y) i)
   work-fits (Rmb m) r o f i = modified-fits o r _ f (reset-bit-lt (o .value) m (f .value)) i
   work-fits (Smb m) r o f i = modified-fits o r _ f (set-bit-lt (o .value) m (f .value)) i
   work-fits (Bbr m) r o f i = bit-branched-fits o r _ i
@@ -500,7 +501,7 @@ module _ (answers memory : List ℕ) (given : Bytes answers) (bytes : Bytes memo
       cond-both (λ g. g .value < 256) (p .accumulator) (got a (p .bus)) (readOf answers memory (p .address) true (p .bus)) (λ t. h) (λ t. read-lt (p .address) true (p .bus))
   operand-lt Call a p h = omega arith
 
-  carried-fits : (e : Entry) (r : Registers) (b : Bus) → InRange r → WorkedFits (carriedOut answers memory e r b .worked)
+  carried-fits : (e : Entry) (r : CpuRegisters) (b : Bus) → InRange r → WorkedFits (carriedOut answers memory e r b .worked)
   unfolding carriedOut
   carried-fits e r b i =
       let p = locateOf answers memory (e .mode) r b in
@@ -510,12 +511,12 @@ module _ (answers memory : List ℕ) (given : Bytes answers) (bytes : Bytes memo
       (record { address = q .address; value = operand-lt (accessOf (e .operation)) (r .a) p (i .a) })
       (pc-in (p .pc) r (q .pc) i)
 
-  outcome-fits : (w : Writes) (e : Ended) → WorkedFits (e .worked) → DoneFits (outcomeOf w e)
+  outcome-fits : (w : Writes) (e : Executed) → WorkedFits (e .worked) → DoneFits (outcomeOf w e)
   unfolding outcomeOf
   outcome-fits w e f = cond-both DoneFits (e .bus .missing) (Asked (askWith w (e .bus))) (Done (e .worked)) (λ t. tt) (λ t. f)
 
-  call-fits : (r : Registers) (n : ℕ) (b : Bus) → InRange r → DoneFits (callOf answers memory r n b)
-  unfolding callOf
+  call-fits : (r : CpuRegisters) (n : ℕ) (b : Bus) → InRange r → DoneFits (subroutineCall answers memory r n b)
+  unfolding subroutineCall
   call-fits r n b i =
       let l = fetchOf answers memory (r .pc) b in
       let w = pushWord (r .sp) (l .pc) in
@@ -526,18 +527,18 @@ module _ (answers memory : List ℕ) (given : Bytes answers) (bytes : Bytes memo
         writes = f;
       })
 
-  execute-fits : (e : Entry) (r : Registers) (b : Bus) → InRange r → DoneFits (executeOf answers memory e r b)
+  execute-fits : (e : Entry) (r : CpuRegisters) (b : Bus) → InRange r → DoneFits (executeOf answers memory e r b)
   unfolding executeOf
   execute-fits e r b i =
-      cond-both DoneFits (calls (accessOf (e .operation))) (callOf answers memory r (e .length) b) (outcomeOf noWrites (carriedOut answers memory e r b))
+      cond-both DoneFits (isCall (accessOf (e .operation))) (subroutineCall answers memory r (e .length) b) (outcomeOf noWrites (carriedOut answers memory e r b))
       (λ t. call-fits r (e .length) b i)
       (λ t. outcome-fits noWrites (carriedOut answers memory e r b) (carried-fits e r b i))
 
-  decoded-fits : (d : Decoded) (r : Registers) (b : Bus) → InRange r → DoneFits (decodedTo answers memory r b d)
+  decoded-fits : (d : Decoded) (r : CpuRegisters) (b : Bus) → InRange r → DoneFits (decodedTo answers memory r b d)
   decoded-fits decoded.Undefined r b i = tt
   decoded-fits (decoded.Defined e) r b i = execute-fits e r b i
 
-  in-range : (r : Registers) → InRange r → DoneFits (instructionOf r answers memory)
+  in-range : (r : CpuRegisters) → InRange r → DoneFits (instructionOf r answers memory)
   unfolding instructionOf
   in-range r i =
       let f = fetchOf answers memory (r .pc) idle in
@@ -546,14 +547,14 @@ module _ (answers memory : List ℕ) (given : Bytes answers) (bytes : Bytes memo
       (λ t. decoded-fits (decodeOf (f .value)) (withPc (f .pc) r) (f .bus) (pc-in (f .pc) r (fetch-pc (r .pc) idle) i))
 
   -- an instruction that is done leaves registers and writes in range
-  pub done-in-range : (r : Registers) (w : Worked) → InRange r → instructionOf r answers memory ≡ Done w → WorkedFits w
+  pub done-in-range : (r : CpuRegisters) (w : Worked) → InRange r → instructionOf r answers memory ≡ Done w → WorkedFits w
   done-in-range r w i e = rw e at (in-range r i)
 
   -- and so do the entries
-  pub reset-in-range : (r : Registers) → InRange r → WorkedFits (resetEntry memory r)
+  pub reset-in-range : (r : CpuRegisters) → InRange r → WorkedFits (resetEntry memory r)
   unfolding resetEntry
   reset-in-range r i = record { registers = pc-in _ _ (vector-lt resetVector) (status-in _ r i); writes = no-writes }
 
-  pub interrupt-in-range : (vector : ℕ) (r : Registers) → InRange r → WorkedFits (interruptEntry memory vector r)
+  pub interrupt-in-range : (vector : ℕ) (r : CpuRegisters) → InRange r → WorkedFits (interruptEntry memory vector r)
   unfolding interruptEntry
   interrupt-in-range vector r i = interrupted-fits vector (pushed (r .status) false) r (pushed-lt (r .status) false) i

@@ -2,31 +2,21 @@
 use mathlib.Core.Bool.{Bool, true, false}
 use mathlib.Core.List.{List}
 use Prim.Native.Nat.{ℕ}
-use Rattle.alu.specs.Status.{pushed, withI}
-use Rattle.bus.specs.declared.Registers.{Registers}
-use Rattle.bus.specs.Bus.{vectorOf}
-use Rattle.bus.specs.Stack.{noWrites}
-use Rattle.operations.specs.declared.Worked.{Worked}
-use Rattle.operations.specs.Effects.{withPc, withStatus, interrupted}
-
--- "vectors FFFCh, FFFAh, FFFEh"
-abbrev pub resetVector : ℕ
-resetVector = 0xFFFC
-
-abbrev pub nmiVector : ℕ
-nmiVector = 0xFFFA
-
-abbrev pub irqVector : ℕ
-irqVector = 0xFFFE
+use Rattle.cpu_alu.specs.Status.{pushed, withI}
+use Rattle.cpu_access.specs.declared.CpuRegisters.{CpuRegisters}
+use Rattle.cpu_access.specs.Bus.{resetVector, vectorOf}
+use Rattle.cpu_access.specs.Stack.{noWrites}
+use Rattle.cpu_operations.specs.declared.Worked.{Worked}
+use Rattle.cpu_operations.specs.Effects.{withPc, withStatus, interrupted}
 
 -- "reset pushes nothing and keeps SP"
-unfoldable pub resetEntry : List ℕ → Registers → Worked
+unfoldable pub resetEntry : List ℕ → CpuRegisters → Worked
 resetEntry memory r = record {
   registers = withPc (vectorOf memory resetVector) (withStatus (withI true (r .status)) r);
   writes = noWrites;
   length = 7;
 }
 
--- NMI and IRQ: "a push sets bit 5 in the byte", and not bit 4
-unfoldable pub interruptEntry : List ℕ → ℕ → Registers → Worked
+-- NMI and IRQ: 01, Machine state, "a push sets bit 5 in the byte", and not bit 4
+unfoldable pub interruptEntry : List ℕ → ℕ → CpuRegisters → Worked
 interruptEntry memory vector r = interrupted memory vector (pushed (r .status) false) r

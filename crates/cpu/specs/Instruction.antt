@@ -2,36 +2,36 @@
 use mathlib.Core.Bool.{Bool, true, false, cond}
 use mathlib.Core.List.{List}
 use Prim.Native.Nat.{ℕ, _+_, _*_}
-use Rattle.words.specs.Bits.{word}
-use Rattle.opcodes.specs.Decode.{decodeOf}
-use Rattle.opcodes.specs.declared.Decoded.{Decoded}
-use Rattle.opcodes.specs.declared.Decoded.the-variants as decoded
-use Rattle.opcodes.specs.declared.Entry.{Entry}
-use Rattle.bus.specs.declared.Bus.{Bus}
-use Rattle.bus.specs.declared.Got.{Got}
-use Rattle.bus.specs.declared.Fetched.{Fetched}
-use Rattle.bus.specs.declared.Registers.{Registers}
-use Rattle.bus.specs.declared.modes.Place.{Place}
-use Rattle.bus.specs.declared.stack.Writes.{Writes}
-use Rattle.bus.specs.Bus.{idle, got, readOf, fetchOf}
-use Rattle.bus.specs.Stack.{noWrites, down, pushWord, readAfter}
-use Rattle.bus.specs.Modes.{locateOf}
+use Rattle.bits.specs.Bits.{word}
+use Rattle.cpu_opcodes.specs.Decode.{decodeOf}
+use Rattle.cpu_opcodes.specs.declared.Decoded.{Decoded}
+use Rattle.cpu_opcodes.specs.declared.Decoded.the-variants as decoded
+use Rattle.cpu_opcodes.specs.declared.Entry.{Entry}
+use Rattle.cpu_access.specs.declared.Bus.{Bus}
+use Rattle.cpu_access.specs.declared.Got.{Got}
+use Rattle.cpu_access.specs.declared.Fetched.{Fetched}
+use Rattle.cpu_access.specs.declared.CpuRegisters.{CpuRegisters}
+use Rattle.cpu_access.specs.declared.modes.Place.{Place}
+use Rattle.cpu_access.specs.declared.stack.Writes.{Writes}
+use Rattle.cpu_access.specs.Bus.{idle, got, readOf, fetchOf}
+use Rattle.cpu_access.specs.Stack.{noWrites, down, pushWord, readAfter}
+use Rattle.cpu_access.specs.Modes.{locateOf}
 use Rattle.cpu.specs.declared.Ask.{Ask}
 use Rattle.cpu.specs.declared.Outcome.{Outcome}
 use Rattle.cpu.specs.declared.Outcome.the-variants.{Undefined, Asked, Done}
-use Rattle.operations.specs.declared.Operand.{Operand}
-use Rattle.operations.specs.declared.Ended.{Ended}
-use Rattle.operations.specs.declared.Access.{Access}
-use Rattle.operations.specs.declared.Access.the-variants.{Nothing, Read, Modify, Call}
-use Rattle.operations.specs.Effects.{withSp, withPc, ended}
-use Rattle.operations.specs.Operations.{accessOf, calls, workOf}
+use Rattle.cpu_operations.specs.declared.Operand.{Operand}
+use Rattle.cpu_operations.specs.declared.Executed.{Executed}
+use Rattle.cpu_operations.specs.declared.Access.{Access}
+use Rattle.cpu_operations.specs.declared.Access.the-variants.{Nothing, Read, Modify, Call}
+use Rattle.cpu_operations.specs.Effects.{withSp, withPc, executed}
+use Rattle.cpu_operations.specs.Operations.{accessOf, isCall, workOf}
 
 -- what is asked, with the writes that were made before
 abbrev pub askWith : Writes → Bus → Ask
 askWith w b = record { address = b .address; latch = b .latch; writes = w }
 
 -- an instruction that still asks is not done
-unfoldable pub outcomeOf : Writes → Ended → Outcome
+unfoldable pub outcomeOf : Writes → Executed → Outcome
 outcomeOf w e = cond (e .bus .missing) (Asked (askWith w (e .bus))) (Done (e .worked))
 
 -- the operand's byte: read once, by a read-modify-write instruction from a port's latch (001, 4.1)
@@ -51,45 +51,45 @@ operandOf n p g = record {
   bus = g .bus;
 }
 
-abbrev pub workAt : List ℕ → List ℕ → Entry → Registers → Place → Ended
+abbrev pub workAt : List ℕ → List ℕ → Entry → CpuRegisters → Place → Executed
 workAt answers memory e r p =
     workOf answers memory (e .operation) (withPc (p .pc) r)
     (operandOf (e .length) p (operandByte answers memory (accessOf (e .operation)) (r .a) p))
 
-unfoldable pub carriedOut : List ℕ → List ℕ → Entry → Registers → Bus → Ended
+unfoldable pub carriedOut : List ℕ → List ℕ → Entry → CpuRegisters → Bus → Executed
 carriedOut answers memory e r b = workAt answers memory e r (locateOf answers memory (e .mode) r b)
 
 -- JSR: the low byte of the target is read, the address of its own last byte is pushed, and only then the high byte is read
-abbrev pub callTo : Registers → ℕ → Fetched → Writes → Got → Ended
-callTo r n l w h = ended (withPc (word (h .value) (l .value)) (withSp (down (down (r .sp))) r)) w n (h .bus)
+abbrev pub callTo : CpuRegisters → ℕ → Fetched → Writes → Got → Executed
+callTo r n l w h = executed (withPc (word (h .value) (l .value)) (withSp (down (down (r .sp))) r)) w n (h .bus)
 
 -- a question about the low byte comes before the pushes
 unfoldable pub writesAsked : Bus → Writes → Writes
 writesAsked b w = cond (b .missing) noWrites w
 
-abbrev pub callPushed : List ℕ → List ℕ → Registers → ℕ → Fetched → Writes → Outcome
+abbrev pub callPushed : List ℕ → List ℕ → CpuRegisters → ℕ → Fetched → Writes → Outcome
 callPushed answers memory r n l w =
     outcomeOf (writesAsked (l .bus) w) (callTo r n l w (readAfter answers memory w (l .pc) (l .bus)))
 
-abbrev pub callAfter : List ℕ → List ℕ → Registers → ℕ → Fetched → Outcome
+abbrev pub callAfter : List ℕ → List ℕ → CpuRegisters → ℕ → Fetched → Outcome
 callAfter answers memory r n l = callPushed answers memory r n l (pushWord (r .sp) (l .pc))
 
-unfoldable pub callOf : List ℕ → List ℕ → Registers → ℕ → Bus → Outcome
-callOf answers memory r n b = callAfter answers memory r n (fetchOf answers memory (r .pc) b)
+unfoldable pub subroutineCall : List ℕ → List ℕ → CpuRegisters → ℕ → Bus → Outcome
+subroutineCall answers memory r n b = callAfter answers memory r n (fetchOf answers memory (r .pc) b)
 
 -- a defined opcode; PC stands behind it
-unfoldable pub executeOf : List ℕ → List ℕ → Entry → Registers → Bus → Outcome
+unfoldable pub executeOf : List ℕ → List ℕ → Entry → CpuRegisters → Bus → Outcome
 executeOf answers memory e r b =
-    cond (calls (accessOf (e .operation))) (callOf answers memory r (e .length) b) (outcomeOf noWrites (carriedOut answers memory e r b))
+    cond (isCall (accessOf (e .operation))) (subroutineCall answers memory r (e .length) b) (outcomeOf noWrites (carriedOut answers memory e r b))
 
-abbrev pub decodedTo : List ℕ → List ℕ → Registers → Bus → Decoded → Outcome
+abbrev pub decodedTo : List ℕ → List ℕ → CpuRegisters → Bus → Decoded → Outcome
 decodedTo answers memory r b decoded.Undefined = Undefined
 decodedTo answers memory r b (decoded.Defined e) = executeOf answers memory e r b
 
 -- an opcode that has to be asked for is no opcode yet
-abbrev pub begun : List ℕ → List ℕ → Registers → Fetched → Outcome
-begun answers memory r f =
+abbrev pub opcodeFetched : List ℕ → List ℕ → CpuRegisters → Fetched → Outcome
+opcodeFetched answers memory r f =
     cond (f .bus .missing) (Asked (askWith noWrites (f .bus))) (decodedTo answers memory (withPc (f .pc) r) (f .bus) (decodeOf (f .value)))
 
-unfoldable pub instructionOf : Registers → List ℕ → List ℕ → Outcome
-instructionOf r answers memory = begun answers memory r (fetchOf answers memory (r .pc) idle)
+unfoldable pub instructionOf : CpuRegisters → List ℕ → List ℕ → Outcome
+instructionOf r answers memory = opcodeFetched answers memory r (fetchOf answers memory (r .pc) idle)

@@ -2,13 +2,13 @@
 use mathlib.Core.Path.{_≡_}
 use mathlib.Core.List.{List}
 use Prim.Native.Nat.{ℕ, _+_, _-_, _≤_, _<_}
-use Rattle.operations.specs.declared.Worked.{Worked}
+use Rattle.cpu_operations.specs.declared.Worked.{Worked}
 use Rattle.cpu.specs.declared.Outcome.the-variants.{Done}
 use Rattle.cpu.specs.declared.quiet.Work.{Work}
 use Rattle.cpu.specs.Instruction.{instructionOf}
 
 -- what is gone lies in the span, and each leap took a clock at least
-pub record Room (w : Work) (span : ℕ) : Type 0 where
+pub record WithinSpan (w : Work) (span : ℕ) : Type 0 where
   pub gone : w .gone .0 ≤ span
   pub leaps : w .leaps ≤ w .gone .0
 

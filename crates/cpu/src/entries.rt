@@ -1,26 +1,21 @@
 // Interrupt entries: reset, NMI and IRQ.
 ghost use mathlib.Core.Path.{_≡_};
 ghost use Rattle.cpu.specs.Entries.{resetEntry, interruptEntry};
-use bus::Registers;
-use bus::stack::no_writes;
-use operations::Worked;
-use operations::effects::interrupted;
-use operations::registers::with_pc;
-use operations::registers::with_status;
-
-pub const RESET_VECTOR: u16 = 0xFFFC;
-
-pub const NMI_VECTOR: u16 = 0xFFFA;
-
-pub const IRQ_VECTOR: u16 = 0xFFFE;
+use cpu_access::CpuRegisters;
+use cpu_access::RESET_VECTOR;
+use cpu_access::stack::no_writes;
+use cpu_operations::Worked;
+use cpu_operations::effects::interrupted;
+use cpu_operations::updates::with_pc;
+use cpu_operations::updates::with_status;
 
 // Reset pushes nothing and keeps SP.
-pub fn reset_entry(memory: &[u8], registers: Registers) -> Worked
+pub fn reset_entry(memory: &[u8], registers: CpuRegisters) -> Worked
     ensures { λ r. ⌜ r ≡ resetEntry (now (memory .entry)) registers ⌝ }
 {
     let status = registers.status;
     let masked = with_status(registers, status.sei());
-    let entered = with_pc(masked, bus::vector(memory, RESET_VECTOR));
+    let entered = with_pc(masked, cpu_access::vector(memory, RESET_VECTOR));
     let writes = no_writes();
     Worked {
         registers: entered,
@@ -30,7 +25,7 @@ pub fn reset_entry(memory: &[u8], registers: Registers) -> Worked
 }
 
 // NMI and IRQ, by their vector.
-pub fn interrupt_entry(memory: &[u8], vector: u16, registers: Registers) -> Worked
+pub fn interrupt_entry(memory: &[u8], vector: u16, registers: CpuRegisters) -> Worked
     ensures { λ r. ⌜ r ≡ interruptEntry (now (memory .entry)) vector registers ⌝ }
 {
     let status = registers.status;

@@ -2,24 +2,24 @@
 // of the chip is asked for, and the instruction is worked again once the answer is there.
 ghost use mathlib.Core.Path.{_≡_};
 ghost use Prim.Native.Nat.{_≤_};
-ghost use Rattle.opcodes.specs.Table.{opcodeTable};
-ghost use Rattle.operations.specs.Operations.{accessOf};
-ghost use Rattle.cpu.specs.Instruction.{askWith, outcomeOf, operandByte, operandOf, carriedOut, writesAsked, callOf, executeOf, instructionOf};
-use bus::Bus;
-use bus::Got;
-use bus::Registers;
-use bus::modes::Place;
-use bus::stack::Writes;
-use bus::stack::down;
-use bus::stack::no_writes;
-use opcodes::Decoded;
-use opcodes::Entry;
-use operations::Access;
-use operations::Ended;
-use operations::Operand;
-use operations::Worked;
-use operations::effects;
-use operations::registers;
+ghost use Rattle.cpu_opcodes.specs.Table.{opcodeTable};
+ghost use Rattle.cpu_operations.specs.Operations.{accessOf};
+ghost use Rattle.cpu.specs.Instruction.{askWith, outcomeOf, operandByte, operandOf, carriedOut, writesAsked, subroutineCall, executeOf, instructionOf};
+use cpu_access::Bus;
+use cpu_access::CpuRegisters;
+use cpu_access::Got;
+use cpu_access::modes::Place;
+use cpu_access::stack::Writes;
+use cpu_access::stack::down;
+use cpu_access::stack::no_writes;
+use cpu_opcodes::Decoded;
+use cpu_opcodes::Entry;
+use cpu_operations::Access;
+use cpu_operations::Executed;
+use cpu_operations::Operand;
+use cpu_operations::Worked;
+use cpu_operations::effects;
+use cpu_operations::updates;
 
 pub mod entries; // entries.rt: reset, NMI and IRQ
 pub mod quiet; // quiet.rt: instructions one after the other
@@ -49,14 +49,14 @@ fn ask_with(writes: Writes, bus: Bus) -> Ask
 }
 
 // An instruction that still asks is not done.
-fn outcome_of(writes: Writes, ended: Ended) -> Outcome
-    ensures { λ r. ⌜ r ≡ outcomeOf writes ended ⌝ }
+fn outcome_of(writes: Writes, executed: Executed) -> Outcome
+    ensures { λ r. ⌜ r ≡ outcomeOf writes executed ⌝ }
 {
-    let bus = ended.bus;
+    let bus = executed.bus;
     if bus.missing {
         return Outcome::Asked(ask_with(writes, bus));
     }
-    let worked = ended.worked;
+    let worked = executed.worked;
     Outcome::Done(worked)
 }
 
@@ -98,20 +98,20 @@ fn carried_out(
     memory: &[u8],
     entry: Entry,
     access: Access,
-    registers: Registers,
+    registers: CpuRegisters,
     bus: Bus,
-) -> Ended
+) -> Executed
     requires { ⌜ entry .length ≤ 7 ⌝ }
     requires { ⌜ access ≡ accessOf (entry .operation) ⌝ }
     ensures { λ r. ⌜ r ≡ carriedOut (now (answers .entry)) (now (memory .entry)) entry registers bus ⌝ }
 {
     let operation = entry.operation;
     let mode = entry.mode;
-    let place = bus::modes::locate(answers, memory, mode, registers, bus);
+    let place = cpu_access::modes::locate(answers, memory, mode, registers, bus);
     let got = operand_byte(answers, memory, access, registers.a, place);
     let operand = operand_of(entry.length, place, got);
-    let moved = registers::with_pc(registers, place.pc);
-    operations::work(answers, memory, operation, moved, operand)
+    let moved = updates::with_pc(registers, place.pc);
+    cpu_operations::work(answers, memory, operation, moved, operand)
 }
 
 // The writes that go with JSR's question: none where it is about the low byte, which is read before the pushes.
@@ -125,29 +125,35 @@ fn writes_asked(bus: Bus, writes: Writes) -> Writes
 }
 
 // JSR: the low byte of the target, the pushes, and only then the high byte.
-fn call(answers: &[u8], memory: &[u8], registers: Registers, length: u8, bus: Bus) -> Outcome
-    ensures { λ r. ⌜ r ≡ callOf (now (answers .entry)) (now (memory .entry)) registers length bus ⌝ }
+fn call(answers: &[u8], memory: &[u8], registers: CpuRegisters, length: u8, bus: Bus) -> Outcome
+    ensures { λ r. ⌜ r ≡ subroutineCall (now (answers .entry)) (now (memory .entry)) registers length bus ⌝ }
 {
     let sp = registers.sp;
     let lower = bus.fetch(answers, memory, registers.pc);
     let between = lower.bus;
-    let writes = bus::stack::push_word(sp, lower.pc);
+    let writes = cpu_access::stack::push_word(sp, lower.pc);
     let upper = between.read_after(answers, memory, writes, lower.pc);
     let after = upper.bus;
-    let target = words::word16(upper.value, lower.value);
-    let called = registers::with_pc(registers::with_sp(registers, down(down(sp))), target);
-    let ended = effects::ended_with(called, writes, length, after);
-    outcome_of(writes_asked(between, writes), ended)
+    let target = bits::word16(upper.value, lower.value);
+    let called = updates::with_pc(updates::with_sp(registers, down(down(sp))), target);
+    let executed = effects::executed_with(called, writes, length, after);
+    outcome_of(writes_asked(between, writes), executed)
 }
 
 // A defined opcode; PC stands behind it.
-fn execute(answers: &[u8], memory: &[u8], entry: Entry, registers: Registers, bus: Bus) -> Outcome
+fn execute(
+    answers: &[u8],
+    memory: &[u8],
+    entry: Entry,
+    registers: CpuRegisters,
+    bus: Bus,
+) -> Outcome
     requires { ⌜ entry .length ≤ 7 ⌝ }
     ensures { λ r. ⌜ r ≡ executeOf (now (answers .entry)) (now (memory .entry)) entry registers bus ⌝ }
 {
     let operation = entry.operation;
-    let access = operations::access_of(operation);
-    if operations::calls(access) {
+    let access = cpu_operations::access_of(operation);
+    if cpu_operations::is_call(access) {
         return call(answers, memory, registers, entry.length, bus);
     }
     outcome_of(
@@ -156,8 +162,8 @@ fn execute(answers: &[u8], memory: &[u8], entry: Entry, registers: Registers, bu
     )
 }
 
-// One instruction. `entries` is what `opcodes::opcode_table` gave.
-fn instruction(registers: Registers, answers: &[u8], memory: &[u8], entries: &[u16]) -> Outcome
+// One instruction. `entries` is what `cpu_opcodes::opcode_table` gave.
+fn instruction(registers: CpuRegisters, answers: &[u8], memory: &[u8], entries: &[u16]) -> Outcome
     requires { ⌜ now entries ≡ opcodeTable ⌝ }
     ensures { λ r. ⌜ r ≡ instructionOf registers (now (answers .entry)) (now (memory .entry)) ⌝ }
 {
@@ -166,7 +172,7 @@ fn instruction(registers: Registers, answers: &[u8], memory: &[u8], entries: &[u
     if bus.missing {
         return Outcome::Asked(ask_with(no_writes(), bus));
     }
-    let decoded = opcodes::decode_in(entries, opcode.value);
+    let decoded = cpu_opcodes::decode_in(entries, opcode.value);
     let Decoded::Defined(entry) = decoded else {
         return Outcome::Undefined;
     };
@@ -174,7 +180,7 @@ fn instruction(registers: Registers, answers: &[u8], memory: &[u8], entries: &[u
         answers,
         memory,
         entry,
-        registers::with_pc(registers, opcode.pc),
+        updates::with_pc(registers, opcode.pc),
         bus,
     )
 }

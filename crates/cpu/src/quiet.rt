@@ -2,19 +2,19 @@
 // into that loop, and the registers stay in the host's own.
 ghost use mathlib.Core.Path.{_≡_};
 ghost use Prim.Native.Nat.{_+_, _-_, _≤_};
-ghost use Rattle.opcodes.specs.Table.{opcodeTable};
+ghost use Rattle.cpu_opcodes.specs.Table.{opcodeTable};
 ghost use Rattle.cpu.specs.Instruction.{instructionOf};
-ghost use Rattle.cpu.specs.Quiet.{Room, nextWork, Quietly};
+ghost use Rattle.cpu.specs.Quiet.{WithinSpan, nextWork, Quietly};
 use crate::Outcome;
 use crate::instruction;
-use bus::Registers;
 use counters::time::Clocks;
-use operations::Worked;
+use cpu_access::CpuRegisters;
+use cpu_operations::Worked;
 
 // The CPU at work in a span: its registers, the clocks that its last instruction still takes, the clocks gone since the span began, and
 // the leaps done in it.
 pub struct Work {
-    pub registers: Registers,
+    pub registers: CpuRegisters,
     pub wait: u8,
     pub gone: Clocks,
     pub leaps: u32,
@@ -26,13 +26,6 @@ pub struct Stopped {
     pub outcome: Outcome,
 }
 
-// The clocks that an instruction takes after the one that it starts on.
-fn rest_of(length: u8) -> u8
-    ensures { λ r. ⌜ r ≡ length - 1 ⌝ }
-{
-    if length == 0 { 0 } else { length - 1 }
-}
-
 // An instruction more.
 pub fn next_work(w: Work, worked: Worked) -> Work
     requires { ⌜ (w .gone .0 + w .wait + 1 ≤ 4294967295) × (w .leaps + 1 ≤ 4294967295) ⌝ }
@@ -41,22 +34,22 @@ pub fn next_work(w: Work, worked: Worked) -> Work
     let registers = worked.registers;
     Work {
         registers: registers,
-        wait: rest_of(worked.length),
+        wait: bits::one_less(worked.length),
         gone: Clocks(w.gone.0 + w.wait as u32 + 1),
         leaps: w.leaps + 1,
     }
 }
 
 // Instructions that write nothing, as long as they start within the span; and the outcome of the one that comes next. `entries` is
-// what `opcodes::opcode_table` gave.
-pub fn quiet_on(
+// what `cpu_opcodes::opcode_table` gave.
+pub fn run_instructions(
     start: Work,
     span: Clocks,
     answers: &[u8],
     memory: &[u8],
     entries: &[u16],
 ) -> Stopped
-    requires { ⌜ Room start (span .0) ⌝ }
+    requires { ⌜ WithinSpan start (span .0) ⌝ }
     requires { ⌜ now entries ≡ opcodeTable ⌝ }
     ensures { λ r. ⌜ Quietly (span .0) (now (answers .entry)) (now (memory .entry)) start (r .at) ⌝ }
     ensures { λ r. ⌜ r .outcome ≡ instructionOf (r .at .registers) (now (answers .entry)) (now (memory .entry)) ⌝ }
@@ -91,7 +84,12 @@ pub fn quiet_on(
 }
 
 // One instruction. None starts within a span of no clocks.
-pub fn one_outcome(registers: Registers, answers: &[u8], memory: &[u8], entries: &[u16]) -> Outcome
+pub fn one_outcome(
+    registers: CpuRegisters,
+    answers: &[u8],
+    memory: &[u8],
+    entries: &[u16],
+) -> Outcome
     requires { ⌜ now entries ≡ opcodeTable ⌝ }
     ensures { λ r. ⌜ r ≡ instructionOf registers (now (answers .entry)) (now (memory .entry)) ⌝ }
 {
@@ -101,6 +99,6 @@ pub fn one_outcome(registers: Registers, answers: &[u8], memory: &[u8], entries:
         gone: Clocks(0),
         leaps: 0,
     };
-    let stopped = quiet_on(start, Clocks(0), answers, memory, entries);
+    let stopped = run_instructions(start, Clocks(0), answers, memory, entries);
     stopped.outcome
 }

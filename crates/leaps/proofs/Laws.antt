@@ -3,12 +3,12 @@ use mathlib.Core.Path.{_≡_, refl, sym, ap, ap₂, _∙_, subst}
 use mathlib.Core.Bool.{Bool, true, false, cond, _&&_, false≢true}
 use mathlib.Core.List.{List, [], _∷_}
 use Prim.Native.Nat.{ℕ, zero, suc, _+_, _-_, _<_, _≤_, min}
-use native.Mathlib.Nat.{zero-add, add-zero, suc-add}
+use native.Mathlib.Nat.{zero-add, add-zero, add-assoc, suc-add}
 use native.Mathlib.Omega.{arith}
-use lib.Dec.{ltb}
-use borrow.Author.Tests.{ltb-true, ltb-false, lt-ltb, le-ltb}
-use Rattle.words.proofs.Cond.{and-left, and-right, digit-not}
-use Rattle.leaps.specs.Leaps.{System, eventsIn, quietEnd, plains, leapOf, movedOf, leftAfter, leapsOf, run, trail, leapCount, leadingQuiet}
+use lib.Dec.{ltb, eqb}
+use borrow.Author.Tests.{ltb-true, ltb-false, lt-ltb, le-ltb, eqb-true, eqb-false}
+use Rattle.bits.proofs.Cond.{and-left, and-right, digit-not}
+use Rattle.leaps.specs.Leaps.{System, eventsIn, quietEnd, plains, leapOf, movedOf, leftAfter, leapsOf, run, trace, leapCount, leadingQuiet, ByLeaps, no-leap, one-more}
 
 -- what is asked of a machine
 pub record Lawful {W : Type 0} (S : System W) : Type 0 where
@@ -201,61 +201,123 @@ module _ {W : Type 0} (S : System W) (L : Lawful S) where
           run-leap 1 w (omega arith) z ∙ rw (leap, none, run-over 0 (S .plain w) refl, add-zero)
       still false z = run-over 1 w (rw z) ∙ rw (L .stopped-plain w z, moved-by 0 w w (omega arith))
 
+  pub leap-through : (n : ℕ) (w : W) → S .gap n w < n → leapOf S n w ≡ S .plain (S .pass (S .gap n w) w)
+  unfolding leapOf
+  leap-through n w h = rw (lt-ltb (S .gap n w) n h)
+
+  -- whole leaps done: the run of what is left, and its leaps and these, are the run
+  pub by-leaps-run : {n : ℕ} {w : W} {k m : ℕ} {v : W} → ByLeaps S n w k m v
+      → run S n w ≡ record { world = run S m v .world; leaps = k + run S m v .leaps }
+  by-leaps-run no-leap = rw zero-add
+  by-leaps-run {n} {w} (one-more {k} {m} {v} before on some reached) =
+      let leap : leapOf S m v ≡ S .plain (S .pass (S .gap m v) v) = leap-through m v some in
+      let moved : movedOf S v (leapOf S m v) ≡ 1 =
+      moved-later v (leapOf S m v) (rw leap (omega (arith, L .done-clock (S .pass (S .gap m v) v) reached, L .pass-clock (S .gap m v) v))) in
+      by-leaps-run before ∙ rw (run-leap m v (omega arith) on, moved, add-assoc)
+
+  -- a whole leap ends past the event clock that it began before
+  leap-far : (m : ℕ) (v : W) → S .gap m v < m → S .done (S .pass (S .gap m v) v) ≡ true → S .clock v + S .gap m v < S .clock (leapOf S m v)
+  leap-far m v some reached =
+      rw (leap-through m v some) (omega (arith, L .done-clock (S .pass (S .gap m v) v) reached, L .pass-clock (S .gap m v) v))
+
+  -- as many leaps from one start lead to one world
+  same-leaps : {n : ℕ} {w : W} {k m k' m' : ℕ} {v v' : W} → ByLeaps S n w k m v → ByLeaps S n w k' m' v' → k ≡ k' → (m ≡ m') × (v ≡ v')
+  same-leaps no-leap no-leap e = (refl, refl)
+  same-leaps no-leap (one-more b on some reached) e = absurd (omega (arith, e))
+  same-leaps (one-more a on some reached) no-leap e = absurd (omega (arith, e))
+  same-leaps (one-more {k} {m} {v} a on some reached) (one-more {k = j} {m = i} {v = u} b on' some' reached') e =
+      let s = same-leaps a b (omega (arith, e)) in
+      (ap₂ (leftAfter S) (s .0) (s .1), ap₂ (leapOf S) (s .0) (s .1))
+
+  -- and more leaps lead past the next event clock
+  more-leaps : {n : ℕ} {w : W} {k m k' m' : ℕ} {v v' : W} → ByLeaps S n w k m v → ByLeaps S n w k' m' v' → k < k'
+      → S .clock v + S .gap m v < S .clock v'
+  more-leaps first no-leap h = absurd (omega (arith, h))
+  more-leaps {n} {w} {k} {m} {k'} {m'} {v} {v'} first (one-more {k = j} {m = i} {v = u} before on some reached) h =
+      by-test (eqb k j) refl (λ less. more-leaps first before less)
+    where
+      by-test : (t : Bool) → eqb k j ≡ t → (k < j → S .clock v + S .gap m v < S .clock u) → S .clock v + S .gap m v < S .clock (leapOf S i u)
+      by-test true e earlier =
+          let s = same-leaps first before (eqb-true k j e) in
+          let clock : S .clock v ≡ S .clock u = ap (S .clock) (s .1) in
+          let gap : S .gap m v ≡ S .gap i u = ap₂ (S .gap) (s .0) (s .1) in
+          omega (arith, clock, gap, leap-far i u some reached)
+      by-test false e earlier =
+          let other = eqb-false k j e in
+          omega (arith, earlier (omega (arith, h)), leap-far i u some reached)
+
+  -- So no world inside a gap is reached by leaps: single clocks of a gap, walked, cannot stand in the place of one, counted or not.
+  pub inside-no-leap : {n : ℕ} {w : W} {k m k' m' : ℕ} {v : W} → ByLeaps S n w k m v → (g : ℕ) → 0 < g → g ≤ S .gap m v
+      → ByLeaps S n w k' m' (S .pass g v) → ⊥
+  inside-no-leap {n} {w} {k} {m} {k'} {m'} {v} first g some inside walked = by-more (ltb k k') refl
+    where
+      by-same : (t : Bool) → eqb k' k ≡ t → k' ≤ k → ⊥
+      by-same true e h =
+          let clock : S .clock (S .pass g v) ≡ S .clock v = ap (S .clock) (same-leaps walked first (eqb-true k' k e) .1) in
+          omega (arith, clock, L .pass-clock g v)
+      by-same false e h =
+          let other = eqb-false k' k e in
+          omega (arith, more-leaps walked first (omega arith), L .pass-clock g v)
+
+      by-more : (t : Bool) → ltb k k' ≡ t → ⊥
+      by-more true e = omega (arith, more-leaps first walked (ltb-true k k' e), L .pass-clock g v)
+      by-more false e = by-same (eqb k' k) refl (ltb-false k k' e)
+
   -- ---- the count of leaps
 
-  pub trail-done : (n : ℕ) (w : W) → S .done w ≡ true → trail S (suc n) w ≡ S .event w ∷ trail S n (S .plain w)
-  unfolding trail
-  trail-done n w e = rw (e, trail)
+  pub trace-done : (n : ℕ) (w : W) → S .done w ≡ true → trace S (suc n) w ≡ S .event w ∷ trace S n (S .plain w)
+  unfolding trace
+  trace-done n w e = rw (e, trace)
 
-  pub trail-undone : (n : ℕ) (w : W) → S .done w ≡ false → trail S n w ≡ []
-  unfolding trail
-  trail-undone zero w e = refl
-  trail-undone (suc n) w e = rw (e, trail)
+  pub trace-undone : (n : ℕ) (w : W) → S .done w ≡ false → trace S n w ≡ []
+  unfolding trace
+  trace-undone zero w e = refl
+  trace-undone (suc n) w e = rw (e, trace)
 
-  trail-stopped : (n : ℕ) (w : W) → S .running w ≡ false → trail S n w ≡ []
-  trail-stopped n w e = trail-undone n w (L .stopped-done w e)
+  trace-stopped : (n : ℕ) (w : W) → S .running w ≡ false → trace S n w ≡ []
+  trace-stopped n w e = trace-undone n w (L .stopped-done w e)
 
-  trail-pass : (g m n : ℕ) (w : W) → S .running w ≡ true → g ≤ S .gap n w → trail S (g + m) w ≡ quiets g (trail S m (S .pass g w))
-  trail-pass zero m n w z h = rw (zero-add, L .pass-zero)
-  trail-pass (suc g) m n w z h =
+  trace-pass : (g m n : ℕ) (w : W) → S .running w ≡ true → g ≤ S .gap n w → trace S (g + m) w ≡ quiets g (trace S m (S .pass g w))
+  trace-pass zero m n w z h = rw (zero-add, L .pass-zero)
+  trace-pass (suc g) m n w z h =
       let p : S .plain w ≡ S .pass 1 w = L .quiet-plain n w z (omega arith) in
-      let r : trail S (g + m) (S .plain w) ≡ quiets g (trail S m (S .pass (suc g) w)) =
-      ap (λ (v : W). trail S (g + m) v) p
-      ∙ trail-pass g m (n - 1) (S .pass 1 w) (L .pass-running 1 w ∙ z) (omega (arith, L .gap-passed 1 n w))
-      ∙ ap (λ (v : W). quiets g (trail S m v)) (L .pass-add 1 g w ∙ ap (λ (k : ℕ). S .pass k w) (omega arith)) in
+      let r : trace S (g + m) (S .plain w) ≡ quiets g (trace S m (S .pass (suc g) w)) =
+      ap (λ (v : W). trace S (g + m) v) p
+      ∙ trace-pass g m (n - 1) (S .pass 1 w) (L .pass-running 1 w ∙ z) (omega (arith, L .gap-passed 1 n w))
+      ∙ ap (λ (v : W). quiets g (trace S m v)) (L .pass-add 1 g w ∙ ap (λ (k : ℕ). S .pass k w) (omega arith)) in
       rw suc-add
-      (trail-done (g + m) w (L .quiet-done n w z (omega arith))
+      (trace-done (g + m) w (L .quiet-done n w z (omega arith))
       ∙ ap₂ (λ (c : Bool) (l : List Bool). c ∷ l) (L .quiet-event n w (omega arith)) r)
 
   -- a leap of gap g to `v` that reaches its event clock, after which m clocks are left
-  count-reached : (g m : ℕ) (w v : W) → trail S (g + suc m) w ≡ quiets g (trail S (suc m) v) → S .event v ≡ true
+  count-reached : (g m : ℕ) (w v : W) → trace S (g + suc m) w ≡ quiets g (trace S (suc m) v) → S .event v ≡ true
       → S .clock v ≡ S .clock w + g → leapCount S (g + suc m) w ≡ movedOf S w (S .plain v) + leapCount S m (S .plain v)
   unfolding leapCount eventsIn quietEnd
   count-reached g m w v t e k = rw t (ends (S .done v) refl)
     where
       ends : (b : Bool) → S .done v ≡ b
-          → eventsIn (quiets g (trail S (suc m) v)) + quietEnd (quiets g (trail S (suc m) v))
-          ≡ movedOf S w (S .plain v) + (eventsIn (trail S m (S .plain v)) + quietEnd (trail S m (S .plain v)))
+          → eventsIn (quiets g (trace S (suc m) v)) + quietEnd (quiets g (trace S (suc m) v))
+          ≡ movedOf S w (S .plain v) + (eventsIn (trace S m (S .plain v)) + quietEnd (trace S m (S .plain v)))
       ends true d =
           let h = L .done-clock v d in
-          rw (trail-done m v d, e, moved-later w (S .plain v) (omega arith), events-quiets, end-quiets, end-event) (omega arith)
+          rw (trace-done m v d, e, moved-later w (S .plain v) (omega arith), events-quiets, end-quiets, end-event) (omega arith)
       ends false d =
           let h = L .undone-clock v d in
-          rw (trail-undone (suc m) v d, trail-stopped m (S .plain v) (L .undone-stops v d), moved-by g w (S .plain v) (omega arith), events-quiets, end-all)
+          rw (trace-undone (suc m) v d, trace-stopped m (S .plain v) (L .undone-stops v d), moved-by g w (S .plain v) (omega arith), events-quiets, end-all)
           (omega arith)
 
   -- a leap that reaches the end of the run
-  count-end : (g : ℕ) (w v : W) → trail S (g + 0) w ≡ quiets g (trail S 0 v) → leapCount S (g + 0) w ≡ min 1 g
-  unfolding leapCount trail eventsIn
+  count-end : (g : ℕ) (w v : W) → trace S (g + 0) w ≡ quiets g (trace S 0 v) → leapCount S (g + 0) w ≡ min 1 g
+  unfolding leapCount trace eventsIn
   count-end g w v t = rw (t, events-quiets, end-all) (omega arith)
 
   count-none : (n : ℕ) (w : W) → n ≡ 0 → leapCount S n w ≡ 0
-  unfolding leapCount trail eventsIn quietEnd
+  unfolding leapCount trace eventsIn quietEnd
   count-none n w z = rw z (omega arith)
 
   count-stopped : (n : ℕ) (w : W) → S .running w ≡ false → leapCount S n w ≡ 0
   unfolding leapCount eventsIn quietEnd
-  count-stopped n w e = rw (trail-stopped n w e) (omega arith)
+  count-stopped n w e = rw (trace-stopped n w e) (omega arith)
 
   count-over : (n : ℕ) (w : W) → (ltb 0 n && S .running w) ≡ false → leapCount S n w ≡ 0
   count-over n w e = still (S .running w) refl
@@ -266,14 +328,14 @@ module _ {W : Type 0} (S : System W) (L : Lawful S) where
 
   -- one clock, whatever the gap says
   pub count-one : (w : W) → leapCount S 1 w ≡ movedOf S w (S .plain w)
-  unfolding leapCount trail eventsIn quietEnd
+  unfolding leapCount trace eventsIn quietEnd
   count-one w = ends (S .done w) refl
     where
       ends : (b : Bool) → S .done w ≡ b → leapCount S 1 w ≡ movedOf S w (S .plain w)
       ends true d =
           let h = L .done-clock w d in
-          rw (moved-later w (S .plain w) (omega arith), d, trail) (omega (arith, digit-not (S .event w)))
-      ends false d = rw (moved-by 0 w (S .plain w) (L .undone-clock w d ∙ omega arith), d, trail) (omega arith)
+          rw (moved-later w (S .plain w) (omega arith), d, trace) (omega (arith, digit-not (S .event w)))
+      ends false d = rw (moved-by 0 w (S .plain w) (L .undone-clock w d ∙ omega arith), d, trace) (omega arith)
 
   -- What is owed besides, of the worlds that a run meets: with a clock left and no gap, the next clock is an event clock.
   module _ (Inv : W → Type 0) (kept : (w : W) → Inv w → Inv (S .plain w))
@@ -306,12 +368,12 @@ module _ {W : Type 0} (S : System W) (L : Lawful S) where
             let j : Inv v = subst Inv (plains-pass g n w z (omega arith)) (plains-kept g w i) in
             let event = gap-event (n - g) v j (omega arith) (L .gap-passed g n w ∙ omega arith) in
             ap (λ (m : ℕ). leapCount S m w) k
-            ∙ count-reached g (n - (g + 1)) w v (trail-pass g (suc (n - (g + 1))) n w z (omega arith)) event (L .pass-clock g w)
+            ∙ count-reached g (n - (g + 1)) w v (trace-pass g (suc (n - (g + 1))) n w z (omega arith)) event (L .pass-clock g w)
         reached false e =
             let h = ltb-false g n e in
             let k : n ≡ g + 0 = omega (arith, L .gap-le n w) in
             ap (λ (m : ℕ). leapCount S m w) k
-            ∙ count-end g w v (trail-pass g 0 n w z (omega arith))
+            ∙ count-end g w v (trace-pass g 0 n w z (omega arith))
             ∙ omega (arith, moved-by g w v (L .pass-clock g w), count-none (n - (g + 1)) v (omega arith))
 
     leaps-count : (most n : ℕ) (w : W) → n ≤ most → Inv w → leapsOf S most n w .leaps ≡ leapCount S n w
@@ -335,17 +397,17 @@ module _ {W : Type 0} (S : System W) (L : Lawful S) where
     run-count n w i = leaps-count n n w (omega arith) i
 
     -- with no gap the first clock, if it is done, is an event clock
-    no-leading : (m : ℕ) (v : W) → Inv v → S .gap m v ≡ 0 → leadingQuiet (trail S m v) ≡ 0
-    unfolding leadingQuiet trail
+    no-leading : (m : ℕ) (v : W) → Inv v → S .gap m v ≡ 0 → leadingQuiet (trace S m v) ≡ 0
+    unfolding leadingQuiet trace
     no-leading zero v i e = refl
     no-leading (suc m) v i e = by-done (S .done v) refl
       where
-        by-done : (d : Bool) → S .done v ≡ d → leadingQuiet (trail S (suc m) v) ≡ 0
-        by-done true d = rw (trail-done m v d, gap-event (suc m) v i (omega arith) e)
-        by-done false d = rw (trail-undone (suc m) v d)
+        by-done : (d : Bool) → S .done v ≡ d → leadingQuiet (trace S (suc m) v) ≡ 0
+        by-done true d = rw (trace-done m v d, gap-event (suc m) v i (omega arith) e)
+        by-done false d = rw (trace-undone (suc m) v d)
 
     -- "the gap (clocks before the next event clock, at most those left)"
-    pub gap-leads : (n : ℕ) (w : W) → Inv w → S .running w ≡ true → S .gap n w ≡ leadingQuiet (trail S n w)
+    pub gap-leads : (n : ℕ) (w : W) → Inv w → S .running w ≡ true → S .gap n w ≡ leadingQuiet (trace S n w)
     gap-leads n w i z =
         let g = S .gap n w in
         let v = S .pass g w in
@@ -353,5 +415,5 @@ module _ {W : Type 0} (S : System W) (L : Lawful S) where
         let j : Inv v = subst Inv (plains-pass g n w z (omega arith)) (plains-kept g w i) in
         let none : S .gap (n - g) v ≡ 0 = L .gap-passed g n w ∙ omega arith in
         let whole : n ≡ g + (n - g) = omega arith in
-        let shape : trail S n w ≡ quiets g (trail S (n - g) v) = ap (λ (k : ℕ). trail S k w) whole ∙ trail-pass g (n - g) n w z (omega arith) in
-        sym (ap leadingQuiet shape ∙ leading-quiets g (trail S (n - g) v) ∙ ap (λ (k : ℕ). g + k) (no-leading (n - g) v j none) ∙ add-zero g)
+        let shape : trace S n w ≡ quiets g (trace S (n - g) v) = ap (λ (k : ℕ). trace S k w) whole ∙ trace-pass g (n - g) n w z (omega arith) in
+        sym (ap leadingQuiet shape ∙ leading-quiets g (trace S (n - g) v) ∙ ap (λ (k : ℕ). g + k) (no-leading (n - g) v j none) ∙ add-zero g)

@@ -1,11 +1,12 @@
 -- Document 01, "Run and leaps", of any machine that goes clock by clock: plain clocks, one leap, the run, and the count of its leaps.
+use mathlib.Core.Path.{_≡_}
 use mathlib.Core.Bool.{Bool, true, false, _&&_, not, cond}
 use mathlib.Core.List.{List, [], _∷_}
-use Prim.Native.Nat.{ℕ, zero, suc, _+_, _-_}
+use Prim.Native.Nat.{ℕ, zero, suc, _+_, _-_, _<_}
 use lib.Dec.{ltb}
-use Rattle.words.specs.Bits.{digit}
+use Rattle.bits.specs.Bits.{digit}
 
--- A machine as its leaps see it. `W` is its world: all that a clock reads, changes or counts.
+-- What leaps ask of a machine. `W` is its world: all that a clock reads, changes or counts.
 pub record System (W : Type 0) : Type 0 where
   -- one plain clock; "Each, after a stop, does nothing."
   pub plain : W → W
@@ -77,10 +78,17 @@ module _ {W : Type 0} (S : System W) where
   run n w = leapsOf n n w
 
   -- the clocks done of n plain ones, first clock first: of each, whether it is an event clock
-  unfoldable pub trail : ℕ → W → List Bool
-  trail zero w = []
-  trail (suc n) w = elim (S .done w) [ true ↦ S .event w ∷ trail n (S .plain w) | false ↦ [] ]
+  unfoldable pub trace : ℕ → W → List Bool
+  trace zero w = []
+  trace (suc n) w = elim (S .done w) [ true ↦ S .event w ∷ trace n (S .plain w) | false ↦ [] ]
 
   -- "Leaps = event clocks done, plus 1 if the last clock done isn't an event clock; 0 if no clock is done."
   unfoldable pub leapCount : ℕ → W → ℕ
-  leapCount n w = eventsIn (trail n w) + quietEnd (trail n w)
+  leapCount n w = eventsIn (trace n w) + quietEnd (trace n w)
+
+-- `v`, with m clocks left, is reached from `w`, with n left, by so many whole leaps: each has a clock left and nothing stopped, its gap ends
+-- before the clocks left do, and its event clock is done.
+pub data ByLeaps {W : Type 0} (S : System W) (n : ℕ) (w : W) : ℕ → ℕ → W → Type 0 where
+  no-leap : ByLeaps S n w 0 n w
+  one-more : {k m : ℕ} {v : W} → ByLeaps S n w k m v → S .running v ≡ true → S .gap m v < m → S .done (S .pass (S .gap m v) v) ≡ true
+      → ByLeaps S n w (k + 1) (leftAfter S m v) (leapOf S m v)

@@ -1,1 +1,5 @@
 pub mod Leaps
+pub mod Chip
+pub mod World
+pub mod Lists
+pub mod Calls

@@ -1,2 +1,1 @@
-pub mod PinLists
 pub mod Refusals

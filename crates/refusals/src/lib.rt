@@ -1,18 +1,15 @@
-// What a call checks before anything else (document 01, "What is handed back", 1 to 5).
-
-// The rule of a pin list, and the inputs of one clock.
-pub mod pins;
-
+// What a call checks before anything else (document 01, "What is handed back", 1 to 5), of any chip.
 ghost use mathlib.Core.Path.{_≡_};
 ghost use Prim.Native.Nat.{_+_};
 ghost use lib.Dec.{ltb};
 ghost use Rattle.refusals.specs.Refusals.{lastClock, refusalOf};
-use chip::state::State;
-use chip::state::well_formed;
-use pins::pins_right;
+use pin_lists::pins_right;
 
-// The bytes of a memory.
-const MEMORY_SPAN: usize = 65536;
+// What chips differ in: the bytes of a memory, and the last pin.
+pub struct Limits {
+    pub memory: usize,
+    pub pin: u8,
+}
 
 // The last clock.
 const LAST_CLOCK: u32 = 4294967295;
@@ -24,9 +21,12 @@ fn passes_last(clock: u32, n: u32) -> bool
     LAST_CLOCK - clock < n
 }
 
-// The number of the first check that fails, or 0. `span` is the memory's length; `times` and `words` are those of the output lists.
+// The number of the first check that fails, or 0: of a state that is well-formed or not and is at this clock, a memory of `span` bytes,
+// the input lists, output lists of `times` and `words` entries, and n clocks.
 pub fn refusal(
-    state: State,
+    limits: Limits,
+    formed: bool,
+    clock: u32,
     span: usize,
     clocks: &[u32],
     codes: &[u8],
@@ -34,23 +34,22 @@ pub fn refusal(
     words: usize,
     n: u32,
 ) -> u8
-    ensures { λ r. ⌜ r ≡ refusalOf state span (now (clocks .entry)) (now (codes .entry)) times words n ⌝ }
+    ensures { λ r. ⌜ r ≡ refusalOf limits formed clock span (now (clocks .entry)) (now (codes .entry)) times words n ⌝ }
 {
-    let malformed = !well_formed(state);
     let unpaired = (clocks.len() != codes.len()) | (times != words);
-    if span != MEMORY_SPAN {
+    if span != limits.memory {
         return 1;
     }
-    if malformed {
+    if !formed {
         return 2;
     }
     if unpaired {
         return 3;
     }
-    if passes_last(state.clock, n) {
+    if passes_last(clock, n) {
         return 4;
     }
-    if !pins_right(state.clock, clocks, codes) {
+    if !pins_right(limits.pin, clock, clocks, codes) {
         return 5;
     }
     0

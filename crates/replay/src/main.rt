@@ -2,8 +2,8 @@
 // `clock WORD` for each record, then `end K S`: K clocks done, and S the number that ended them or refused the tape, or 0.
 use libc::STDIN_FILENO;
 use libc::STDOUT_FILENO;
-use replaying::TEXT_LENGTH;
-use replaying::replay;
+use replay_text::TEXT_LENGTH;
+use replay_text::replay;
 
 // The most characters of a tape; what follows them is not read.
 const TAPE_LENGTH: usize = 16384;

@@ -2,7 +2,7 @@
 use mathlib.Core.Path.{_≡_, refl}
 use mathlib.Core.Bool.{Bool, true, false, cond}
 use Prim.Native.Nat.{ℕ, zero, suc}
-use Rattle.words.specs.Bits.{withBit, setWhere}
+use Rattle.bits.specs.Bits.{withBit, setWhere}
 use Rattle.counters.specs.declared.a.CounterA.{CounterA}
 use Rattle.counters.specs.declared.a.CountedA.{CountedA}
 use Rattle.counters.specs.Counters.{clockA, countsA, downA, ticksOf, inForce}
@@ -11,7 +11,7 @@ use Rattle.serial.specs.declared.receiver.Receiver.{Receiver}
 use Rattle.serial.specs.declared.receiver.Receiving.{Receiving}
 use Rattle.serial.specs.Format.{transmitterMoves, receiverMoves, holdsA, frameBits}
 use Rattle.serial.specs.Transmitter.{sending, transmitterClock, sendTick, idleTick, bitTick, frameEnd, taken, framed, idleTransmitter}
-use Rattle.serial.specs.Receiver.{receiverClock, receiveTick, looked, hunted, receiving}
+use Rattle.serial.specs.Receiver.{receiverClock, receiveTick, looked, startDetected, receiving}
 
 -- counter A with its latch, and the transmitter that it drives
 pub record Driven : Type 0 where
@@ -57,5 +57,5 @@ heardFor (suc n) sccr high r =
 pub p6 : (register scsr received : ℕ) →
     let r : Receiver = record { subinterval = 0; half = false; left = 0; register = register } in
     heardFor 2 0x40 true (heardFor 2 0x40 false (receiving r scsr received)) ≡ receiving r scsr received
-unfolding ticksOf receiverClock receiverMoves receiveTick looked hunted
+unfolding ticksOf receiverClock receiverMoves receiveTick looked startDetected
 p6 register scsr received = refl

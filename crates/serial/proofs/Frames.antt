@@ -9,13 +9,13 @@ use lib.Pow.{pow-pos, pow-mono}
 use lib.Bits.{bitXor}
 use lib.Dec.{T, eqb, eqb→eq}
 use lib.ListN.{length, length-append}
-use Rattle.words.specs.Bits.{bit, digit}
-use Rattle.words.specs.Lists.{bitsOf, number, oddOnes, allOf, tabulate}
-use Rattle.words.proofs.Cond.{both-left, both-right, equal, digit-le, cond-both}
-use Rattle.words.proofs.Tables.{below, below2, length-tabulate, upTo}
-use Rattle.words.proofs.Numbers.{number-append}
+use Rattle.bits.specs.Bits.{bit, digit}
+use Rattle.bits.specs.Lists.{bitsOf, number, oddOnes, allOf, tabulate}
+use Rattle.bits.proofs.Cond.{both-left, both-right, equal, digit-le, cond-both}
+use Rattle.bits.proofs.Tables.{below, below2, length-tabulate, upTo}
+use Rattle.bits.proofs.Numbers.{number-append}
 use Rattle.serial.specs.Format.{width, hasParity, parityBit, dataBits, ending, frameBits}
-use Rattle.serial.specs.Receiver.{byteOf}
+use Rattle.serial.specs.Receiver.{receivedByte}
 
 pub span-pos : (sccr : ℕ) → 0 < 2 ^ width sccr
 span-pos sccr = pow-pos (width sccr)
@@ -96,8 +96,8 @@ pub frame-le : (b e p : ℕ) → 0 < p → p ≤ 256 → e ≤ 3 → (b % p + p 
 frame-le b e p h k l = omega (arith, mod-lt b h, mul-le-mul k l)
 
 -- the parity of a received byte is that of its data bits
-pub parity-byte : (sccr register : ℕ) → parityBit sccr (bitsOf 8 (byteOf sccr register)) ≡ parityBit sccr (dataBits sccr (byteOf sccr register))
-unfolding parityBit byteOf
+pub parity-byte : (sccr register : ℕ) → parityBit sccr (bitsOf 8 (receivedByte sccr register)) ≡ parityBit sccr (dataBits sccr (receivedByte sccr register))
+unfolding parityBit receivedByte
 parity-byte sccr register =
     let x = register / 2 ^ (10 - digit (hasParity sccr) - width sccr) in
     let o = odd-data sccr (x % 2 ^ width sccr) (data-lt sccr x) in

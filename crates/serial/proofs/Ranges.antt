@@ -9,18 +9,18 @@ use lib.Dec.{leb, ltb, eqb}
 use lib.Pow.{pow-mono}
 use lib.ListN.{length}
 use borrow.Author.Tests.{leb-true, ltb-true, le-leb, lt-ltb, ltb-false, leb-false, eqb-false}
-use Rattle.words.specs.Bits.{bit, digit, withBit}
-use Rattle.words.specs.Lists.{number}
-use Rattle.words.proofs.Cond.{and-left, and-right, and-both, cond-both, digit-le}
-use Rattle.words.proofs.Numbers.{number-lt}
+use Rattle.bits.specs.Bits.{bit, digit, withBit}
+use Rattle.bits.specs.Lists.{number}
+use Rattle.bits.proofs.Cond.{and-left, and-right, and-both, cond-both, digit-le}
+use Rattle.bits.proofs.Numbers.{number-lt}
 use Rattle.counters.specs.declared.time.Ticks.{Ticks}
 use Rattle.serial.specs.declared.transmitter.Transmitter.{Transmitter}
 use Rattle.serial.specs.declared.transmitter.Sending.{Sending}
 use Rattle.serial.specs.declared.receiver.Receiver.{Receiver}
 use Rattle.serial.specs.declared.receiver.Receiving.{Receiving}
 use Rattle.serial.specs.Format.{transmitterMoves, receiverMoves, width, hasParity, frameBits}
-use Rattle.serial.specs.Transmitter.{transmitterFits, sending, framed, taken, idleTick, frameEnd, bitTick, sendTick, transmitterClock, raised, shiftedDown, transmitterUnder, idleTransmitter}
-use Rattle.serial.specs.Receiver.{receiverFits, receiving, atSub, atHalf, started, shiftedIn, hunted, judged, gathered, looked, receiveTick, receiverClock, receiverUnder, idleReceiver}
+use Rattle.serial.specs.Transmitter.{transmitterFits, sending, framed, taken, idleTick, frameEnd, bitTick, sendTick, transmitterClock, raised, shiftedDown, transmitterWithSccr, idleTransmitter}
+use Rattle.serial.specs.Receiver.{receiverFits, receiving, atSub, atHalf, started, shiftedIn, startDetected, frameEnded, lookTaken, looked, receiveTick, receiverClock, receiverWithSccr, idleReceiver}
 use Rattle.serial.proofs.Frames.{frame-length}
 
 -- the ranges as facts
@@ -83,8 +83,8 @@ transmitter-clock-fits t ticks sccr scsr byte e =
     fits-transmitter _ (cond-both SendingIn (not (eqb (ticks .0) 0) && transmitterMoves sccr) (sendTick t sccr scsr byte) (sending t scsr)
     (λ _. tick-in t sccr scsr byte (in-transmitter t e)) (λ _. in-transmitter t e))
 
-pub transmitter-under-fits : (sccr : ℕ) (t : Transmitter) → transmitterFits t ≡ true → transmitterFits (transmitterUnder sccr t) ≡ true
-unfolding transmitterUnder
+pub transmitter-under-fits : (sccr : ℕ) (t : Transmitter) → transmitterFits t ≡ true → transmitterFits (transmitterWithSccr sccr t) ≡ true
+unfolding transmitterWithSccr
 transmitter-under-fits sccr t e = cond-both (λ (u : Transmitter). transmitterFits u ≡ true) (transmitterMoves sccr) t idleTransmitter (λ _. e) (λ _. refl)
 
 pub record InReceiver (r : Receiver) : Type 0 where
@@ -105,9 +105,9 @@ fits-receiver r i = and-both _ _ (and-both _ _ (le-leb _ _ (i .subinterval)) (le
 abbrev ReceivingIn : Receiving → Type 0
 ReceivingIn s = InReceiver (s .receiver)
 
-hunted-in : (r : Receiver) (sccr : ℕ) (high : Bool) → InReceiver r → InReceiver (hunted r sccr high)
-unfolding hunted
-hunted-in r sccr high i =
+startDetected-in : (r : Receiver) (sccr : ℕ) (high : Bool) → InReceiver r → InReceiver (startDetected r sccr high)
+unfolding startDetected
+startDetected-in r sccr high i =
     cond-both InReceiver high (atSub r 0) (cond (ltb (r .subinterval) 3) (atSub r (r .subinterval + 1)) (started r sccr))
     (λ _. record { subinterval = omega arith; left = i .left; register = i .register })
     (λ _. cond-both InReceiver (ltb (r .subinterval) 3) (atSub r (r .subinterval + 1)) (started r sccr)
@@ -119,20 +119,20 @@ shifted-in r high i =
     let l = i .left in let g = i .register in let d = digit-le high in
     record { subinterval = omega arith; left = omega arith; register = omega arith }
 
-gathered-in : (r : Receiver) (sccr scsr received : ℕ) (high : Bool) → InReceiver r → ReceivingIn (gathered r sccr scsr received high)
-unfolding gathered judged
-gathered-in r sccr scsr received high i =
+lookTaken-in : (r : Receiver) (sccr scsr received : ℕ) (high : Bool) → InReceiver r → ReceivingIn (lookTaken r sccr scsr received high)
+unfolding lookTaken frameEnded
+lookTaken-in r sccr scsr received high i =
     cond-both ReceivingIn (ltb (r .subinterval) 7) (receiving (atSub r (r .subinterval + 1)) scsr received)
-    (cond (eqb (r .left - 1) 0) (judged (shiftedIn r high) sccr scsr received) (receiving (shiftedIn r high) scsr received))
+    (cond (eqb (r .left - 1) 0) (frameEnded (shiftedIn r high) sccr scsr received) (receiving (shiftedIn r high) scsr received))
     (λ e. let h = ltb-true (r .subinterval) 7 e in record { subinterval = omega arith; left = i .left; register = i .register })
-    (λ _. cond-both ReceivingIn (eqb (r .left - 1) 0) (judged (shiftedIn r high) sccr scsr received) (receiving (shiftedIn r high) scsr received)
+    (λ _. cond-both ReceivingIn (eqb (r .left - 1) 0) (frameEnded (shiftedIn r high) sccr scsr received) (receiving (shiftedIn r high) scsr received)
     (λ _. shifted-in r high i) (λ _. shifted-in r high i))
 
 looked-in : (r : Receiver) (sccr scsr received : ℕ) (high : Bool) → InReceiver r → ReceivingIn (looked r sccr scsr received high)
 unfolding looked
 looked-in r sccr scsr received high i =
-    cond-both ReceivingIn (eqb (r .left) 0) (receiving (hunted r sccr high) scsr received) (gathered r sccr scsr received high)
-    (λ _. hunted-in r sccr high i) (λ _. gathered-in r sccr scsr received high i)
+    cond-both ReceivingIn (eqb (r .left) 0) (receiving (startDetected r sccr high) scsr received) (lookTaken r sccr scsr received high)
+    (λ _. startDetected-in r sccr high i) (λ _. lookTaken-in r sccr scsr received high i)
 
 half-in : (r : Receiver) (h : Bool) → InReceiver r → InReceiver (atHalf r h)
 half-in r h i = record { subinterval = i .subinterval; left = i .left; register = i .register }
@@ -150,6 +150,6 @@ receiver-clock-fits r ticks sccr scsr received high e =
     fits-receiver _ (cond-both ReceivingIn (not (eqb (ticks .0) 0) && receiverMoves sccr) (receiveTick r sccr scsr received high) (receiving r scsr received)
     (λ _. hear-in r sccr scsr received high (in-receiver r e)) (λ _. in-receiver r e))
 
-pub receiver-under-fits : (sccr : ℕ) (r : Receiver) → receiverFits r ≡ true → receiverFits (receiverUnder sccr r) ≡ true
-unfolding receiverUnder
+pub receiver-under-fits : (sccr : ℕ) (r : Receiver) → receiverFits r ≡ true → receiverFits (receiverWithSccr sccr r) ≡ true
+unfolding receiverWithSccr
 receiver-under-fits sccr r e = cond-both (λ (u : Receiver). receiverFits u ≡ true) (receiverMoves sccr) r idleReceiver (λ _. e) (λ _. refl)

@@ -2,8 +2,8 @@
 use mathlib.Core.Bool.{Bool, true, false, _&&_, _||_, not, cond}
 use mathlib.Core.List.{List, [], _∷_, _++_}
 use Prim.Native.Nat.{ℕ, _+_, _-_, _/_, _%_, _^_}
-use Rattle.words.specs.Bits.{bit, digit}
-use Rattle.words.specs.Lists.{bitsOf, oddOnes}
+use Rattle.bits.specs.Bits.{bit, digit}
+use Rattle.bits.specs.Lists.{bitsOf, oddOnes}
 
 -- "SCCR5: transmitter shifts; else SCCR4: receiver shifts"
 abbrev pub transmitterShifts : ℕ → Bool

@@ -1,3 +1,4 @@
 pub mod Format
 pub mod Transmitter
 pub mod Receiver
+pub mod Status

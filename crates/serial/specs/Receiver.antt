@@ -2,10 +2,11 @@
 use mathlib.Core.Bool.{Bool, true, false, _&&_, _||_, not, cond, Bool·beq}
 use Prim.Native.Nat.{ℕ, _+_, _-_, _*_, _/_, _%_, _^_}
 use lib.Dec.{leb, ltb, eqb}
-use Rattle.words.specs.Bits.{bit, digit, setWhere}
+use Rattle.bits.specs.Bits.{bit, digit, setWhere}
 use Rattle.counters.specs.declared.time.Ticks.{Ticks}
 use Rattle.serial.specs.declared.receiver.Receiver.{Receiver}
 use Rattle.serial.specs.declared.receiver.Receiving.{Receiving}
+use Rattle.serial.specs.Status.{receiverFull, overrun, parityError, framingError}
 use Rattle.serial.specs.Format.{receiverMoves, width, hasParity, parityBit, dataBits}
 
 abbrev pub receiving : Receiver → ℕ → ℕ → Receiving
@@ -26,21 +27,21 @@ abbrev pub started : Receiver → ℕ → Receiver
 started r sccr = record { subinterval = 0; half = r .half; left = frameSize sccr; register = r .register }
 
 -- "With no bits left, sub-interval counts lows running, a high zeroes it; a low at 3 or more makes a start"
-unfoldable pub hunted : Receiver → ℕ → Bool → Receiver
-hunted r sccr high = cond high (atSub r 0) (cond (ltb (r .subinterval) 3) (atSub r (r .subinterval + 1)) (started r sccr))
+unfoldable pub startDetected : Receiver → ℕ → Bool → Receiver
+startDetected r sccr high = cond high (atSub r 0) (cond (ltb (r .subinterval) 3) (atSub r (r .subinterval + 1)) (started r sccr))
 
 -- "shifts the level into bit 10, one bit fewer left"
 abbrev pub shiftedIn : Receiver → Bool → Receiver
 shiftedIn r high = record { subinterval = 0; half = r .half; left = r .left - 1; register = r .register / 2 + digit high * 1024 }
 
 -- "bit 10 is the stop, parity and data below it", "the byte (high bits 0)"
-unfoldable pub byteOf : ℕ → ℕ → ℕ
-byteOf sccr register = register / 2 ^ (10 - digit (hasParity sccr) - width sccr) % 2 ^ width sccr
+unfoldable pub receivedByte : ℕ → ℕ → ℕ
+receivedByte sccr register = register / 2 ^ (10 - digit (hasParity sccr) - width sccr) % 2 ^ width sccr
 
 -- "Wrong parity", "a low stop"
 unfoldable pub wrongParity : ℕ → ℕ → Bool
 wrongParity sccr register =
-    hasParity sccr && not (Bool·beq (bit 9 register) (parityBit sccr (dataBits sccr (byteOf sccr register))))
+    hasParity sccr && not (Bool·beq (bit 9 register) (parityBit sccr (dataBits sccr (receivedByte sccr register))))
 
 abbrev pub lowStop : ℕ → Bool
 lowStop register = not (bit 10 register)
@@ -49,25 +50,25 @@ lowStop register = not (bit 10 register)
 -- 001, 5.3, SCSR 0: it "will not be set to a logic 1 if the received data contains an error condition"
 unfoldable pub statusAfter : ℕ → Bool → Bool → ℕ
 statusAfter scsr wrong low =
-    setWhere 3 low (setWhere 2 wrong
-    (cond (bit 0 scsr) (setWhere 1 true scsr) (setWhere 0 (not (wrong || low)) scsr)))
+    setWhere framingError low (setWhere parityError wrong
+    (cond (bit receiverFull scsr) (setWhere overrun true scsr) (setWhere receiverFull (not (wrong || low)) scsr)))
 
 -- "At the last, by SCCR then": "if SCSR0 is clear the byte .. is kept"
-unfoldable pub judged : Receiver → ℕ → ℕ → ℕ → Receiving
-judged r sccr scsr received =
+unfoldable pub frameEnded : Receiver → ℕ → ℕ → ℕ → Receiving
+frameEnded r sccr scsr received =
     receiving r (statusAfter scsr (wrongParity sccr (r .register)) (lowStop (r .register)))
-    (cond (bit 0 scsr) received (byteOf sccr (r .register)))
+    (cond (bit receiverFull scsr) received (receivedByte sccr (r .register)))
 
 -- "Then each eighth look, from 7 to 0"
-unfoldable pub gathered : Receiver → ℕ → ℕ → ℕ → Bool → Receiving
-gathered r sccr scsr received high =
+unfoldable pub lookTaken : Receiver → ℕ → ℕ → ℕ → Bool → Receiving
+lookTaken r sccr scsr received high =
     cond (ltb (r .subinterval) 7) (receiving (atSub r (r .subinterval + 1)) scsr received)
-    (cond (eqb (r .left - 1) 0) (judged (shiftedIn r high) sccr scsr received) (receiving (shiftedIn r high) scsr received))
+    (cond (eqb (r .left - 1) 0) (frameEnded (shiftedIn r high) sccr scsr received) (receiving (shiftedIn r high) scsr received))
 
 -- a look at PA7
 unfoldable pub looked : Receiver → ℕ → ℕ → ℕ → Bool → Receiving
 looked r sccr scsr received high =
-    cond (eqb (r .left) 0) (receiving (hunted r sccr high) scsr received) (gathered r sccr scsr received high)
+    cond (eqb (r .left) 0) (receiving (startDetected r sccr high) scsr received) (lookTaken r sccr scsr received high)
 
 abbrev pub atHalf : Receiver → Bool → Receiver
 atHalf r h = record { subinterval = r .subinterval; half = h; left = r .left; register = r .register }
@@ -83,8 +84,8 @@ receiverClock r ticks sccr scsr received high =
     cond (not (eqb (ticks .0) 0) && receiverMoves sccr) (receiveTick r sccr scsr received high) (receiving r scsr received)
 
 -- "Writing SCCR zeroes the progress of each half that the new value has off or in shift-register mode."
-unfoldable pub receiverUnder : ℕ → Receiver → Receiver
-receiverUnder sccr r = cond (receiverMoves sccr) r idleReceiver
+unfoldable pub receiverWithSccr : ℕ → Receiver → Receiver
+receiverWithSccr sccr r = cond (receiverMoves sccr) r idleReceiver
 
 -- 01, Machine state: "receiver sub-interval (0 to 7), half (0 or 1), bits left (0 to 11), register (11 bits)"; half is a flag
 abbrev pub receiverFits : Receiver → Bool

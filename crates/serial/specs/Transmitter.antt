@@ -3,11 +3,12 @@ use mathlib.Core.Bool.{Bool, true, false, _&&_, _||_, not, cond}
 use Prim.Native.Nat.{ℕ, _+_, _-_, _/_, _%_}
 use lib.Dec.{leb, ltb, eqb}
 use lib.ListN.{length}
-use Rattle.words.specs.Bits.{bit, withBit}
-use Rattle.words.specs.Lists.{number}
+use Rattle.bits.specs.Bits.{bit, withBit}
+use Rattle.bits.specs.Lists.{number}
 use Rattle.counters.specs.declared.time.Ticks.{Ticks}
 use Rattle.serial.specs.declared.transmitter.Transmitter.{Transmitter}
 use Rattle.serial.specs.declared.transmitter.Sending.{Sending}
+use Rattle.serial.specs.Status.{transmitterEmpty, underrun}
 use Rattle.serial.specs.Format.{transmitterMoves, frameBits}
 
 abbrev pub sending : Transmitter → ℕ → Sending
@@ -23,15 +24,15 @@ framed sccr byte = record { left = length (frameBits sccr byte); phase = 0; regi
 
 -- "it takes the data, sets SCSR6"; 001, 5.3, SCSR 7: "Cleared by a transfer of new data into the Transmitter Shift Register"
 unfoldable pub taken : ℕ → ℕ → ℕ → Sending
-taken sccr scsr byte = sending (framed sccr byte) (withBit 7 false (withBit 6 true scsr))
+taken sccr scsr byte = sending (framed sccr byte) (withBit underrun false (withBit transmitterEmpty true scsr))
 
 -- "with no bits left and SCSR6 clear, it takes the data"; 001, 5.3, SCSR 7: under-run is no matter of later idle ticks
 unfoldable pub idleTick : Transmitter → ℕ → ℕ → ℕ → Sending
-idleTick t sccr scsr byte = cond (bit 6 scsr) (sending t scsr) (taken sccr scsr byte)
+idleTick t sccr scsr byte = cond (bit transmitterEmpty scsr) (sending t scsr) (taken sccr scsr byte)
 
 -- "None left: it takes the next data that tick, or sets SCSR7."
 unfoldable pub frameEnd : Transmitter → ℕ → ℕ → ℕ → Sending
-frameEnd t sccr scsr byte = cond (bit 6 scsr) (sending t (withBit 7 true scsr)) (taken sccr scsr byte)
+frameEnd t sccr scsr byte = cond (bit transmitterEmpty scsr) (sending t (withBit underrun true scsr)) (taken sccr scsr byte)
 
 -- "from 15 to 0 shifts the register down, one bit fewer left"
 abbrev pub shiftedDown : Transmitter → Transmitter
@@ -59,8 +60,8 @@ unfoldable pub line : ℕ → Transmitter → Bool
 line sccr t = not (transmitterMoves sccr) || eqb (t .left) 0 || bit 0 (t .register)
 
 -- "Writing SCCR zeroes the progress of each half that the new value has off or in shift-register mode."
-unfoldable pub transmitterUnder : ℕ → Transmitter → Transmitter
-transmitterUnder sccr t = cond (transmitterMoves sccr) t idleTransmitter
+unfoldable pub transmitterWithSccr : ℕ → Transmitter → Transmitter
+transmitterWithSccr sccr t = cond (transmitterMoves sccr) t idleTransmitter
 
 -- 01, Machine state: "transmitter bits left (0 to 12), phase (0 to 15), register (12 bits)"
 abbrev pub transmitterFits : Transmitter → Bool

@@ -2,8 +2,8 @@
 ghost use mathlib.Core.Path.{_≡_};
 ghost use Prim.Native.Nat.{ℕ, _^_, _%_, _-_};
 ghost use lib.ListN.{length};
-ghost use Rattle.words.specs.Bits.{bit, digit};
-ghost use Rattle.words.specs.Lists.{bitsOf, oddOnes, number};
+ghost use Rattle.bits.specs.Bits.{bit, digit};
+ghost use Rattle.bits.specs.Lists.{bitsOf, oddOnes, number};
 ghost use Rattle.serial.specs.Format.{transmitterMoves, receiverMoves, holdsA, width, hasParity, parityBit, ending, frameBits};
 
 // The bits of SCCR, by weight.
@@ -83,14 +83,7 @@ pub fn has_parity(sccr: u8) -> bool
 pub fn parity_size(sccr: u8) -> u8
     ensures { λ r. ⌜ r ≡ digit (hasParity sccr) ⌝ }
 {
-    words::digit8(has_parity(sccr))
-}
-
-// One bit fewer left.
-pub fn one_fewer(left: u8) -> u8
-    ensures { λ r. ⌜ r ≡ left - 1 ⌝ }
-{
-    if left == 0 { 0 } else { left - 1 }
+    bits::digit8(has_parity(sccr))
 }
 
 // Whether a byte has an odd number of ones.
@@ -115,7 +108,7 @@ pub fn frame_ending(sccr: u8, byte: u8) -> u16
     ensures { λ r. ⌜ r ≡ number (ending sccr (bitsOf 8 byte)) ⌝ }
 {
     if has_parity(sccr) {
-        return words::digit8(parity_bit(sccr, byte)) as u16 + 2;
+        return bits::digit8(parity_bit(sccr, byte)) as u16 + 2;
     }
     3
 }

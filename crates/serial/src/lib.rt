@@ -3,6 +3,9 @@
 // What SCCR says: which half is on, the width, the parity.
 pub mod format;
 
+// What SCSR says: its bits.
+pub mod status;
+
 // The transmitter.
 pub mod transmitter;
 

@@ -1,21 +1,24 @@
 // The asynchronous receiver.
 ghost use mathlib.Core.Path.{_≡_};
 ghost use Prim.Native.Nat.{_-_, _+_, _*_, _/_};
-ghost use Rattle.words.specs.Bits.{digit};
+ghost use Rattle.bits.specs.Bits.{digit};
 ghost use Rattle.serial.specs.Format.{width, hasParity};
-ghost use Rattle.serial.specs.Receiver.{idleReceiver, frameSize, hunted, byteOf, wrongParity, statusAfter, judged, gathered, looked, receiveTick, receiverClock, receiverUnder};
+ghost use Rattle.serial.specs.Receiver.{idleReceiver, frameSize, startDetected, receivedByte, wrongParity, statusAfter, frameEnded, lookTaken, looked, receiveTick, receiverClock, receiverWithSccr};
 use crate::format::data_span;
 use crate::format::data_width;
 use crate::format::has_parity;
-use crate::format::one_fewer;
 use crate::format::parity_bit;
 use crate::format::parity_size;
 use crate::format::receiver_moves;
+use crate::status::FRAMING_ERROR;
+use crate::status::OVERRUN;
+use crate::status::PARITY_ERROR;
+use crate::status::RECEIVER_FULL;
+use crate::status::RECEIVER_FULL_WEIGHT;
+use bits::one_less;
 use counters::time::Ticks;
 
-// The status register's bit for a full data register (SCSR0), and the places of stop and parity in a whole frame, by weight.
-const FULL: u8 = 1;
-
+// The places of stop and parity in a whole frame, by weight.
 const STOP: u16 = 1024;
 
 const PARITY: u16 = 512;
@@ -64,7 +67,7 @@ fn data_place(sccr: u8) -> u16
 
 // The data of a whole frame.
 fn byte_of(sccr: u8, register: u16) -> u8
-    ensures { λ r. ⌜ r ≡ byteOf sccr register ⌝ }
+    ensures { λ r. ⌜ r ≡ receivedByte sccr register ⌝ }
 {
     let place = data_place(sccr);
     let span = data_span(sccr);
@@ -84,12 +87,20 @@ fn parity_is_wrong(sccr: u8, register: u16) -> bool
 fn status_after(scsr: u8, wrong: bool, low: bool) -> u8
     ensures { λ r. ⌜ r ≡ statusAfter scsr wrong low ⌝ }
 {
-    if scsr / FULL % 2 == 1 {
-        let overrun = words::set_where(scsr, 1, true);
-        return words::set_where(words::set_where(overrun, 2, wrong), 3, low);
+    if scsr / RECEIVER_FULL_WEIGHT % 2 == 1 {
+        let overrun = bits::set_where(scsr, OVERRUN, true);
+        return bits::set_where(
+            bits::set_where(overrun, PARITY_ERROR, wrong),
+            FRAMING_ERROR,
+            low,
+        );
     }
-    let full = words::set_where(scsr, 0, !(wrong | low));
-    words::set_where(words::set_where(full, 2, wrong), 3, low)
+    let full = bits::set_where(scsr, RECEIVER_FULL, !(wrong | low));
+    bits::set_where(
+        bits::set_where(full, PARITY_ERROR, wrong),
+        FRAMING_ERROR,
+        low,
+    )
 }
 
 // The register with a level shifted into bit 10.
@@ -105,8 +116,8 @@ fn shifted_in(register: u16, high: bool) -> u16
 
 impl Receiver {
     // A look with no bits left: the lows running, and a start.
-    fn hunt(mut self, sccr: u8, high: bool) -> Receiver
-        ensures { λ r. ⌜ r ≡ hunted self sccr high ⌝ }
+    fn detect_start(mut self, sccr: u8, high: bool) -> Receiver
+        ensures { λ r. ⌜ r ≡ startDetected self sccr high ⌝ }
     {
         if high {
             self.subinterval = 0;
@@ -122,12 +133,12 @@ impl Receiver {
     }
 
     // The last bit of a frame is in.
-    fn judge(mut self, sccr: u8, scsr: u8, received: u8) -> Receiving
-        ensures { λ r. ⌜ r ≡ judged self sccr scsr received ⌝ }
+    fn end_frame(mut self, sccr: u8, scsr: u8, received: u8) -> Receiving
+        ensures { λ r. ⌜ r ≡ frameEnded self sccr scsr received ⌝ }
     {
         let wrong = parity_is_wrong(sccr, self.register);
         let status = status_after(scsr, wrong, self.register / STOP % 2 != 1);
-        if scsr / FULL % 2 == 1 {
+        if scsr / RECEIVER_FULL_WEIGHT % 2 == 1 {
             return Receiving {
                 receiver: self,
                 scsr: status,
@@ -143,8 +154,8 @@ impl Receiver {
     }
 
     // A look with bits left.
-    fn gather(mut self, sccr: u8, scsr: u8, received: u8, high: bool) -> Receiving
-        ensures { λ r. ⌜ r ≡ gathered self sccr scsr received high ⌝ }
+    fn take_look(mut self, sccr: u8, scsr: u8, received: u8, high: bool) -> Receiving
+        ensures { λ r. ⌜ r ≡ lookTaken self sccr scsr received high ⌝ }
     {
         if self.subinterval < 7 {
             self.subinterval += 1;
@@ -156,9 +167,9 @@ impl Receiver {
         }
         self.subinterval = 0;
         self.register = shifted_in(self.register, high);
-        self.left = one_fewer(self.left);
+        self.left = one_less(self.left);
         if self.left == 0 {
-            return self.judge(sccr, scsr, received);
+            return self.end_frame(sccr, scsr, received);
         }
         Receiving {
             receiver: self,
@@ -173,12 +184,12 @@ impl Receiver {
     {
         if self.left == 0 {
             return Receiving {
-                receiver: self.hunt(sccr, high),
+                receiver: self.detect_start(sccr, high),
                 scsr: scsr,
                 received: received,
             };
         }
-        self.gather(sccr, scsr, received, high)
+        self.take_look(sccr, scsr, received, high)
     }
 
     // One tick of a receiver that is on: a look at every second one.
@@ -213,8 +224,8 @@ impl Receiver {
     }
 
     // Its progress after a write of SCCR.
-    pub fn under(mut self, sccr: u8) -> Receiver
-        ensures { λ r. ⌜ r ≡ receiverUnder sccr self ⌝ }
+    pub fn with_sccr(mut self, sccr: u8) -> Receiver
+        ensures { λ r. ⌜ r ≡ receiverWithSccr sccr self ⌝ }
     {
         if receiver_moves(sccr) {
             return self;

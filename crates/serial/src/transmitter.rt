@@ -1,15 +1,16 @@
 // The asynchronous transmitter.
 ghost use mathlib.Core.Path.{_≡_};
-ghost use Rattle.serial.specs.Transmitter.{idleTransmitter, framed, taken, idleTick, frameEnd, bitTick, sendTick, transmitterClock, line, transmitterUnder};
+ghost use Rattle.serial.specs.Transmitter.{idleTransmitter, framed, taken, idleTick, frameEnd, bitTick, sendTick, transmitterClock, line, transmitterWithSccr};
 use crate::format::frame;
 use crate::format::frame_length;
-use crate::format::one_fewer;
 use crate::format::transmitter_moves;
+use crate::status::TRANSMITTER_EMPTY;
+use crate::status::TRANSMITTER_EMPTY_WEIGHT;
+use crate::status::UNDERRUN;
+use bits::one_less;
 use counters::time::Ticks;
 
-// The status register's bit for an empty data register (SCSR6), and the place of the line's bit, by weight.
-const EMPTY: u8 = 64;
-
+// The place of the line's bit, by weight.
 const LINE: u16 = 1;
 
 // The bits left of a frame, the phase within a bit, and the bits themselves, the present one lowest.
@@ -38,7 +39,7 @@ pub fn idle_transmitter() -> Transmitter
 }
 
 // A frame begun.
-fn begun(sccr: u8, byte: u8) -> Transmitter
+fn framed(sccr: u8, byte: u8) -> Transmitter
     ensures { λ r. ⌜ r ≡ framed sccr byte ⌝ }
 {
     Transmitter {
@@ -52,9 +53,13 @@ fn begun(sccr: u8, byte: u8) -> Transmitter
 fn take(sccr: u8, scsr: u8, byte: u8) -> Sending
     ensures { λ r. ⌜ r ≡ taken sccr scsr byte ⌝ }
 {
-    let status = words::with_bit(words::with_bit(scsr, 6, true), 7, false);
+    let status = bits::with_bit(
+        bits::with_bit(scsr, TRANSMITTER_EMPTY, true),
+        UNDERRUN,
+        false,
+    );
     Sending {
-        transmitter: begun(sccr, byte),
+        transmitter: framed(sccr, byte),
         scsr: status,
     }
 }
@@ -64,7 +69,7 @@ impl Transmitter {
     fn idle_tick(mut self, sccr: u8, scsr: u8, byte: u8) -> Sending
         ensures { λ r. ⌜ r ≡ idleTick self sccr scsr byte ⌝ }
     {
-        if scsr / EMPTY % 2 == 1 {
+        if scsr / TRANSMITTER_EMPTY_WEIGHT % 2 == 1 {
             return Sending {
                 transmitter: self,
                 scsr: scsr,
@@ -77,8 +82,8 @@ impl Transmitter {
     fn frame_end(mut self, sccr: u8, scsr: u8, byte: u8) -> Sending
         ensures { λ r. ⌜ r ≡ frameEnd self sccr scsr byte ⌝ }
     {
-        if scsr / EMPTY % 2 == 1 {
-            let status = words::with_bit(scsr, 7, true);
+        if scsr / TRANSMITTER_EMPTY_WEIGHT % 2 == 1 {
+            let status = bits::with_bit(scsr, UNDERRUN, true);
             return Sending {
                 transmitter: self,
                 scsr: status,
@@ -100,7 +105,7 @@ impl Transmitter {
         }
         self.phase = 0;
         self.register = self.register / 2;
-        self.left = one_fewer(self.left);
+        self.left = one_less(self.left);
         if self.left == 0 {
             return self.frame_end(sccr, scsr, byte);
         }
@@ -142,8 +147,8 @@ impl Transmitter {
     }
 
     // Its progress after a write of SCCR.
-    pub fn under(mut self, sccr: u8) -> Transmitter
-        ensures { λ r. ⌜ r ≡ transmitterUnder sccr self ⌝ }
+    pub fn with_sccr(mut self, sccr: u8) -> Transmitter
+        ensures { λ r. ⌜ r ≡ transmitterWithSccr sccr self ⌝ }
     {
         if transmitter_moves(sccr) {
             return self;

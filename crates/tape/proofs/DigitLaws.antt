@@ -9,8 +9,8 @@ use borrow.Author.Tests.{leb-true}
 use lib.Dec.{leb}
 use lib.ListN.{length, drop, getD, drop-of-length-le, length-drop}
 use lib.Seq.{drop-cons}
-use Rattle.words.specs.Lists.{allOf}
-use Rattle.words.proofs.Cond.{cond-both}
+use Rattle.bits.specs.Lists.{allOf}
+use Rattle.bits.proofs.Cond.{cond-both}
 use Rattle.tape.specs.Digits.{isDecimal, isLetter, isDigit, valueOf, numberFrom, numberOf, byteOf, bytesOf, totalOf}
 
 pub and-true : (a b : Bool) → a && b ≡ true → (a ≡ true) × (b ≡ true)

@@ -9,14 +9,13 @@ use native.Mathlib.Nat.{add-zero}
 use borrow.Author.Tests.{eq-eqb, ne-eqb, eqb-true}
 use lib.Dec.{eqb}
 use lib.ListN.{length, take, drop}
-use Rattle.words.specs.Lists.{allOf}
-use Rattle.words.proofs.Cond.{cond-both}
-use Rattle.tape.specs.declared.Loaded.{Loaded}
+use Rattle.bits.specs.Lists.{allOf}
+use Rattle.bits.proofs.Cond.{cond-both}
+use Rattle.tape.specs.declared.LoadResult.{LoadResult}
 use Rattle.tape.specs.Digits.{isDigit, bytesOf}
-use Rattle.tape.specs.Records.{mark, recordLength, countOf, addressOf, faultOf, dataOf}
-use Rattle.words.specs.Memory.{memorySpan}
-use Rattle.tape.specs.Tapes.{told, recordBy, checkFrom, checkOf, landed, storeFrom, Outcome, outcome, loadOf}
-use Rattle.words.specs.Memory.{registerEnd}
+use Rattle.tape.specs.Records.{mark, recordLength, byteCountOf, addressOf, faultOf, dataOf}
+use Rattle.memory.specs.Memory.{memorySpan, registerEnd}
+use Rattle.tape.specs.Tapes.{loadResult, recordBy, checkFrom, checkOf, landed, storeFrom, Loaded, loaded, loadOf}
 use Rattle.tape.proofs.DigitLaws.{and-true}
 use Rattle.tape.proofs.RecordLaws.{good}
 use Rattle.tape.proofs.MemoryLaws.{length-puts, take-puts}
@@ -26,14 +25,14 @@ store-keeps : (P : List ℕ → Type 0) → ((text memory : List ℕ) → P memo
 unfolding storeFrom
 store-keeps P k [] memory p = p
 store-keeps P k (c ∷ text) memory p =
-    cond-both P (eqb c mark && eqb (countOf text) 0) _ _ (λ _. p)
+    cond-both P (eqb c mark && eqb (byteCountOf text) 0) _ _ (λ _. p)
     (λ _. store-keeps P k text _ (cond-both P (eqb c mark) _ _ (λ _. k text memory p) (λ _. p)))
 
 module _ (tape memory : List ℕ) where
   load-keeps : (P : List ℕ → Type 0) → ((text m : List ℕ) → P m → P (landed text m)) → P memory → P (loadOf tape memory .memory)
   unfolding loadOf
   load-keeps P k p =
-      cond-both (λ (o : Outcome). P (o .memory)) (eqb (length memory) memorySpan) _ _
+      cond-both (λ (o : Loaded). P (o .memory)) (eqb (length memory) memorySpan) _ _
       (λ _. cond-both P (eqb (checkOf tape .number) 0) _ _ (λ _. store-keeps P k tape memory p) (λ _. p))
       (λ _. p)
 
@@ -51,17 +50,17 @@ module _ (tape memory : List ℕ) where
       (λ text m e. take-puts registerEnd (addressOf text) (bytesOf (dataOf text)) m ∙ e) refl
 
   -- a memory of another length is 1, at place 0, whatever the tape
-  pub load-other-length : (length memory ≡ memorySpan → ⊥) → loadOf tape memory ≡ outcome (told 1 0) memory
+  pub load-other-length : (length memory ≡ memorySpan → ⊥) → loadOf tape memory ≡ loaded (loadResult 1 0) memory
   unfolding loadOf
   load-other-length h = rw (ne-eqb (length memory) memorySpan h)
 
   module _ (right : length memory ≡ memorySpan) where
     -- a refused tape leaves memory unchanged
-    pub load-refused : (checkOf tape .number ≡ 0 → ⊥) → loadOf tape memory ≡ outcome (checkOf tape) memory
+    pub load-refused : (checkOf tape .number ≡ 0 → ⊥) → loadOf tape memory ≡ loaded (checkOf tape) memory
     unfolding loadOf
     load-refused h = rw (eq-eqb (length memory) memorySpan right, ne-eqb (checkOf tape .number) 0 h)
 
-    pub load-accepted : (place : ℕ) → checkOf tape ≡ told 0 place → loadOf tape memory ≡ outcome (told 0 place) (storeFrom tape memory)
+    pub load-accepted : (place : ℕ) → checkOf tape ≡ loadResult 0 place → loadOf tape memory ≡ loaded (loadResult 0 place) (storeFrom tape memory)
     unfolding loadOf
     load-accepted place e = rw (eq-eqb (length memory) memorySpan right, e)
 
@@ -93,18 +92,18 @@ digits-past (suc n) (c ∷ text) h d place seen =
 -- the tape goes on past a record's own digits: the search for the next `;` may start there or right behind this one
 pub check-past : (place n : ℕ) (text : List ℕ)
     → recordBy place n text (checkFrom (place + 1) n text)
-    ≡ recordBy place n text (checkFrom (place + 1 + recordLength (countOf text)) n (drop (recordLength (countOf text)) text))
+    ≡ recordBy place n text (checkFrom (place + 1 + recordLength (byteCountOf text)) n (drop (recordLength (byteCountOf text)) text))
 unfolding recordBy
 check-past place n text = by-fault (eqb (faultOf text) 0) refl
   where
-    next : Loaded
-    next = checkFrom (place + 1 + recordLength (countOf text)) n (drop (recordLength (countOf text)) text)
+    next : LoadResult
+    next = checkFrom (place + 1 + recordLength (byteCountOf text)) n (drop (recordLength (byteCountOf text)) text)
 
     by-fault : (t : Bool) → eqb (faultOf text) 0 ≡ t → recordBy place n text (checkFrom (place + 1) n text) ≡ recordBy place n text next
     by-fault true e =
         let g = good text (eqb-true (faultOf text) 0 e) in
-        ap (recordBy place n text) (digits-past (recordLength (countOf text)) text (g .whole) (g .digits) (place + 1) n)
+        ap (recordBy place n text) (digits-past (recordLength (byteCountOf text)) text (g .whole) (g .digits) (place + 1) n)
     by-fault false e = rw e
 
-pub store-past : (text memory : List ℕ) → faultOf text ≡ 0 → storeFrom text memory ≡ storeFrom (drop (recordLength (countOf text)) text) memory
-store-past text memory e = let g = good text e in digits-stored (recordLength (countOf text)) text (g .whole) (g .digits) memory
+pub store-past : (text memory : List ℕ) → faultOf text ≡ 0 → storeFrom text memory ≡ storeFrom (drop (recordLength (byteCountOf text)) text) memory
+store-past text memory e = let g = good text e in digits-stored (recordLength (byteCountOf text)) text (g .whole) (g .digits) memory

@@ -9,7 +9,7 @@ use borrow.Author.Tests.{lt-ltb, le-ltb, ltb-true, ltb-false}
 use lib.Dec.{ltb}
 use lib.ListN.{length, take, drop, getD, set, length-set, length-drop, take-append-drop, drop-of-length-le}
 use lib.Seq.{take-set-le, drop-set-add, take-at, drop-at, take-all, length-take-le}
-use Rattle.words.proofs.Cond.{cond-both}
+use Rattle.bits.proofs.Cond.{cond-both}
 use Rattle.tape.specs.Digits.{byteOf, bytesOf}
 use Rattle.tape.specs.Tapes.{putFrom}
 use Rattle.tape.proofs.DigitLaws.{bytes-next, bytes-end}

@@ -7,11 +7,11 @@ use native.Mathlib.Omega.{arith}
 use borrow.Author.Tests.{ltb-false, leb-true, eqb-true, not-false}
 use lib.Dec.{ltb, leb, eqb}
 use lib.ListN.{length, take, drop, length-take}
-use Rattle.words.specs.Lists.{allOf}
-use Rattle.words.proofs.Cond.{cond-both}
+use Rattle.bits.specs.Lists.{allOf}
+use Rattle.bits.proofs.Cond.{cond-both}
 use Rattle.tape.specs.Digits.{isDigit}
-use Rattle.tape.specs.Records.{mostBytes, headLength, recordLength, countOf, addressOf, sumOf, checkSumOf, areDigits, malformed, faultOf, dataOf}
-use Rattle.words.specs.Memory.{memorySpan}
+use Rattle.tape.specs.Records.{mostBytes, headLength, recordLength, byteCountOf, addressOf, sumOf, checkSumOf, areDigits, malformed, faultOf, dataOf}
+use Rattle.memory.specs.Memory.{memorySpan}
 use Rattle.tape.proofs.DigitLaws.{and-true, number-byte, number-word}
 
 or-false : (a b : Bool) → a || b ≡ false → (a ≡ false) × (b ≡ false)
@@ -20,15 +20,15 @@ or-false false b e = (refl, e)
 
 -- what a record without a fault has
 pub record Good (text : List ℕ) : Type 0 where
-  pub whole : recordLength (countOf text) ≤ length text
-  pub digits : allOf isDigit (take (recordLength (countOf text)) text) ≡ true
-  pub few : countOf text ≤ mostBytes
-  pub room : addressOf text + countOf text ≤ memorySpan
+  pub whole : recordLength (byteCountOf text) ≤ length text
+  pub digits : allOf isDigit (take (recordLength (byteCountOf text)) text) ≡ true
+  pub few : byteCountOf text ≤ mostBytes
+  pub room : addressOf text + byteCountOf text ≤ memorySpan
   pub summed : sumOf text ≡ checkSumOf text
 
 module _ (text : List ℕ) where
-  pub count-most : countOf text ≤ 255
-  unfolding countOf
+  pub count-most : byteCountOf text ≤ 255
+  unfolding byteCountOf
   count-most = number-byte (take 2 text) (omega (arith, length-take 2 text))
 
   pub address-most : addressOf text ≤ 65535
@@ -38,17 +38,17 @@ module _ (text : List ℕ) where
   good-by : malformed text ≡ false → sumOf text ≡ checkSumOf text → Good text
   unfolding malformed areDigits
   good-by e s =
-      let n = recordLength (countOf text) in
+      let n = recordLength (byteCountOf text) in
       let a = not (leb n (length text) && allOf isDigit (take n text)) in
-      let b = ltb mostBytes (countOf text) in
-      let f = or-false (a || b) (ltb memorySpan (addressOf text + countOf text)) e in
+      let b = ltb mostBytes (byteCountOf text) in
+      let f = or-false (a || b) (ltb memorySpan (addressOf text + byteCountOf text)) e in
       let g = or-false a b (f .0) in
       let d = and-true (leb n (length text)) (allOf isDigit (take n text)) (not-false _ (g .0)) in
       record {
         whole = leb-true n (length text) (d .0);
         digits = d .1;
-        few = ltb-false mostBytes (countOf text) (g .1);
-        room = ltb-false memorySpan (addressOf text + countOf text) (f .1);
+        few = ltb-false mostBytes (byteCountOf text) (g .1);
+        room = ltb-false memorySpan (addressOf text + byteCountOf text) (f .1);
         summed = s;
       }
 
@@ -66,7 +66,7 @@ module _ (text : List ℕ) where
   unfolding dataOf
   data-room =
       cond-both Fits (eqb (faultOf text) 0) _ _
-      (λ e. let g = good (eqb-true (faultOf text) 0 e) in omega (arith, g .room, length-take (2 * countOf text) (drop headLength text)))
+      (λ e. let g = good (eqb-true (faultOf text) 0 e) in omega (arith, g .room, length-take (2 * byteCountOf text) (drop headLength text)))
       (λ _. omega arith)
     where
       Fits : List ℕ → Type 0

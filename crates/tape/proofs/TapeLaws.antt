@@ -10,14 +10,13 @@ use borrow.Author.Tests.{eq-eqb, ne-eqb}
 use lib.Dec.{eqb}
 use lib.ListN.{length, take, drop, getD, length-drop, drop-of-length-le}
 use lib.Seq.{drop-cons, take-all}
-use Rattle.tape.specs.declared.Loaded.{Loaded}
+use Rattle.tape.specs.declared.LoadResult.{LoadResult}
 use Rattle.tape.specs.Digits.{bytesOf}
-use Rattle.words.specs.Bits.{digit}
-use Rattle.words.proofs.Cond.{cond-both}
-use Rattle.tape.specs.Records.{mark, countOf, addressOf, faultOf, dataOf, dataAt}
-use Rattle.words.specs.Memory.{memorySpan}
-use Rattle.tape.specs.Tapes.{told, endedBy, recordBy, checkFrom, putFrom, landed, storeFrom}
-use Rattle.words.specs.Memory.{registerEnd}
+use Rattle.bits.specs.Bits.{digit}
+use Rattle.bits.proofs.Cond.{cond-both}
+use Rattle.tape.specs.Records.{mark, byteCountOf, addressOf, faultOf, dataOf, dataAt}
+use Rattle.memory.specs.Memory.{memorySpan, registerEnd}
+use Rattle.tape.specs.Tapes.{loadResult, endedBy, recordBy, checkFrom, putFrom, landed, storeFrom}
 use Rattle.tape.proofs.RecordLaws.{address-most, data-room}
 
 -- a part to the end, as it is lent
@@ -31,7 +30,7 @@ module _ (tape : List ℕ) (place : ℕ) where
   abbrev lent : List ℕ
   lent = take (length tape - (place + 1)) (drop (place + 1) tape)
 
-  pub check-end : (seen : ℕ) → length tape ≤ place → checkFrom place seen (drop place tape) ≡ told 10 place
+  pub check-end : (seen : ℕ) → length tape ≤ place → checkFrom place seen (drop place tape) ≡ loadResult 10 place
   unfolding checkFrom
   check-end seen h = rw (drop-of-length-le tape h)
 
@@ -48,7 +47,7 @@ module _ (tape : List ℕ) (place : ℕ) where
     check-next seen = rw (drop-cons tape place 0 here, add-one place)
 
     store-next : (memory : List ℕ) → storeFrom (drop place tape) memory
-        ≡ cond (eqb (getD tape place 0) mark && eqb (countOf text) 0) memory (storeFrom text (cond (eqb (getD tape place 0) mark) (landed text memory) memory))
+        ≡ cond (eqb (getD tape place 0) mark && eqb (byteCountOf text) 0) memory (storeFrom text (cond (eqb (getD tape place 0) mark) (landed text memory) memory))
     unfolding storeFrom
     store-next memory = rw (drop-cons tape place 0 here, add-one place)
 
@@ -65,32 +64,32 @@ module _ (tape : List ℕ) (place : ℕ) where
       check-record : (seen : ℕ) → checkFrom place seen (drop place tape) ≡ recordBy place (seen + 1) text (checkFrom (place + 1) (seen + 1) text)
       check-record seen = check-next seen ∙ rw (eq-eqb (getD tape place 0) mark marked)
 
-      pub check-fault : (seen n : ℕ) → n ≡ faultOf lent → (n ≡ 0 → ⊥) → checkFrom place seen (drop place tape) ≡ told n place
+      pub check-fault : (seen n : ℕ) → n ≡ faultOf lent → (n ≡ 0 → ⊥) → checkFrom place seen (drop place tape) ≡ loadResult n place
       unfolding recordBy
       check-fault seen n e f =
           let g : n ≡ faultOf text = e ∙ ap faultOf (to-end tape (place + 1)) in
           check-record seen ∙ rw (← g, ne-eqb n 0 f)
 
-      module _ (seen n k : ℕ) (e : n ≡ faultOf lent) (z : n ≡ 0) (ek : k ≡ countOf lent) where
+      module _ (seen n k : ℕ) (e : n ≡ faultOf lent) (z : n ≡ 0) (ek : k ≡ byteCountOf lent) where
         good-text : faultOf text ≡ 0
         good-text = ap faultOf (sym (to-end tape (place + 1))) ∙ sym e ∙ z
 
-        pub check-last : (r : Loaded) → k ≡ 0 → r ≡ endedBy place (seen + 1) lent → checkFrom place seen (drop place tape) ≡ r
+        pub check-last : (r : LoadResult) → k ≡ 0 → r ≡ endedBy place (seen + 1) lent → checkFrom place seen (drop place tape) ≡ r
         unfolding recordBy
         check-last r l er =
-            let c : countOf text ≡ 0 = ap countOf (sym (to-end tape (place + 1))) ∙ sym ek ∙ l in
+            let c : byteCountOf text ≡ 0 = ap byteCountOf (sym (to-end tape (place + 1))) ∙ sym ek ∙ l in
             check-record seen ∙ rw (good-text, c) (sym (er ∙ ap (endedBy place (seen + 1)) (to-end tape (place + 1))))
 
         pub check-on : (k ≡ 0 → ⊥) → checkFrom place seen (drop place tape) ≡ checkFrom (place + 1) (seen + 1) text
         unfolding recordBy
         check-on l =
-            let c : k ≡ countOf text = ek ∙ ap countOf (to-end tape (place + 1)) in
+            let c : k ≡ byteCountOf text = ek ∙ ap byteCountOf (to-end tape (place + 1)) in
             check-record seen ∙ rw (good-text, ← c, ne-eqb k 0 l)
 
-      module _ (k : ℕ) (ek : k ≡ countOf lent) (memory : List ℕ) where
+      module _ (k : ℕ) (ek : k ≡ byteCountOf lent) (memory : List ℕ) where
         store-record : storeFrom (drop place tape) memory ≡ cond (eqb k 0) memory (storeFrom text (landed text memory))
         store-record =
-            let c : k ≡ countOf text = ek ∙ ap countOf (to-end tape (place + 1)) in
+            let c : k ≡ byteCountOf text = ek ∙ ap byteCountOf (to-end tape (place + 1)) in
             store-next memory ∙ rw (eq-eqb (getD tape place 0) mark marked, ← c)
 
         pub store-last : k ≡ 0 → storeFrom (drop place tape) memory ≡ memory

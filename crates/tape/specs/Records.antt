@@ -5,8 +5,8 @@ use mathlib.Core.List.{List, []}
 use Prim.Native.Nat.{ℕ, _+_, _*_, _%_}
 use lib.Dec.{ltb, leb, eqb}
 use lib.ListN.{length, getD, take, drop}
-use Rattle.words.specs.Lists.{allOf}
-use Rattle.words.specs.Memory.{memorySpan}
+use Rattle.bits.specs.Lists.{allOf}
+use Rattle.memory.specs.Memory.{memorySpan}
 use Rattle.tape.specs.Digits.{isDigit, numberOf, bytesOf, totalOf}
 
 -- `;`
@@ -30,18 +30,18 @@ abbrev pub recordLength : ℕ → ℕ
 recordLength n = bodyLength n + 4
 
 -- the fields
-unfoldable pub countOf : List ℕ → ℕ
-countOf text = numberOf (take 2 text)
+unfoldable pub byteCountOf : List ℕ → ℕ
+byteCountOf text = numberOf (take 2 text)
 
 unfoldable pub addressOf : List ℕ → ℕ
 addressOf text = numberOf (take 4 (drop 2 text))
 
 unfoldable pub checkSumOf : List ℕ → ℕ
-checkSumOf text = numberOf (take 4 (drop (bodyLength (countOf text)) text))
+checkSumOf text = numberOf (take 4 (drop (bodyLength (byteCountOf text)) text))
 
 -- "the sum of count, address and data bytes modulo 65,536": of all bytes that stand before the check sum
 unfoldable pub sumOf : List ℕ → ℕ
-sumOf text = totalOf (bytesOf (take (bodyLength (countOf text)) text)) % 65536
+sumOf text = totalOf (bytesOf (take (bodyLength (byteCountOf text)) text)) % 65536
 
 -- no digit of the first n is missing, and each is of 0 to 9, A to F
 unfoldable pub areDigits : ℕ → List ℕ → Bool
@@ -51,9 +51,9 @@ areDigits n text = leb n (length text) && allOf isDigit (take n text)
 -- place is read as the count; its two characters are among those that must be digits.
 unfoldable pub malformed : List ℕ → Bool
 malformed text =
-    not (areDigits (recordLength (countOf text)) text)
-    || ltb mostBytes (countOf text)
-    || ltb memorySpan (addressOf text + countOf text)
+    not (areDigits (recordLength (byteCountOf text)) text)
+    || ltb mostBytes (byteCountOf text)
+    || ltb memorySpan (addressOf text + byteCountOf text)
 
 -- the number of a record's own fault, 0 where it has none: 8 malformed, 9 check sum wrong
 unfoldable pub faultOf : List ℕ → ℕ
@@ -61,7 +61,7 @@ faultOf text = cond (malformed text) 8 (cond (eqb (sumOf text) (checkSumOf text)
 
 -- the digits of a good record's data
 unfoldable pub dataOf : List ℕ → List ℕ
-dataOf text = cond (eqb (faultOf text) 0) (take (2 * countOf text) (drop headLength text)) []
+dataOf text = cond (eqb (faultOf text) 0) (take (2 * byteCountOf text) (drop headLength text)) []
 
 -- "A record's data is given as that part of the tape's own text": of the record whose `;` stands at `place`; none where no
 -- good record stands there

@@ -4,38 +4,38 @@ use mathlib.Core.List.{List, [], _∷_}
 use Prim.Native.Nat.{ℕ, _+_}
 use lib.Dec.{ltb, eqb}
 use lib.ListN.{length, set}
-use Rattle.words.specs.Bits.{digit}
-use Rattle.words.specs.Memory.{memorySpan, registerEnd}
-use Rattle.tape.specs.declared.Loaded.{Loaded}
+use Rattle.bits.specs.Bits.{digit}
+use Rattle.memory.specs.Memory.{memorySpan, registerEnd}
+use Rattle.tape.specs.declared.LoadResult.{LoadResult}
 use Rattle.tape.specs.Digits.{bytesOf}
-use Rattle.tape.specs.Records.{mark, countOf, addressOf, faultOf, dataOf}
+use Rattle.tape.specs.Records.{mark, byteCountOf, addressOf, faultOf, dataOf}
 
 -- a number of "What is handed back", and a place: the index of a record's `;`, the tape's length for a missing last record, the
 -- place past the last record of an accepted tape, or 0 with number 1
-abbrev pub told : ℕ → ℕ → Loaded
-told n p = record { number = n; place = p }
+abbrev pub loadResult : ℕ → ℕ → LoadResult
+loadResult n p = record { number = n; place = p }
 
 -- "Count 00 ends the tape, its address field being the number of records, itself included": the n-th record, which is the
 -- last and stands at `place`. Its 11 characters are passed; a wrong count is 10.
-unfoldable pub endedBy : ℕ → ℕ → List ℕ → Loaded
-endedBy place n text = cond (eqb (addressOf text) n) (told 0 (place + 11)) (told 10 place)
+unfoldable pub endedBy : ℕ → ℕ → List ℕ → LoadResult
+endedBy place n text = cond (eqb (addressOf text) n) (loadResult 0 (place + 11)) (loadResult 10 place)
 
 -- the n-th record, whose `;` stands at `place`: its own fault first; where it is good and not the last, the tape goes on
-unfoldable pub recordBy : ℕ → ℕ → List ℕ → Loaded → Loaded
+unfoldable pub recordBy : ℕ → ℕ → List ℕ → LoadResult → LoadResult
 recordBy place n text goesOn =
-    cond (eqb (faultOf text) 0) (cond (eqb (countOf text) 0) (endedBy place n text) goesOn) (told (faultOf text) place)
+    cond (eqb (faultOf text) 0) (cond (eqb (byteCountOf text) 0) (endedBy place n text) goesOn) (loadResult (faultOf text) place)
 
 -- the rest of a tape from `place` on, behind `seen` records: each `;` begins a record, "between records anything but `;` is
 -- skipped", and the earliest faulty record decides. A good record's digits hold no `;`, so the search for the next one may
 -- start right behind its own (`check-past` of proofs/Laws.antt). A tape that is over lacks its last record.
-unfoldable pub checkFrom : ℕ → ℕ → List ℕ → Loaded
-checkFrom place seen [] = told 10 place
+unfoldable pub checkFrom : ℕ → ℕ → List ℕ → LoadResult
+checkFrom place seen [] = loadResult 10 place
 checkFrom place seen (c ∷ text) =
     let n = seen + digit (eqb c mark) in
     let goesOn = checkFrom (place + 1) n text in
     cond (eqb c mark) (recordBy place n text goesOn) goesOn
 
-abbrev pub checkOf : List ℕ → Loaded
+abbrev pub checkOf : List ℕ → LoadResult
 checkOf tape = checkFrom 0 0 tape
 
 -- bytes from an address onward; those below `low` are dropped
@@ -52,19 +52,19 @@ landed text memory = putFrom registerEnd (addressOf text) (bytesOf (dataOf text)
 unfoldable pub storeFrom : List ℕ → List ℕ → List ℕ
 storeFrom [] memory = memory
 storeFrom (c ∷ text) memory =
-    cond (eqb c mark && eqb (countOf text) 0) memory (storeFrom text (cond (eqb c mark) (landed text memory) memory))
+    cond (eqb c mark && eqb (byteCountOf text) 0) memory (storeFrom text (cond (eqb c mark) (landed text memory) memory))
 
 -- what a load hands back, and memory after it
-pub record Outcome : Type 0 where
-  pub result : Loaded
+pub record Loaded : Type 0 where
+  pub result : LoadResult
   pub memory : List ℕ
 
-abbrev pub outcome : Loaded → List ℕ → Outcome
-outcome r m = record { result = r; memory = m }
+abbrev pub loaded : LoadResult → List ℕ → Loaded
+loaded r m = record { result = r; memory = m }
 
 -- "on a tape 1 comes first, with place 0"; 8 to 10 leave memory unchanged
-unfoldable pub loadOf : List ℕ → List ℕ → Outcome
+unfoldable pub loadOf : List ℕ → List ℕ → Loaded
 loadOf tape memory =
     cond (eqb (length memory) memorySpan)
-    (outcome (checkOf tape) (cond (eqb (checkOf tape .number) 0) (storeFrom tape memory) memory))
-    (outcome (told 1 0) memory)
+    (loaded (checkOf tape) (cond (eqb (checkOf tape .number) 0) (storeFrom tape memory) memory))
+    (loaded (loadResult 1 0) memory)

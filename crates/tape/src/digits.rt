@@ -2,7 +2,7 @@
 ghost use mathlib.Core.Path.{_≡_};
 ghost use Prim.Native.Nat.{_≤_};
 ghost use lib.ListN.{length};
-ghost use Rattle.words.specs.Lists.{allOf};
+ghost use Rattle.bits.specs.Lists.{allOf};
 ghost use Rattle.tape.specs.Digits.{isDigit, valueOf, numberOf, byteOf, bytesOf, totalOf};
 
 // Whether a character is of `0` to `9`, `A` to `F`.

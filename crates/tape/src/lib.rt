@@ -1,10 +1,10 @@
 // A paper tape loaded into memory.
 mod digits;
-mod memory;
+mod landing;
 mod record;
 
+use landing::land;
 use memory::MEMORY_SPAN;
-use memory::land;
 use record::address;
 use record::count;
 use record::data_digits;
@@ -13,14 +13,14 @@ ghost use mathlib.Core.Path.{_≡_};
 ghost use Prim.Native.Nat.{_+_, _<_, _^_};
 ghost use lib.ListN.{length};
 ghost use Rattle.tape.specs.Records.{dataAt};
-ghost use Rattle.words.specs.Memory.{memorySpan};
-ghost use Rattle.tape.specs.Tapes.{endedBy, checkOf, storeFrom, outcome, loadOf};
+ghost use Rattle.memory.specs.Memory.{memorySpan};
+ghost use Rattle.tape.specs.Tapes.{endedBy, checkOf, storeFrom, loaded, loadOf};
 
 // Begins a record.
 const MARK: u8 = b';';
 
 // What a load hands back: 0 and the place past the last record, or the number of a refusal and the place of the fault.
-pub struct Loaded {
+pub struct LoadResult {
     pub number: u8,
     pub place: usize,
 }
@@ -41,21 +41,21 @@ pub fn record_data(tape: &[u8], place: usize) -> &[u8]
 }
 
 // The last record, the n-th, whose `;` stands at `place`.
-fn ended(text: &[u8], place: usize, n: usize) -> Loaded
+fn ended(text: &[u8], place: usize, n: usize) -> LoadResult
     requires { ⌜ place + 11 < 2 ^ 64 ⌝ }
     ensures { λ r. ⌜ r ≡ endedBy place n (now (text .entry)) ⌝ }
 {
     if address(text) == n {
-        return Loaded {
+        return LoadResult {
             number: 0,
             place: place + 11,
         };
     }
-    Loaded { number: 10, place }
+    LoadResult { number: 10, place }
 }
 
 // The first fault of a tape, or 0 and the place past its last record.
-fn check(tape: &[u8]) -> Loaded
+fn check(tape: &[u8]) -> LoadResult
     ensures { λ r. ⌜ r ≡ checkOf (now (tape .entry)) ⌝ }
 {
     let mut place = 0;
@@ -66,7 +66,7 @@ fn check(tape: &[u8]) -> Loaded
             let text = &tape[from..];
             let number = fault(text);
             if number != 0 {
-                return Loaded { number, place };
+                return LoadResult { number, place };
             }
             if count(text) == 0 {
                 return ended(text, place, seen + 1);
@@ -75,7 +75,7 @@ fn check(tape: &[u8]) -> Loaded
         }
         place += 1;
     }
-    Loaded { number: 10, place }
+    LoadResult { number: 10, place }
 }
 
 // The bytes of an accepted tape into memory, up to its last record.
@@ -99,11 +99,11 @@ fn store(tape: &[u8], memory: &mut [u8])
 }
 
 // A tape into memory: the whole tape is checked first, so that a refused one writes nothing.
-pub fn load(tape: &[u8], memory: &mut [u8]) -> Loaded
-    ensures { λ r. ⌜ outcome r (now (memory .exit)) ≡ loadOf (now (tape .entry)) (now (memory .entry)) ⌝ }
+pub fn load(tape: &[u8], memory: &mut [u8]) -> LoadResult
+    ensures { λ r. ⌜ loaded r (now (memory .exit)) ≡ loadOf (now (tape .entry)) (now (memory .entry)) ⌝ }
 {
     if memory.len() != MEMORY_SPAN {
-        return Loaded {
+        return LoadResult {
             number: 1,
             place: 0,
         };

@@ -2,11 +2,11 @@
 use crate::digits::all_digits;
 use crate::digits::number;
 use crate::digits::total;
-use crate::memory::MEMORY_SPAN;
+use memory::MEMORY_SPAN;
 ghost use mathlib.Core.Path.{_≡_};
 ghost use lib.ListN.{take, drop};
 ghost use Rattle.tape.specs.Records.{
-  countOf,
+  byteCountOf,
   addressOf,
   checkSumOf,
   sumOf,
@@ -37,7 +37,7 @@ fn part(text: &[u8], from: usize, n: usize) -> &[u8]
 
 // The number of data bytes.
 pub fn count(text: &[u8]) -> usize
-    ensures { λ r. ⌜ r ≡ countOf (now (text .entry)) ⌝ }
+    ensures { λ r. ⌜ r ≡ byteCountOf (now (text .entry)) ⌝ }
 {
     number(part(text, 0, 2))
 }

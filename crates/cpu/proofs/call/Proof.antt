@@ -1,5 +1,5 @@
 use mathlib.Core.Path.{refl}
-use Rattle.cpu.specs.Instruction.{callOf}
+use Rattle.cpu.specs.Instruction.{subroutineCall}
 use borrow.Author.Needs.{needs}
 use Rattle.cpu.proofs.call.Statement.{statement}
 use Rattle.cpu.proofs.call.Tie as tie
@@ -28,8 +28,8 @@ with-sp-requires c κs = search needs
 with-pc-requires : tie.Need-with-pc-requires
 with-pc-requires c κs = search needs
 
-ended-with-requires : tie.Need-ended-with-requires
-ended-with-requires c κs = search needs
+executed-with-requires : tie.Need-executed-with-requires
+executed-with-requires c κs = search needs
 
 writes-asked-requires : tie.Need-writes-asked-requires
 writes-asked-requires c κs = search needs
@@ -38,8 +38,8 @@ outcome-of-requires : tie.Need-outcome-of-requires
 outcome-of-requires c κs = search needs
 
 returns : tie.Need-returns
-unfolding callOf
-returns c = rw (← (c .before .before .before .before .before .before .before .before .before .before .before .before .fetch .ensures), ← (c .before .before .before .before .before .before .before .before .before .before .push-word .ensures), ← (c .before .before .before .before .before .before .before .before .before .read-after .ensures), c .outcome-of .ensures, c .before .writes-asked .ensures, c .before .before .ended-with .ensures, c .before .before .before .with-pc .ensures, c .before .before .before .before .with-sp .ensures, c .before .before .before .before .before .down2 .ensures, c .before .before .before .before .before .before .down .ensures, c .before .before .before .before .before .before .before .word16 .ensures) refl
+unfolding subroutineCall
+returns c = rw (← (c .before .before .before .before .before .before .before .before .before .before .before .before .fetch .ensures), ← (c .before .before .before .before .before .before .before .before .before .before .push-word .ensures), ← (c .before .before .before .before .before .before .before .before .before .read-after .ensures), c .outcome-of .ensures, c .before .writes-asked .ensures, c .before .before .executed-with .ensures, c .before .before .before .with-pc .ensures, c .before .before .before .before .with-sp .ensures, c .before .before .before .before .before .down2 .ensures, c .before .before .before .before .before .before .down .ensures, c .before .before .before .before .before .before .before .word16 .ensures) refl
 
 pub call-spec : {M : Type 1} → statement M
 call-spec =
@@ -53,7 +53,7 @@ call-spec =
     down-requires-2
     with-sp-requires
     with-pc-requires
-    ended-with-requires
+    executed-with-requires
     writes-asked-requires
     outcome-of-requires
     returns)

@@ -6,15 +6,15 @@ use Rattle.cpu.proofs.execute.Tie as tie
 access-of-requires : tie.Need-access-of-requires
 access-of-requires c κs = search needs
 
-calls-requires : tie.Need-calls-requires
-calls-requires c κs = search needs
+is-call-requires : tie.Need-is-call-requires
+is-call-requires c κs = search needs
 
 call-requires : tie.Need-call-requires
 call-requires c κs = search needs
 
 returns : tie.Need-returns
 unfolding executeOf
-returns c = rw (← (c .before .before .before .access-of .ensures), ← (c .before .before .calls .ensures), ← (c .call .ensures), c .before .if1 .taken)
+returns c = rw (← (c .before .before .before .access-of .ensures), ← (c .before .before .is-call .ensures), ← (c .call .ensures), c .before .if1 .taken)
 
 no-writes-requires : tie.Need-no-writes-requires
 no-writes-requires c κs = search needs
@@ -27,14 +27,14 @@ outcome-of-requires c κs = search needs
 
 returns-2 : tie.Need-returns-2
 unfolding executeOf
-returns-2 c = rw (← (c .before .before .before .before .before .access-of .ensures), ← (c .before .before .before .before .calls .ensures), ← (c .before .before .no-writes .ensures), ← (c .before .carried-out .ensures), ← (c .outcome-of .ensures), c .before .before .before .if1 .left)
+returns-2 c = rw (← (c .before .before .before .before .before .access-of .ensures), ← (c .before .before .before .before .is-call .ensures), ← (c .before .before .no-writes .ensures), ← (c .before .carried-out .ensures), ← (c .outcome-of .ensures), c .before .before .before .if1 .left)
 
 pub execute-spec : {M : Type 1} → statement M
 execute-spec =
     tie.close
     (tie.spec
     access-of-requires
-    calls-requires
+    is-call-requires
     call-requires
     returns
     no-writes-requires

@@ -2,21 +2,21 @@ use mathlib.Core.Path.{_≡_, sym, _∙_}
 use mathlib.Core.Bool.{false}
 use mathlib.Core.List.{List}
 use Prim.Native.Nat.{ℕ}
-use Rattle.opcodes.specs.Decode.{decodeOf}
-use Rattle.opcodes.specs.declared.Decoded.{Decoded}
-use Rattle.opcodes.specs.declared.Decoded.the-variants.{Undefined}
-use Rattle.opcodes.proofs.Laws.{length-fits}
-use Rattle.bus.specs.declared.Fetched.{Fetched}
-use Rattle.bus.specs.declared.Registers.{Registers}
-use Rattle.operations.specs.Effects.{withPc}
-use Rattle.cpu.specs.Instruction.{begun, decodedTo, instructionOf}
+use Rattle.cpu_opcodes.specs.Decode.{decodeOf}
+use Rattle.cpu_opcodes.specs.declared.Decoded.{Decoded}
+use Rattle.cpu_opcodes.specs.declared.Decoded.the-variants.{Undefined}
+use Rattle.cpu_opcodes.proofs.Laws.{length-fits}
+use Rattle.cpu_access.specs.declared.Fetched.{Fetched}
+use Rattle.cpu_access.specs.declared.CpuRegisters.{CpuRegisters}
+use Rattle.cpu_operations.specs.Effects.{withPc}
+use Rattle.cpu.specs.Instruction.{opcodeFetched, decodedTo, instructionOf}
 use borrow.Author.Needs.{needs}
 use Rattle.cpu.proofs.instruction.Statement.{statement}
 use Rattle.cpu.proofs.instruction.Tie as tie
 
 -- an opcode that need not be asked for: what it decodes to decides
-begun-as : (answers memory : List ℕ) (r : Registers) (f : Fetched) (d : Decoded) → f .bus .missing ≡ false → decodeOf (f .value) ≡ d → decodedTo answers memory (withPc (f .pc) r) (f .bus) d ≡ begun answers memory r f
-begun-as answers memory r f d m e = rw (m, e)
+opcodeFetched-as : (answers memory : List ℕ) (r : CpuRegisters) (f : Fetched) (d : Decoded) → f .bus .missing ≡ false → decodeOf (f .value) ≡ d → decodedTo answers memory (withPc (f .pc) r) (f .bus) d ≡ opcodeFetched answers memory r f
+opcodeFetched-as answers memory r f d m e = rw (m, e)
 
 idle-requires : tie.Need-idle-requires
 idle-requires c κs = search needs
@@ -48,7 +48,7 @@ unfolding instructionOf
 returns-2 c =
     let at = c .before .before .before .before .before .before .before .before .before .before .args in
     rw (← (c .before .before .before .before .before .before .idle .ensures), ← (c .before .before .before .before .before .fetch .ensures))
-    (begun-as (at .answers .now) (at .memory .now) (at .registers) (c .before .before .before .before .before .fetch .result) Undefined
+    (opcodeFetched-as (at .answers .now) (at .memory .now) (at .registers) (c .before .before .before .before .before .fetch .result) Undefined
     (c .before .before .before .if1 .left)
     (sym (c .before .before .decode-in .ensures) ∙ c .enum-told .given .1))
 
@@ -63,7 +63,7 @@ unfolding instructionOf
 returns-3 c =
     let at = c .before .before .before .before .before .before .before .before .before .before .before .before .before .args in
     rw (c .execute .ensures, c .before .with-pc .ensures, ← (c .before .before .before .before .before .before .before .before .before .idle .ensures), ← (c .before .before .before .before .before .before .before .before .fetch .ensures))
-    (begun-as (at .answers .now) (at .memory .now) (at .registers) (c .before .before .before .before .before .before .before .before .fetch .result) _
+    (opcodeFetched-as (at .answers .now) (at .memory .now) (at .registers) (c .before .before .before .before .before .before .before .before .fetch .result) _
     (c .before .before .before .before .before .before .if1 .left)
     (sym (c .before .before .before .before .before .decode-in .ensures) ∙ c .before .before .before .decoded .given .1))
 

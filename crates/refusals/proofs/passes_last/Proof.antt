@@ -1,6 +1,6 @@
 use borrow.Author.Needs.{needs}
 use Rattle.refusals.specs.Refusals.{lastClock}
-use Rattle.refusals.proofs.Steps.{clocks-left}
+use Rattle.refusals.proofs.Accepted.{clocks-left}
 use Rattle.refusals.proofs.passes_last.Statement.{statement}
 use Rattle.refusals.proofs.passes_last.Tie as tie
 use Rattle.refusals.proofs.passes_last.Reads as reads

@@ -2,8 +2,8 @@ use mathlib.Core.Path.{ap, sym}
 use lib.Dec.{eqb}
 use denote.Ref.{now}
 use borrow.Author.Tests.{eq-eqb, ne-eqb}
-use Rattle.words.proofs.Cond.{cond-no}
-use Rattle.tape.specs.Tapes.{storeFrom, outcome, loadOf}
+use Rattle.bits.proofs.Cond.{cond-no}
+use Rattle.tape.specs.Tapes.{storeFrom, loaded, loadOf}
 use borrow.Author.Needs.{needs}
 use Rattle.tape.proofs.load.Statement.{statement}
 use Rattle.tape.proofs.load.Tie as tie
@@ -21,7 +21,7 @@ returns-2 c =
     let at = c .before .before .before .before .before .before .args in
     let checked = c .before .before .check .result in
     rw (← c .before .before .check .ensures, eq-eqb _ _ (c .before .before .before .if1 .left))
-    (ap (outcome checked) (sym (cond-no (eqb (checked .number) 0) (storeFrom (now (at .tape)) (now (at .memory))) (now (at .memory)) (ne-eqb (checked .number) 0 (c .if2 .taken)))))
+    (ap (loaded checked) (sym (cond-no (eqb (checked .number) 0) (storeFrom (now (at .tape)) (now (at .memory))) (now (at .memory)) (ne-eqb (checked .number) 0 (c .if2 .taken)))))
 
 store-requires : tie.Need-store-requires
 store-requires c κs = search needs

@@ -7,7 +7,7 @@ use lib.ListN.{getD, drop, List·getD-eq-default}
 use denote.Ref.{now}
 use Prim.Native.Nat.{_+_}
 use mathlib.Core.Path.{sym, _∙_}
-use Rattle.words.proofs.Cond.{cond-no}
+use Rattle.bits.proofs.Cond.{cond-no}
 use borrow.Author.Needs.{needs}
 use Rattle.tape.proofs.record_data.Statement.{statement}
 use Rattle.tape.proofs.record_data.Tie as tie

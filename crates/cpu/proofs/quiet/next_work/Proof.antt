@@ -3,11 +3,11 @@ use Rattle.cpu.proofs.quiet.next_work.Statement.{statement}
 use Rattle.cpu.proofs.quiet.next_work.Tie as tie
 use Rattle.cpu.proofs.quiet.next_work.Reads as reads
 use Rattle.cpu.proofs.quiet.next_work.Lts as lts
-use Rattle.cpu.proofs.quiet.rest_of.Reads as rest-of-reads
+use Rattle.bits.proofs.one_less.Reads as one-less-reads
 
 -- src/quiet.rt:44:15
-rest-of-requires : tie.Need-rest-of-requires
-rest-of-requires c κs = search needs
+one-less-requires : tie.Need-one-less-requires
+one-less-requires c κs = search needs
 
 -- src/quiet.rt:45:33
 cast-t5 : tie.Need-cast-t5
@@ -27,7 +27,7 @@ add-t9 c = search needs
 
 -- src/quiet.rt:37:1
 returns : tie.Need-returns
-returns c = rw (← (c .before .before .before .rest-of .ensures))
+returns c = rw (← (c .before .before .before .one-less .ensures))
 
 pub next-work-spec : {M : Type 1} → statement M
-next-work-spec = tie.close (tie.spec rest-of-requires cast-t5 add-t6 add-t7 add-t9 returns)
+next-work-spec = tie.close (tie.spec one-less-requires cast-t5 add-t6 add-t7 add-t9 returns)

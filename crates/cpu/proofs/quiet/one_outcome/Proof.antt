@@ -9,20 +9,20 @@ use Rattle.cpu.proofs.quiet.one_outcome.Statement.{statement}
 use Rattle.cpu.proofs.quiet.one_outcome.Tie as tie
 use Rattle.cpu.proofs.quiet.one_outcome.Reads as reads
 use Rattle.cpu.proofs.quiet.one_outcome.Lts as lts
-use Rattle.cpu.proofs.quiet.quiet_on.Reads as quiet-on-reads
+use Rattle.cpu.proofs.quiet.run_instructions.Reads as run-instructions-reads
 
 -- src/quiet.rt:98:9
-quiet-on-requires : tie.Need-quiet-on-requires
-quiet-on-requires c κs = (record { gone = omega arith; leaps = omega arith }, c .before .before .before .pre)
+run-instructions-requires : tie.Need-run-instructions-requires
+run-instructions-requires c κs = (record { gone = omega arith; leaps = omega arith }, c .before .before .before .pre)
 
 -- src/quiet.rt:88:1
 returns : tie.Need-returns
 returns c =
     let at = c .before .before .before .before .args in
-    let done = c .quiet-on .ensures in
+    let done = c .run-instructions .ensures in
     done .1
     ∙ ap (λ (w : Work). instructionOf (w .registers) (now (at .answers)) (now (at .memory)))
     (none-quiet (now (at .answers)) (now (at .memory)) (record { registers = at .registers; wait = 0; gone = record { 0 = 0 }; leaps = 0 }) (done .0))
 
 pub one-outcome-spec : {M : Type 1} → statement M
-one-outcome-spec = tie.close (tie.spec quiet-on-requires returns)
+one-outcome-spec = tie.close (tie.spec run-instructions-requires returns)

@@ -1,5 +1,5 @@
 use Prim.Native.Nat.{_≤_, _+_, _*_, _%_}
-use Rattle.words.specs.Lists.{bitsOf}
+use Rattle.bits.specs.Lists.{bitsOf}
 use mathlib.Core.Path.{sym}
 use Rattle.serial.proofs.Frames.{ending-le, frame-le, frame-number}
 use native.Mathlib.Omega.{arith}

@@ -6,7 +6,7 @@ use Rattle.serial.proofs.format.frame_ending.Reads as reads
 use Rattle.serial.proofs.format.frame_ending.Lts as lts
 use Rattle.serial.proofs.format.has_parity.Reads as has-parity-reads
 use Rattle.serial.proofs.format.parity_bit.Reads as parity-bit-reads
-use Rattle.words.proofs.digit8.Reads as digit8-reads
+use Rattle.bits.proofs.digit8.Reads as digit8-reads
 
 -- src/format.rt:97:8
 has-parity-requires : tie.Need-has-parity-requires

@@ -4,7 +4,7 @@ use Rattle.serial.proofs.format.parity_size.Tie as tie
 use Rattle.serial.proofs.format.parity_size.Reads as reads
 use Rattle.serial.proofs.format.parity_size.Lts as lts
 use Rattle.serial.proofs.format.has_parity.Reads as has-parity-reads
-use Rattle.words.proofs.digit8.Reads as digit8-reads
+use Rattle.bits.proofs.digit8.Reads as digit8-reads
 
 -- src/format.rt:66:19
 has-parity-requires : tie.Need-has-parity-requires

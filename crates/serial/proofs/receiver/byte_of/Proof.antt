@@ -1,6 +1,6 @@
 use native.Mathlib.Omega.{arith}
 use Rattle.serial.proofs.Frames.{span-pos, span-le, data-lt}
-use Rattle.serial.specs.Receiver.{byteOf}
+use Rattle.serial.specs.Receiver.{receivedByte}
 use borrow.Author.Needs.{needs}
 use Rattle.serial.proofs.receiver.byte_of.Statement.{statement}
 use Rattle.serial.proofs.receiver.byte_of.Tie as tie
@@ -31,7 +31,7 @@ cast-result c = rw (c .data-span .ensures) (record { fits = data-lt _ _ })
 
 -- src/receiver.rt:59:1
 returns : tie.Need-returns
-unfolding byteOf
+unfolding receivedByte
 returns c = rw (← (c .before .data-place .ensures), ← (c .data-span .ensures))
 
 pub byte-of-spec : {M : Type 1} → statement M

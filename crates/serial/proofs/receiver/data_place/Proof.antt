@@ -1,5 +1,5 @@
 use Rattle.serial.specs.Format.{hasParity}
-use Rattle.words.proofs.Cond.{digit-le}
+use Rattle.bits.proofs.Cond.{digit-le}
 use native.Mathlib.Omega.{arith}
 use borrow.Author.Needs.{needs}
 use Rattle.serial.proofs.receiver.data_place.Statement.{statement}

@@ -6,7 +6,7 @@ use Rattle.serial.proofs.receiver.status_after.Statement.{statement}
 use Rattle.serial.proofs.receiver.status_after.Tie as tie
 use Rattle.serial.proofs.receiver.status_after.Reads as reads
 use Rattle.serial.proofs.receiver.status_after.Lts as lts
-use Rattle.words.proofs.set_where.Reads as set-where-reads
+use Rattle.bits.proofs.set_where.Reads as set-where-reads
 
 -- src/receiver.rt:81:13
 set-where-requires : tie.Need-set-where-requires

@@ -1,7 +1,7 @@
 use borrow.Author.Tests.{not-true, not-false}
 use Rattle.tape.proofs.DigitLaws.{digits-next, digits-end}
 use Rattle.tape.specs.Digits.{isDigit}
-use Rattle.words.specs.Lists.{allOf}
+use Rattle.bits.specs.Lists.{allOf}
 use denote.Ref.{now}
 use lib.ListN.{length, drop}
 use Prim.Native.Nat.{_-_}

@@ -1,4 +1,4 @@
-use Rattle.tape.specs.Records.{countOf}
+use Rattle.tape.specs.Records.{byteCountOf}
 use lib.ListN.{length, length-take}
 use mathlib.Core.Path.{ap}
 use native.Mathlib.Omega.{arith}
@@ -13,7 +13,7 @@ number-requires : tie.Need-number-requires
 number-requires c κs = omega (arith, simp length-take at (ap length (c .part .ensures)))
 
 returns : tie.Need-returns
-unfolding countOf
+unfolding byteCountOf
 returns c = rw (c .number .ensures, c .before .part .ensures)
 
 pub count-spec : {M : Type 1} → statement M

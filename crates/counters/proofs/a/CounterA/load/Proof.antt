@@ -1,4 +1,4 @@
-use Rattle.counters.specs.Counters.{loadA}
+use Rattle.counters.specs.Counters.{loadCounterA}
 use mathlib.Core.Path.{refl}
 use Rattle.counters.proofs.a.CounterA.load.Statement.{statement}
 use Rattle.counters.proofs.a.CounterA.load.Tie as tie
@@ -7,7 +7,7 @@ use Rattle.counters.proofs.a.CounterA.load.Lts as lts
 
 -- src/a.rt:95:5
 returns : tie.Need-returns
-unfolding loadA
+unfolding loadCounterA
 returns c = refl
 
 pub load-spec : {M : Type 1} → statement M

@@ -1,4 +1,4 @@
-use Rattle.counters.specs.Counters.{loadB}
+use Rattle.counters.specs.Counters.{loadCounterB}
 use mathlib.Core.Path.{refl}
 use Rattle.counters.proofs.b.CounterB.load.Statement.{statement}
 use Rattle.counters.proofs.b.CounterB.load.Tie as tie
@@ -7,7 +7,7 @@ use Rattle.counters.proofs.b.CounterB.load.Lts as lts
 
 -- src/b.rt:120:5
 returns : tie.Need-returns
-unfolding loadB
+unfolding loadCounterB
 returns c = refl
 
 pub load-spec : {M : Type 1} → statement M

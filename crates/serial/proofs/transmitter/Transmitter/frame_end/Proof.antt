@@ -6,7 +6,7 @@ use Rattle.serial.proofs.transmitter.Transmitter.frame_end.Tie as tie
 use Rattle.serial.proofs.transmitter.Transmitter.frame_end.Reads as reads
 use Rattle.serial.proofs.transmitter.Transmitter.frame_end.Lts as lts
 use Rattle.serial.proofs.transmitter.take.Reads as take-reads
-use Rattle.words.proofs.with_bit.Reads as with-bit-reads
+use Rattle.bits.proofs.with_bit.Reads as with-bit-reads
 
 -- src/transmitter.rt:67:17
 with-bit-requires : tie.Need-with-bit-requires

@@ -1,9 +1,0 @@
-use mathlib.Core.Path.{refl}
-use Rattle.bus.proofs.stack.stack_address.Statement.{statement}
-use Rattle.bus.proofs.stack.stack_address.Tie as tie
-
-returns : tie.Need-returns
-returns c = refl
-
-pub stack-address-spec : {M : Type 1} → statement M
-stack-address-spec = tie.close (tie.spec returns)

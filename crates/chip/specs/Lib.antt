@@ -1,4 +1,0 @@
-pub mod State
-pub mod Pins
-pub mod Inputs
-pub mod Registers

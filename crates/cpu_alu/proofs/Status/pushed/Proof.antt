@@ -1,0 +1,31 @@
+use mathlib.Core.Path.{refl}
+use native.Mathlib.Omega.{arith}
+use Rattle.bits.proofs.Cond.{digit-le}
+use Rattle.cpu_alu.proofs.Bounds.{packed-le}
+use Rattle.cpu_alu.specs.Status.{pushed}
+use borrow.Author.Needs.{needs}
+use Rattle.cpu_alu.proofs.Status.pushed.Statement.{statement}
+use Rattle.cpu_alu.proofs.Status.pushed.Tie as tie
+
+pack-requires : tie.Need-pack-requires
+pack-requires c κs = search needs
+
+add-result : tie.Need-add-result
+add-result c = omega (arith, c .pack .ensures, packed-le (c .before .args .self))
+
+digit8-requires : tie.Need-digit8-requires
+digit8-requires c κs = search needs
+
+mul-result : tie.Need-mul-result
+mul-result c = omega (arith, c .digit8 .ensures, digit-le (c .before .before .args .brk))
+
+add-result-2 : tie.Need-add-result-2
+add-result-2 c = omega (arith, c .before .pack .ensures, packed-le (c .before .before .args .self), c .digit8 .ensures, digit-le (c .before .before .args .brk))
+
+returns : tie.Need-returns
+unfolding pushed
+returns c = rw (c .digit8 .ensures, c .before .pack .ensures) refl
+
+pub pushed-spec : {M : Type 1} → statement M
+pushed-spec =
+    tie.close (tie.spec pack-requires add-result digit8-requires mul-result add-result-2 returns)

@@ -1,0 +1,50 @@
+use Prim.Native.Nat.{_+_, _%_}
+use mathlib.Core.Bool.{not}
+use Rattle.bits.specs.Bits.{digit}
+use Rattle.cpu_alu.proofs.Decimal.{borrowed-neg, borrowed-pos}
+use native.Mathlib.Omega.{arith}
+use Rattle.bits.proofs.Cond.{digit-le, digit-not}
+use borrow.Author.Needs.{needs}
+use Rattle.cpu_alu.proofs.arithmetic.low_difference.Statement.{statement}
+use Rattle.cpu_alu.proofs.arithmetic.low_difference.Tie as tie
+
+add-difference : tie.Need-add-difference
+add-difference c = search needs
+
+digit8-requires : tie.Need-digit8-requires
+digit8-requires c κs = search needs
+
+add-difference-2 : tie.Need-add-difference-2
+add-difference-2 c = omega (arith, c .digit8 .ensures, digit-le (c .before .args .c))
+
+sub-difference : tie.Need-sub-difference
+sub-difference c = search needs
+
+add-result : tie.Need-add-result
+add-result c = search needs
+
+returns : tie.Need-returns
+returns c =
+    let at = c .before .before .args in
+    let o = digit-not (at .c) in
+    let e = c .before .digit8 .ensures in
+    (omega arith, borrowed-neg (at .a % 16) (at .m % 16 + digit (not (at .c))) _ (omega arith) (omega arith) (c .if1 .taken))
+
+returns-2 : tie.Need-returns-2
+returns-2 c =
+    let at = c .before .before .args in
+    let o = digit-not (at .c) in
+    let e = c .before .digit8 .ensures in
+    (omega arith, borrowed-pos (at .a % 16) (at .m % 16 + digit (not (at .c))) _ (omega arith) (c .if1 .left))
+
+pub low-difference-spec : {M : Type 1} → statement M
+low-difference-spec =
+    tie.close
+    (tie.spec
+    add-difference
+    digit8-requires
+    add-difference-2
+    sub-difference
+    add-result
+    returns
+    returns-2)

@@ -1,0 +1,14 @@
+use Rattle.cpu_alu.specs.Logic.{eorOf}
+use borrow.Author.Needs.{needs}
+use Rattle.cpu_alu.proofs.logic.eor.Statement.{statement}
+use Rattle.cpu_alu.proofs.logic.eor.Tie as tie
+
+resulting-requires : tie.Need-resulting-requires
+resulting-requires c κs = search needs
+
+returns : tie.Need-returns
+unfolding eorOf
+returns c = rw (c .resulting .ensures)
+
+pub eor-spec : {M : Type 1} → statement M
+eor-spec = tie.close (tie.spec resulting-requires returns)

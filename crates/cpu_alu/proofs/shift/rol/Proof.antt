@@ -1,0 +1,26 @@
+use native.Mathlib.Omega.{arith}
+use Rattle.bits.proofs.Cond.{digit-le}
+use Rattle.cpu_alu.specs.Shift.{rolOf}
+use borrow.Author.Needs.{needs}
+use Rattle.cpu_alu.proofs.shift.rol.Statement.{statement}
+use Rattle.cpu_alu.proofs.shift.rol.Tie as tie
+
+digit8-requires : tie.Need-digit8-requires
+digit8-requires c κs = search needs
+
+add-value : tie.Need-add-value
+add-value c = omega (arith, c .digit8 .ensures, digit-le (c .before .args .status .c))
+
+with-carry-requires : tie.Need-with-carry-requires
+with-carry-requires c κs = search needs
+
+resulting-requires : tie.Need-resulting-requires
+resulting-requires c κs = search needs
+
+returns : tie.Need-returns
+unfolding rolOf
+returns c = rw (c .resulting .ensures, c .before .with-carry .ensures, c .before .before .digit8 .ensures)
+
+pub rol-spec : {M : Type 1} → statement M
+rol-spec =
+    tie.close (tie.spec digit8-requires add-value with-carry-requires resulting-requires returns)

@@ -1,0 +1,151 @@
+-- What an instruction leaves, by kind: the registers, the writes and the clocks that it takes.
+use mathlib.Core.Bool.{Bool, true, false, cond}
+use mathlib.Core.List.{List}
+use Prim.Native.Nat.{ℕ, _+_, _*_, _/_, _%_}
+use lib.Dec.{eqb}
+use Rattle.bits.specs.Bits.{bit, digit}
+use Rattle.cpu_alu.specs.Status.{unpacked, pushed, withNZ, withI}
+use Rattle.cpu_alu.specs.declared.Status.{Status}
+use Rattle.cpu_alu.specs.declared.Computed.{Computed}
+use Rattle.cpu_access.specs.declared.Bus.{Bus}
+use Rattle.cpu_access.specs.declared.CpuRegisters.{CpuRegisters}
+use Rattle.cpu_access.specs.declared.modes.Place.{Place}
+use Rattle.cpu_access.specs.declared.stack.Writes.{Writes}
+use Rattle.cpu_access.specs.declared.stack.Pulled.{Pulled}
+use Rattle.cpu_access.specs.declared.stack.PulledWord.{PulledWord}
+use Rattle.cpu_access.specs.Bus.{irqVector, nextAddress, vectorOf, fetchOf}
+use Rattle.cpu_access.specs.Stack.{writeAt, noWrites, oneWrite, down, pushAt, pushInterrupt, pullOf, pullWord}
+use Rattle.cpu_access.specs.Modes.{relativeTo}
+use Rattle.cpu_operations.specs.declared.Worked.{Worked}
+use Rattle.cpu_operations.specs.declared.Operand.{Operand}
+use Rattle.cpu_operations.specs.declared.Executed.{Executed}
+
+-- one register as given, the others kept
+abbrev pub withSp : ℕ → CpuRegisters → CpuRegisters
+withSp v r = record { a = r .a; x = r .x; y = r .y; sp = v; pc = r .pc; status = r .status }
+
+abbrev pub withPc : ℕ → CpuRegisters → CpuRegisters
+withPc v r = record { a = r .a; x = r .x; y = r .y; sp = r .sp; pc = v; status = r .status }
+
+abbrev pub withStatus : Status → CpuRegisters → CpuRegisters
+withStatus s r = record { a = r .a; x = r .x; y = r .y; sp = r .sp; pc = r .pc; status = s }
+
+-- what was computed goes into a register, with the flags
+abbrev pub intoA : Computed → CpuRegisters → CpuRegisters
+intoA k r = record { a = k .value; x = r .x; y = r .y; sp = r .sp; pc = r .pc; status = k .status }
+
+abbrev pub intoX : Computed → CpuRegisters → CpuRegisters
+intoX k r = record { a = r .a; x = k .value; y = r .y; sp = r .sp; pc = r .pc; status = k .status }
+
+abbrev pub intoY : Computed → CpuRegisters → CpuRegisters
+intoY k r = record { a = r .a; x = r .x; y = k .value; sp = r .sp; pc = r .pc; status = k .status }
+
+-- loads and transfers: N and Z of the byte
+abbrev pub loadA : ℕ → CpuRegisters → CpuRegisters
+loadA v r = record { a = v; x = r .x; y = r .y; sp = r .sp; pc = r .pc; status = withNZ v (r .status) }
+
+abbrev pub loadX : ℕ → CpuRegisters → CpuRegisters
+loadX v r = record { a = r .a; x = v; y = r .y; sp = r .sp; pc = r .pc; status = withNZ v (r .status) }
+
+abbrev pub loadY : ℕ → CpuRegisters → CpuRegisters
+loadY v r = record { a = r .a; x = r .x; y = v; sp = r .sp; pc = r .pc; status = withNZ v (r .status) }
+
+abbrev pub executed : CpuRegisters → Writes → ℕ → Bus → Executed
+executed r w n b = record { worked = record { registers = r; writes = w; length = n }; bus = b }
+
+-- nothing is written
+abbrev pub quiet : CpuRegisters → ℕ → Bus → Executed
+quiet r n b = executed r noWrites n b
+
+-- a byte was read, or none: one clock more where indexing crossed a page (001, A.3, *)
+unfoldable pub completed : Operand → CpuRegisters → Executed
+completed o r = quiet r (o .length + digit (o .crossed)) (o .bus)
+
+-- the byte v is stored at the operand's address
+unfoldable pub stored : Operand → CpuRegisters → ℕ → Executed
+stored o r v = executed r (oneWrite (writeAt (o .address) v)) (o .length) (o .bus)
+
+-- a byte that was read and changed goes back to where it came from
+unfoldable pub modified : Operand → CpuRegisters → Computed → Executed
+modified o r k = cond (o .accumulator) (quiet (intoA k r) (o .length) (o .bus)) (stored o (withStatus (k .status) r) (k .value))
+
+-- one clock more where a branch is taken, two where its target lies in another page (001, A.3, **)
+unfoldable pub branched : Operand → CpuRegisters → Bool → Executed
+branched o r taken =
+    cond taken (quiet (withPc (o .address) r) (o .length + 1 + digit (o .crossed)) (o .bus)) (quiet r (o .length) (o .bus))
+
+-- BBR and BBS: the offset is fetched after the tested byte, whether or not the branch is taken
+abbrev pub branchOperand : Operand → Place → Operand
+branchOperand o p = record {
+  address = p .address;
+  value = o .value;
+  crossed = p .crossed;
+  accumulator = false;
+  length = o .length;
+  bus = p .bus;
+}
+
+abbrev pub bitBranchedTo : Operand → CpuRegisters → Bool → Place → Executed
+bitBranchedTo o r taken p = branched (branchOperand o p) (withPc (p .pc) r) taken
+
+unfoldable pub bitBranched : List ℕ → List ℕ → Operand → CpuRegisters → Bool → Executed
+bitBranched answers memory o r taken = bitBranchedTo o r taken (relativeTo (fetchOf answers memory (r .pc) (o .bus)))
+
+unfoldable pub jumped : Operand → CpuRegisters → Executed
+jumped o r = quiet (withPc (o .address) r) (o .length) (o .bus)
+
+-- PHA and PHP: a push writes at SP, and SP goes down
+unfoldable pub pushedByte : Operand → CpuRegisters → ℕ → Executed
+pushedByte o r v = executed (withSp (down (r .sp)) r) (oneWrite (pushAt (r .sp) v)) (o .length) (o .bus)
+
+-- PLA sets N and Z
+abbrev pub accumulatorFrom : Operand → CpuRegisters → Pulled → Executed
+accumulatorFrom o r p = quiet (loadA (p .value) (withSp (p .sp) r)) (o .length) (p .bus)
+
+unfoldable pub pulledAccumulator : List ℕ → List ℕ → Operand → CpuRegisters → Executed
+pulledAccumulator answers memory o r = accumulatorFrom o r (pullOf answers memory (r .sp) (o .bus))
+
+abbrev pub statusFrom : Operand → CpuRegisters → Pulled → Executed
+statusFrom o r p = quiet (withStatus (unpacked (p .value)) (withSp (p .sp) r)) (o .length) (p .bus)
+
+unfoldable pub pulledStatus : List ℕ → List ℕ → Operand → CpuRegisters → Executed
+pulledStatus answers memory o r = statusFrom o r (pullOf answers memory (r .sp) (o .bus))
+
+-- RTS: PC is what was pulled, plus 1
+abbrev pub returnTo : Operand → CpuRegisters → PulledWord → Executed
+returnTo o r w = quiet (withPc (nextAddress (w .value)) (withSp (w .sp) r)) (o .length) (w .bus)
+
+unfoldable pub returned : List ℕ → List ℕ → Operand → CpuRegisters → Executed
+returned answers memory o r = returnTo o r (pullWord answers memory (r .sp) (o .bus))
+
+-- RTI: the status is pulled, then PC
+abbrev pub resumeAt : Operand → CpuRegisters → Status → PulledWord → Executed
+resumeAt o r s w = quiet (withPc (w .value) (withStatus s (withSp (w .sp) r))) (o .length) (w .bus)
+
+abbrev pub resumeWith : List ℕ → List ℕ → Operand → CpuRegisters → Pulled → Executed
+resumeWith answers memory o r p = resumeAt o r (unpacked (p .value)) (pullWord answers memory (p .sp) (p .bus))
+
+unfoldable pub returnedFromInterrupt : List ℕ → List ℕ → Operand → CpuRegisters → Executed
+returnedFromInterrupt answers memory o r = resumeWith answers memory o r (pullOf answers memory (r .sp) (o .bus))
+
+-- 01, One clock, 4: "An entry .. sets I; NMI and IRQ push PC high, PC low, P", "each 7 clocks"; p is P as it is pushed
+unfoldable pub interrupted : List ℕ → ℕ → ℕ → CpuRegisters → Worked
+interrupted memory vector p r = record {
+  registers = record {
+    a = r .a;
+    x = r .x;
+    y = r .y;
+    sp = down (down (down (r .sp)));
+    pc = vectorOf memory vector;
+    status = withI true (r .status);
+  };
+  writes = pushInterrupt (r .sp) (r .pc) p;
+  length = 7;
+}
+
+-- BRK: PC + 2 is pushed, PC being that of the opcode, behind which r's stands; bits 4 and 5 are set in the byte
+unfoldable pub breakTaken : List ℕ → Operand → CpuRegisters → Executed
+breakTaken memory o r = record {
+  worked = interrupted memory irqVector (pushed (r .status) true) (withPc (nextAddress (r .pc)) r);
+  bus = o .bus;
+}

@@ -1,3 +1,0 @@
-pub mod Worlds
-pub mod Calls
-pub mod Kept

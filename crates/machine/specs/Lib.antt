@@ -1,4 +1,0 @@
-pub mod Outcome
-pub mod World
-pub mod Calls
-pub mod Fit

@@ -1,0 +1,15 @@
+-- Document 01, "Machine state": the lent memory, and its first addresses, which are the registers'.
+use mathlib.Core.Bool.{Bool}
+use Prim.Native.Nat.{ℕ}
+use lib.Dec.{ltb}
+
+-- "Memory: a lent slice of 65,536 bytes."
+abbrev pub memorySpan : ℕ
+memorySpan = 65536
+
+-- "Its bytes at 0 to 3Fh, the registers, are never touched": memory's bytes below this are the registers
+abbrev pub registerEnd : ℕ
+registerEnd = 0x40
+
+abbrev pub isRegister : ℕ → Bool
+isRegister a = ltb a registerEnd

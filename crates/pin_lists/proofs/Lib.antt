@@ -1,0 +1,2 @@
+pub mod PinLists
+pub mod Steps

@@ -1,0 +1,113 @@
+-- What crosses comes back as it was, and a refused call hands back the host's own state.
+use mathlib.Core.Path.{_≡_, refl, sym, ap, _∙_}
+use mathlib.Core.Bool.{Bool, true, false, _&&_, cond}
+use mathlib.Core.List.{List}
+use Prim.Native.Nat.{ℕ}
+use native.Mathlib.Omega.{arith}
+use lib.Dec.{leb, eqb}
+use lib.ListN.{length}
+use borrow.Author.Tests.{leb-true, eqb-true, eqb-false, eq-eqb}
+use Rattle.bits.specs.Bits.{digit}
+use Rattle.bits.proofs.Cond.{and-left, and-right, and-both, cond-both}
+use Rattle.memory.specs.Memory.{memorySpan}
+use Rattle.refusals.specs.Refusals.{refusalOf}
+use Rattle.leaps.specs.Lists.{Call, singleClock, runFor, countOf, callOf, stepOf, runOf}
+use Rattle.leaps.specs.Calls.{refusedHanded, refusalIn}
+use Rattle.r6501q_state.specs.declared.state.State.{State}
+use Rattle.r6501q_state.specs.State.{wellFormed}
+use Rattle.r6501q_step.specs.R6501q.{World, Handed, r6501q, machine}
+use Rattle.r6501q.specs.declared.host.HostDue.{HostDue}
+use Rattle.r6501q.specs.declared.host.HostPeripherals.{HostPeripherals}
+use Rattle.r6501q.specs.declared.host.HostLevels.{HostLevels}
+use Rattle.r6501q.specs.declared.host.HostState.{HostState}
+use Rattle.r6501q.specs.Host.{flagOf, isFlag, levelsFromHost, stateFromHost, flagsFit, hostLevels, hostState}
+use Rattle.r6501q.specs.Calls.{HostWorld, hostWellFormed, worldFromHost, hostHandedOf, hostRefusalOf, hostCall}
+use Rattle.r6501q.specs.Lists.{hostCalled}
+
+-- a flag of the library, to the host and back
+pub flag-kept : (b : Bool) → flagOf (digit b) ≡ b
+flag-kept true = refl
+flag-kept false = refl
+
+pub flag-fits : (b : Bool) → isFlag (digit b) ≡ true
+flag-fits true = refl
+flag-fits false = refl
+
+-- a flag of the host, to the library and back
+pub flag-back : (b : ℕ) → isFlag b ≡ true → digit (flagOf b) ≡ b
+flag-back b e =
+    cond-both (λ (x : ℕ). x ≡ b) (eqb b 1) 1 0 (λ (h : eqb b 1 ≡ true). sym (eqb-true b 1 h))
+    (λ (h : eqb b 1 ≡ false). omega (arith, leb-true b 1 e, eqb-false b 1 h))
+
+-- a state of the library, to the host and back
+pub state-kept : (s : State) → stateFromHost (hostState s) ≡ s
+unfolding stateFromHost hostState
+state-kept s = simp flag-kept
+
+-- what the library hands over has flags alone
+pub state-fits : (s : State) → flagsFit (hostState s) ≡ true
+unfolding flagsFit hostState
+state-fits s = simp flag-fits
+
+-- a state of the host, to the library and back
+pub host-kept : (h : HostState) → flagsFit h ≡ true → hostState (stateFromHost h) ≡ h
+unfolding stateFromHost hostState flagsFit
+host-kept h e =
+    let due = isFlag (h .due .reset) && isFlag (h .due .nmi) in
+    let parts = isFlag (h .peripherals .counterb .turnc) && isFlag (h .peripherals .receiver .half) in
+    let external = isFlag (h .external .nmi) && isFlag (h .external .res) in
+    let last = isFlag (h .last .nmi) && isFlag (h .last .res) in
+    let three = and-left (due && parts && external) last e in
+    let two = and-left (due && parts) external three in
+    let a = and-left due parts two in
+    let b = and-right due parts two in
+    let c = and-right (due && parts) external three in
+    let d = and-right (due && parts && external) last e in
+    rw (
+      flag-back (h .due .reset) (and-left _ _ a),
+      flag-back (h .due .nmi) (and-right (isFlag (h .due .reset)) _ a),
+      flag-back (h .peripherals .counterb .turnc) (and-left _ _ b),
+      flag-back (h .peripherals .receiver .half) (and-right (isFlag (h .peripherals .counterb .turnc)) _ b),
+      flag-back (h .external .nmi) (and-left _ _ c),
+      flag-back (h .external .res) (and-right (isFlag (h .external .nmi)) _ c),
+      flag-back (h .last .nmi) (and-left _ _ d),
+      flag-back (h .last .res) (and-right (isFlag (h .last .nmi)) _ d),
+    )
+
+-- ---- refusals
+
+-- a flag that is a byte above 1 is number 2, and everything is as it was
+pub flag-refused : (call : World → Handed) (n : ℕ) (w : HostWorld) → flagsFit (w .state) ≡ false → length (w .memory) ≡ memorySpan
+    → hostCall call n w ≡ refusedHanded 2 w
+unfolding hostCall refusalOf
+flag-refused call n w e m = rw (e, eq-eqb _ _ m)
+
+-- the clock crosses as it is
+same-clock : (h : HostState) → stateFromHost h .clock ≡ h .clock
+unfolding stateFromHost
+same-clock h = refl
+
+library-refused : (c : Call) (v : World) → eqb (refusalIn r6501q (countOf c) v) 0 ≡ false
+    → callOf machine c v ≡ refusedHanded (refusalIn r6501q (countOf c) v) v
+unfolding callOf countOf stepOf runOf
+library-refused singleClock v e = rw e
+library-refused (runFor n) v e = rw e
+
+-- A refused exported call, single clock or run, hands back the very state that it got, the lists as they were, and the number of the first
+-- row of the table that is so, a flag above 1 being a state that is not well-formed.
+pub exported-refused : (c : Call) (w : HostWorld) → eqb (hostRefusalOf (hostWellFormed (w .state)) (countOf c) w) 0 ≡ false
+    → hostCalled c w ≡ refusedHanded (hostRefusalOf (hostWellFormed (w .state)) (countOf c) w) w
+unfolding hostCall
+exported-refused c w e = by-flags (flagsFit (w .state)) refl
+  where
+    n : ℕ
+    n = countOf c
+
+    by-flags : (t : Bool) → flagsFit (w .state) ≡ t → hostCalled c w ≡ refusedHanded (hostRefusalOf (hostWellFormed (w .state)) n w) w
+    by-flags true f =
+        let number : refusalIn r6501q n (worldFromHost w) ≡ hostRefusalOf (hostWellFormed (w .state)) n w = rw (f, same-clock (w .state)) in
+        let v = worldFromHost w in
+        let library : hostCalled c w ≡ hostHandedOf (callOf machine c v) = rw f in
+        let back : hostHandedOf (refusedHanded (refusalIn r6501q n v) v) ≡ refusedHanded (refusalIn r6501q n v) w = rw (host-kept (w .state) f) in
+        library ∙ ap hostHandedOf (library-refused c v (ap (λ (k : ℕ). eqb k 0) number ∙ e)) ∙ back ∙ ap (λ (k : ℕ). refusedHanded k w) number
+    by-flags false f = rw f

@@ -1,0 +1,115 @@
+-- What crosses to and from programs in C and Rust: document 01, "Machine state", with each flag and level as a byte.
+use mathlib.Core.Bool.{Bool, true, false, _&&_}
+use Prim.Native.Nat.{ℕ}
+use lib.Dec.{leb, eqb}
+use Rattle.bits.specs.Bits.{digit}
+use Rattle.counters.specs.declared.b.CounterB.{CounterB}
+use Rattle.serial.specs.declared.receiver.Receiver.{Receiver}
+use Rattle.r6501q_state.specs.declared.state.Due.{Due}
+use Rattle.r6501q_state.specs.declared.state.Peripherals.{Peripherals}
+use Rattle.r6501q_state.specs.declared.state.Levels.{Levels}
+use Rattle.r6501q_state.specs.declared.state.State.{State}
+use Rattle.r6501q_step.specs.declared.CallResult.{CallResult}
+use Rattle.tape.specs.declared.LoadResult.{LoadResult}
+use Rattle.r6501q.specs.declared.host.HostDue.{HostDue}
+use Rattle.r6501q.specs.declared.host.HostCounterB.{HostCounterB}
+use Rattle.r6501q.specs.declared.host.HostReceiver.{HostReceiver}
+use Rattle.r6501q.specs.declared.host.HostPeripherals.{HostPeripherals}
+use Rattle.r6501q.specs.declared.host.HostLevels.{HostLevels}
+use Rattle.r6501q.specs.declared.host.HostState.{HostState}
+use Rattle.r6501q.specs.declared.host.HostResult.{HostResult}
+use Rattle.r6501q.specs.declared.host.HostLoadResult.{HostLoadResult}
+
+-- ---- from the host: "(yes or no)" is a byte of 1 or 0
+
+abbrev pub flagOf : ℕ → Bool
+flagOf b = eqb b 1
+
+abbrev pub dueFromHost : HostDue → Due
+dueFromHost h = record { reset = flagOf (h .reset); nmi = flagOf (h .nmi) }
+
+abbrev pub counterBFromHost : HostCounterB → CounterB
+counterBFromHost h = record { count = h .count; latchb = h .latchb; latchc = h .latchc; turnc = flagOf (h .turnc) }
+
+abbrev pub receiverFromHost : HostReceiver → Receiver
+receiverFromHost h = record { subinterval = h .subinterval; half = flagOf (h .half); left = h .left; register = h .register }
+
+abbrev pub levelsFromHost : HostLevels → Levels
+levelsFromHost h = record { ports = h .ports; nmi = flagOf (h .nmi); res = flagOf (h .res) }
+
+abbrev pub peripheralsFromHost : HostPeripherals → Peripherals
+peripheralsFromHost h = record {
+  ports = h .ports;
+  countera = h .countera;
+  counterb = counterBFromHost (h .counterb);
+  control = h .control;
+  serial = h .serial;
+  transmitter = h .transmitter;
+  receiver = receiverFromHost (h .receiver);
+}
+
+unfoldable pub stateFromHost : HostState → State
+stateFromHost h = record {
+  cpu = h .cpu;
+  due = dueFromHost (h .due);
+  peripherals = peripheralsFromHost (h .peripherals);
+  external = levelsFromHost (h .external);
+  last = levelsFromHost (h .last);
+  clock = h .clock;
+}
+
+-- "Well-formed: every field is within its range here": a flag that crosses as a byte is 0 or 1
+abbrev pub isFlag : ℕ → Bool
+isFlag b = leb b 1
+
+unfoldable pub flagsFit : HostState → Bool
+flagsFit h =
+    (isFlag (h .due .reset) && isFlag (h .due .nmi))
+    && (isFlag (h .peripherals .counterb .turnc) && isFlag (h .peripherals .receiver .half))
+    && (isFlag (h .external .nmi) && isFlag (h .external .res))
+    && (isFlag (h .last .nmi) && isFlag (h .last .res))
+
+-- ---- to the host
+
+abbrev pub hostDue : Due → HostDue
+hostDue d = record { reset = digit (d .reset); nmi = digit (d .nmi) }
+
+abbrev pub hostCounterB : CounterB → HostCounterB
+hostCounterB c = record { count = c .count; latchb = c .latchb; latchc = c .latchc; turnc = digit (c .turnc) }
+
+abbrev pub hostReceiver : Receiver → HostReceiver
+hostReceiver v = record { subinterval = v .subinterval; half = digit (v .half); left = v .left; register = v .register }
+
+abbrev pub hostLevels : Levels → HostLevels
+hostLevels l = record { ports = l .ports; nmi = digit (l .nmi); res = digit (l .res) }
+
+abbrev pub hostPeripherals : Peripherals → HostPeripherals
+hostPeripherals p = record {
+  ports = p .ports;
+  countera = p .countera;
+  counterb = hostCounterB (p .counterb);
+  control = p .control;
+  serial = p .serial;
+  transmitter = p .transmitter;
+  receiver = hostReceiver (p .receiver);
+}
+
+unfoldable pub hostState : State → HostState
+hostState s = record {
+  cpu = s .cpu;
+  due = hostDue (s .due);
+  peripherals = hostPeripherals (s .peripherals);
+  external = hostLevels (s .external);
+  last = hostLevels (s .last);
+  clock = s .clock;
+}
+
+abbrev pub hostResult : CallResult → HostResult
+hostResult t = record { number = t .number; state = hostState (t .state); leaps = t .leaps; read = t .read; written = t .written }
+
+-- "1 to 5 give back the state given, everything unchanged"
+abbrev pub hostRefused : ℕ → HostState → HostResult
+hostRefused number h = record { number = number; state = h; leaps = 0; read = 0; written = 0 }
+
+abbrev pub hostLoadResult : LoadResult → HostLoadResult
+hostLoadResult l = record { number = l .number; place = l .place }

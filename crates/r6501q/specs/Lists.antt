@@ -1,0 +1,56 @@
+-- Demand 3 over the exported calls: a list of calls as the host makes it, and what plain clocks say of it.
+use mathlib.Core.Path.{_≡_}
+use mathlib.Core.Bool.{Bool, true, false, cond}
+use mathlib.Core.List.{List, [], _∷_}
+use Prim.Native.Nat.{ℕ}
+use lib.Dec.{eqb}
+use Rattle.leaps.specs.Leaps.{plains}
+use Rattle.leaps.specs.Lists.{Call, countOf, callOf, Listed, listed, clocksAccepted, resultsBy}
+use Rattle.leaps.specs.Calls as calls
+use Rattle.leaps.specs.Calls.{lentOf, afterCallOf, refusedWith}
+use Rattle.r6501q_step.specs.R6501q.{World, Result, chip, machine}
+use Rattle.r6501q.specs.declared.host.HostState.{HostState}
+use Rattle.r6501q.specs.Host.{flagsFit}
+use Rattle.r6501q.specs.Calls.{HostWorld, HostHanded, worldFromHost, hostWorld, hostResultOf, hostRefusalOf, hostCall}
+
+abbrev pub HostListed : Type 0
+HostListed = Listed HostWorld (calls.ResultOf HostState)
+
+-- an exported call: the definitions that the contracts of `r6501q_step` and `r6501q_run` cite
+abbrev pub hostCalled : Call → HostWorld → HostHanded
+hostCalled c w = hostCall (callOf machine c) (countOf c) w
+
+-- the exported calls one after the other; "a stop (6, 7) ends the list"
+unfoldable pub hostCalls : List Call → HostWorld → HostListed
+hostCalls [] w = record { world = w; results = [] }
+hostCalls (c ∷ cs) w =
+    elim (eqb (w .stop) 0) [
+      | true ↦ let h = hostCalled c (lentOf w) in listed (h .result) (hostCalls cs (afterCallOf w h))
+      | false ↦ record { world = w; results = [] }
+    ]
+
+-- results as the host has them
+unfoldable pub hostResults : List Result → List (calls.ResultOf HostState)
+hostResults [] = []
+hostResults (r ∷ rs) = hostResultOf r ∷ hostResults rs
+
+-- ---- by plain clocks alone
+
+-- where each flag is 0 or 1: what n plain clocks of the library's world say
+abbrev pub hostPlain : List Call → HostWorld → HostListed
+hostPlain cs w =
+    let v = worldFromHost w in
+    record { world = hostWorld (plains chip (clocksAccepted machine cs v) v); results = hostResults (resultsBy machine cs v) }
+
+-- where a flag is above 1: each call is refused and hands on what it got
+unfoldable pub refusedEach : List Call → HostWorld → List (calls.ResultOf HostState)
+refusedEach [] w = []
+refusedEach (c ∷ cs) w =
+    elim (eqb (w .stop) 0) [
+      | true ↦ refusedWith (hostRefusalOf false (countOf c) w) (w .state) ∷ refusedEach cs w
+      | false ↦ []
+    ]
+
+-- Demand 3 of the exported calls, of a list of them and any start
+abbrev pub HostFair : List Call → HostWorld → Type 0
+HostFair cs w = hostCalls cs w ≡ cond (flagsFit (w .state)) (hostPlain cs w) (record { world = w; results = refusedEach cs w })

@@ -1,0 +1,268 @@
+// The state and what is handed back as the host, a program in C or Rust, holds them: each flag and level is a byte, 0 or 1.
+ghost use mathlib.Core.Path.{_≡_};
+ghost use Rattle.r6501q.specs.Host.{dueFromHost, counterBFromHost, receiverFromHost, levelsFromHost, peripheralsFromHost, stateFromHost, flagsFit, hostDue, hostCounterB, hostReceiver, hostLevels, hostPeripherals, hostState, hostResult, hostLoadResult};
+use bits::digit8;
+use counters::a::CounterA;
+use counters::b::CounterB;
+use r6501q_state::state::Control;
+use r6501q_state::state::Cpu;
+use r6501q_state::state::Due;
+use r6501q_state::state::Levels;
+use r6501q_state::state::Peripherals;
+use r6501q_state::state::Ports;
+use r6501q_state::state::SerialData;
+use r6501q_state::state::State;
+use r6501q_step::CallResult;
+use serial::receiver::Receiver;
+use serial::transmitter::Transmitter;
+use tape::LoadResult;
+
+#[repr(C)]
+pub struct HostDue {
+    pub reset: u8,
+    pub nmi: u8,
+}
+
+#[repr(C)]
+pub struct HostCounterB {
+    pub count: u16,
+    pub latchb: u16,
+    pub latchc: u16,
+    pub turnc: u8,
+}
+
+#[repr(C)]
+pub struct HostReceiver {
+    pub subinterval: u8,
+    pub half: u8,
+    pub left: u8,
+    pub register: u16,
+}
+
+#[repr(C)]
+pub struct HostPeripherals {
+    pub ports: Ports,
+    pub countera: CounterA,
+    pub counterb: HostCounterB,
+    pub control: Control,
+    pub serial: SerialData,
+    pub transmitter: Transmitter,
+    pub receiver: HostReceiver,
+}
+
+#[repr(C)]
+pub struct HostLevels {
+    pub ports: u32,
+    pub nmi: u8,
+    pub res: u8,
+}
+
+#[repr(C)]
+pub struct HostState {
+    pub cpu: Cpu,
+    pub due: HostDue,
+    pub peripherals: HostPeripherals,
+    pub external: HostLevels,
+    pub last: HostLevels,
+    pub clock: u32,
+}
+
+#[repr(C)]
+pub struct HostResult {
+    pub number: u8,
+    pub state: HostState,
+    pub leaps: u32,
+    pub read: usize,
+    pub written: usize,
+}
+
+#[repr(C)]
+pub struct HostLoadResult {
+    pub number: u8,
+    pub place: usize,
+}
+
+// From the host: a byte of 1 is a yes. Bytes above 1 are refused before, by `flags_fit`.
+fn due_of(h: HostDue) -> Due
+    ensures { λ r. ⌜ r ≡ dueFromHost h ⌝ }
+{
+    Due {
+        reset: h.reset == 1,
+        nmi: h.nmi == 1,
+    }
+}
+
+fn counter_b_of(h: HostCounterB) -> CounterB
+    ensures { λ r. ⌜ r ≡ counterBFromHost h ⌝ }
+{
+    CounterB {
+        count: h.count,
+        latchb: h.latchb,
+        latchc: h.latchc,
+        turnc: h.turnc == 1,
+    }
+}
+
+fn receiver_of(h: HostReceiver) -> Receiver
+    ensures { λ r. ⌜ r ≡ receiverFromHost h ⌝ }
+{
+    Receiver {
+        subinterval: h.subinterval,
+        half: h.half == 1,
+        left: h.left,
+        register: h.register,
+    }
+}
+
+fn levels_of(h: HostLevels) -> Levels
+    ensures { λ r. ⌜ r ≡ levelsFromHost h ⌝ }
+{
+    Levels {
+        ports: h.ports,
+        nmi: h.nmi == 1,
+        res: h.res == 1,
+    }
+}
+
+fn peripherals_of(h: HostPeripherals) -> Peripherals
+    ensures { λ r. ⌜ r ≡ peripheralsFromHost h ⌝ }
+{
+    let ports = h.ports;
+    let countera = h.countera;
+    let control = h.control;
+    let serial = h.serial;
+    let transmitter = h.transmitter;
+    Peripherals {
+        ports: ports,
+        countera: countera,
+        counterb: counter_b_of(h.counterb),
+        control: control,
+        serial: serial,
+        transmitter: transmitter,
+        receiver: receiver_of(h.receiver),
+    }
+}
+
+// The host's state as the library's.
+pub fn state_of(h: HostState) -> State
+    ensures { λ r. ⌜ r ≡ stateFromHost h ⌝ }
+{
+    let cpu = h.cpu;
+    State {
+        cpu: cpu,
+        due: due_of(h.due),
+        peripherals: peripherals_of(h.peripherals),
+        external: levels_of(h.external),
+        last: levels_of(h.last),
+        clock: h.clock,
+    }
+}
+
+// Whether each flag and level is 0 or 1.
+pub fn flags_fit(h: HostState) -> bool
+    ensures { λ r. ⌜ r ≡ flagsFit h ⌝ }
+{
+    ((h.due.reset <= 1) & (h.due.nmi <= 1))
+        & ((h.peripherals.counterb.turnc <= 1) & (h.peripherals.receiver.half <= 1))
+        & ((h.external.nmi <= 1) & (h.external.res <= 1))
+        & ((h.last.nmi <= 1) & (h.last.res <= 1))
+}
+
+// To the host.
+fn host_due(d: Due) -> HostDue
+    ensures { λ r. ⌜ r ≡ hostDue d ⌝ }
+{
+    HostDue {
+        reset: digit8(d.reset),
+        nmi: digit8(d.nmi),
+    }
+}
+
+fn host_counter_b(c: CounterB) -> HostCounterB
+    ensures { λ r. ⌜ r ≡ hostCounterB c ⌝ }
+{
+    HostCounterB {
+        count: c.count,
+        latchb: c.latchb,
+        latchc: c.latchc,
+        turnc: digit8(c.turnc),
+    }
+}
+
+fn host_receiver(v: Receiver) -> HostReceiver
+    ensures { λ r. ⌜ r ≡ hostReceiver v ⌝ }
+{
+    HostReceiver {
+        subinterval: v.subinterval,
+        half: digit8(v.half),
+        left: v.left,
+        register: v.register,
+    }
+}
+
+fn host_levels(l: Levels) -> HostLevels
+    ensures { λ r. ⌜ r ≡ hostLevels l ⌝ }
+{
+    HostLevels {
+        ports: l.ports,
+        nmi: digit8(l.nmi),
+        res: digit8(l.res),
+    }
+}
+
+fn host_peripherals(p: Peripherals) -> HostPeripherals
+    ensures { λ r. ⌜ r ≡ hostPeripherals p ⌝ }
+{
+    let ports = p.ports;
+    let countera = p.countera;
+    let control = p.control;
+    let serial = p.serial;
+    let transmitter = p.transmitter;
+    HostPeripherals {
+        ports: ports,
+        countera: countera,
+        counterb: host_counter_b(p.counterb),
+        control: control,
+        serial: serial,
+        transmitter: transmitter,
+        receiver: host_receiver(p.receiver),
+    }
+}
+
+// The library's state as the host's.
+pub fn host_state(s: State) -> HostState
+    ensures { λ r. ⌜ r ≡ hostState s ⌝ }
+{
+    let cpu = s.cpu;
+    HostState {
+        cpu: cpu,
+        due: host_due(s.due),
+        peripherals: host_peripherals(s.peripherals),
+        external: host_levels(s.external),
+        last: host_levels(s.last),
+        clock: s.clock,
+    }
+}
+
+// What a call hands back, as the host's.
+pub fn host_result(t: CallResult) -> HostResult
+    ensures { λ r. ⌜ r ≡ hostResult t ⌝ }
+{
+    HostResult {
+        number: t.number,
+        state: host_state(t.state),
+        leaps: t.leaps,
+        read: t.read,
+        written: t.written,
+    }
+}
+
+// What a load hands back, as the host's.
+pub fn host_load_result(l: LoadResult) -> HostLoadResult
+    ensures { λ r. ⌜ r ≡ hostLoadResult l ⌝ }
+{
+    HostLoadResult {
+        number: l.number,
+        place: l.place,
+    }
+}

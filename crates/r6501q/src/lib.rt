@@ -1,0 +1,157 @@
+// The library for programs in C and Rust. A struct goes by value, a lent slice as a pointer and then its length.
+ghost use mathlib.Core.Path.{_≡_};
+ghost use mathlib.Core.Bool.{false};
+ghost use Rattle.bits.specs.Bits.{digit};
+ghost use Rattle.refusals.specs.Refusals.{refusalOf};
+ghost use Rattle.leaps.specs.Lists.{stepOf, runOf, plainRunOf};
+ghost use Rattle.leaps.specs.Calls.{callStart};
+ghost use Rattle.r6501q_state.specs.State.{fresh};
+ghost use Rattle.r6501q_step.specs.R6501q.{r6501qLimits, machine};
+ghost use Rattle.r6501q.specs.Host.{hostState, hostRefused};
+ghost use Rattle.r6501q.specs.Calls.{hostWellFormed, hostHanded, hostCall, hostLoad, hostLoaded};
+use bits::digit8;
+use host::HostLoadResult;
+use host::HostResult;
+use host::HostState;
+use host::flags_fit;
+use host::host_load_result;
+use host::host_result;
+use host::host_state;
+use host::state_of;
+use r6501q_state::state::fresh_state;
+use r6501q_state::state::well_formed;
+use r6501q_step::limits;
+use refusals::refusal;
+
+// What crosses the interface.
+pub mod host;
+
+// What a call hands back where a flag is a byte above 1: the state as it was given, and the first check that fails of a state that is not
+// well-formed.
+fn flag_refused(
+    state: HostState,
+    span: usize,
+    inputclocks: &[u32],
+    inputcodes: &[u8],
+    outputclocks: usize,
+    outputwords: usize,
+    n: u32,
+) -> HostResult
+    ensures { λ r. ⌜ r ≡ hostRefused (refusalOf r6501qLimits false (state .clock) span (now (inputclocks .entry)) (now (inputcodes .entry)) outputclocks outputwords n) state ⌝ }
+{
+    let number = refusal(
+        limits(),
+        false,
+        state.clock,
+        span,
+        inputclocks,
+        inputcodes,
+        outputclocks,
+        outputwords,
+        n,
+    );
+    HostResult {
+        number: number,
+        state: state,
+        leaps: 0,
+        read: 0,
+        written: 0,
+    }
+}
+
+// A chip that has not run yet.
+#[no_mangle]
+pub extern "C" fn r6501q_fresh() -> HostState
+    ensures { λ r. ⌜ r ≡ hostState fresh ⌝ }
+{
+    host_state(fresh_state())
+}
+
+// 1 where every field is within its range, 0 where one is not.
+#[no_mangle]
+pub extern "C" fn r6501q_well_formed(state: HostState) -> u8
+    ensures { λ r. ⌜ r ≡ digit (hostWellFormed state) ⌝ }
+{
+    let fit = flags_fit(state) & well_formed(state_of(state));
+    digit8(fit)
+}
+
+// The single-clock call.
+#[no_mangle]
+pub extern "C" fn r6501q_step(
+    state: HostState,
+    memory: &mut [u8],
+    inputclocks: &[u32],
+    inputcodes: &[u8],
+    outputclocks: &mut [u32],
+    outputwords: &mut [u32],
+) -> HostResult
+    ensures { λ r. ⌜ hostHanded r (now (memory .exit)) (now (outputclocks .exit)) (now (outputwords .exit)) ≡ hostCall (stepOf machine) 1 (callStart state (now (memory .entry)) (now (inputclocks .entry)) (now (inputcodes .entry)) (now (outputclocks .entry)) (now (outputwords .entry))) ⌝ }
+{
+    if !flags_fit(state) {
+        return flag_refused(
+            state,
+            memory.len(),
+            inputclocks,
+            inputcodes,
+            outputclocks.len(),
+            outputwords.len(),
+            1,
+        );
+    }
+    let result = r6501q_step::step(
+        state_of(state),
+        memory,
+        inputclocks,
+        inputcodes,
+        outputclocks,
+        outputwords,
+    );
+    host_result(result)
+}
+
+// The call for n clocks, by leaps.
+#[no_mangle]
+pub extern "C" fn r6501q_run(
+    state: HostState,
+    memory: &mut [u8],
+    inputclocks: &[u32],
+    inputcodes: &[u8],
+    outputclocks: &mut [u32],
+    outputwords: &mut [u32],
+    n: u32,
+) -> HostResult
+    ensures { λ r. ⌜ hostHanded r (now (memory .exit)) (now (outputclocks .exit)) (now (outputwords .exit)) ≡ hostCall (runOf machine n) n (callStart state (now (memory .entry)) (now (inputclocks .entry)) (now (inputcodes .entry)) (now (outputclocks .entry)) (now (outputwords .entry))) ⌝ }
+    ensures { λ r. ⌜ hostHanded r (now (memory .exit)) (now (outputclocks .exit)) (now (outputwords .exit)) ≡ hostCall (plainRunOf machine n) n (callStart state (now (memory .entry)) (now (inputclocks .entry)) (now (inputcodes .entry)) (now (outputclocks .entry)) (now (outputwords .entry))) ⌝ }
+{
+    if !flags_fit(state) {
+        return flag_refused(
+            state,
+            memory.len(),
+            inputclocks,
+            inputcodes,
+            outputclocks.len(),
+            outputwords.len(),
+            n,
+        );
+    }
+    let result = r6501q_run::run(
+        state_of(state),
+        memory,
+        inputclocks,
+        inputcodes,
+        outputclocks,
+        outputwords,
+        n,
+    );
+    host_result(result)
+}
+
+// A tape into memory.
+#[no_mangle]
+pub extern "C" fn r6501q_load(tape: &[u8], memory: &mut [u8]) -> HostLoadResult
+    ensures { λ r. ⌜ hostLoaded r (now (memory .exit)) ≡ hostLoad (now (tape .entry)) (now (memory .entry)) ⌝ }
+{
+    let result = tape::load(tape, memory);
+    host_load_result(result)
+}

@@ -1,0 +1,141 @@
+-- The CPU's part of a clock keeps every field in its range, and leaves the clock alone.
+use mathlib.Core.Path.{_≡_, refl, sym, ap, _∙_}
+use mathlib.Core.Bool.{Bool, true, false, cond, _&&_}
+use mathlib.Core.List.{List, [], _∷_, _++_}
+use Prim.Native.Nat.{ℕ, zero, suc, _+_, _-_, _*_, _/_, _%_, _≤_, _<_}
+use native.Mathlib.Omega.{arith}
+use lib.Dec.{ltb, leb, eqb}
+use borrow.Author.Tests.{eq-eqb, le-leb, leb-true, eqb-true, ltb-true}
+use Rattle.bits.specs.Bits.{digit}
+use Rattle.bits.proofs.Cond.{cond-both, digit-le, and-both, and-left, and-right}
+use Rattle.cpu_alu.specs.declared.Status.{Status}
+use Rattle.cpu_alu.specs.Status.{packed}
+use Rattle.r6501q_state.specs.declared.state.Cpu.{Cpu}
+use Rattle.r6501q_state.specs.declared.state.Due.{Due}
+use Rattle.r6501q_state.specs.declared.state.Peripherals.{Peripherals}
+use Rattle.r6501q_state.specs.declared.state.State.{State}
+use Rattle.r6501q_state.specs.State.{cpuFits, peripheralsFit, wellFormed}
+use Rattle.r6501q_state.specs.Pins.{atWait}
+use Rattle.r6501q_state.proofs.Ranges.{formed, formed-cpu, formed-peripherals}
+use Rattle.r6501q_registers.specs.declared.read.Reading.{Reading}
+use Rattle.r6501q_registers.specs.Read.{afterRead}
+use Rattle.r6501q_registers.specs.Write.{writeOf}
+use Rattle.r6501q_registers.proofs.Ranges.{read-fits, write-fits}
+use Rattle.cpu_access.specs.declared.CpuRegisters.{CpuRegisters}
+use Rattle.cpu_access.specs.declared.stack.Write.{Write}
+use Rattle.cpu_access.specs.declared.stack.Writes.{Writes}
+use Rattle.memory.specs.Memory.{isRegister}
+use Rattle.cpu_access.specs.Stack.{pushInterrupt}
+use Rattle.cpu_operations.specs.declared.Worked.{Worked}
+use Rattle.cpu_operations.specs.Effects.{interrupted}
+use Rattle.cpu.specs.declared.Outcome.{Outcome}
+use Rattle.cpu.specs.declared.Outcome.the-variants as outcome
+use Rattle.cpu.specs.Entries.{resetEntry, interruptEntry}
+use Rattle.cpu_access.specs.Bus.{nmiVector, irqVector}
+use Rattle.cpu.specs.Instruction.{instructionOf}
+use Rattle.cpu.proofs.Laws.{Fits, done-fits}
+use Rattle.r6501q_cpu.specs.declared.Next.{Next}
+use Rattle.r6501q_cpu.specs.declared.Processed.{Processed}
+use Rattle.r6501q_cpu.specs.declared.Processed.the-variants.{Undefined, Done}
+use Rattle.r6501q_cpu.specs.declared.Turn.{Turn}
+use Rattle.r6501q_cpu.specs.Processor.{registersOf, cpuOf, putRegister, registersAfter, answerOf, nextOf, turnBy, turned, turnOf, instructionFrom, wholeInstruction, resetStart, nmiStart, irqStart, irqDue, startOf, quietly, waiting, processorOf}
+
+-- bits 4 and 5 of a packed P are 0
+packed-clear : (s : Status) → packed s / 16 % 4 ≡ 0
+unfolding packed
+packed-clear s =
+    let n = digit-le (s .n) in let v = digit-le (s .v) in let d = digit-le (s .d) in
+    let i = digit-le (s .i) in let z = digit-le (s .z) in let c = digit-le (s .c) in
+    omega arith
+
+cpu-of-fits : (r : CpuRegisters) (length : ℕ) → length ≤ 7 → cpuFits (cpuOf r (length - 1)) ≡ true
+cpu-of-fits r length h =
+    and-both _ _ (eq-eqb (packed (r .status) / 16 % 4) 0 (packed-clear (r .status))) (le-leb (length - 1) 6 (omega arith))
+
+-- register writes keep the peripherals in their ranges
+put-fits : (there : Bool) (w : Write) (p : Peripherals) → peripheralsFit p ≡ true → peripheralsFit (putRegister there w p) ≡ true
+unfolding putRegister
+put-fits there w p e =
+    cond-both (λ (x : Peripherals). peripheralsFit x ≡ true) (there && isRegister (w .address)) (writeOf p (w .address) (w .value)) p
+    (λ _. write-fits p (w .address) (w .value) e) (λ _. e)
+
+after-fits : (p : Peripherals) (w : Writes) → peripheralsFit p ≡ true → peripheralsFit (registersAfter p w) ≡ true
+unfolding registersAfter
+after-fits p w e =
+    put-fits (ltb 2 (w .count)) (w .third) _ (put-fits (ltb 1 (w .count)) (w .second) _ (put-fits (ltb 0 (w .count)) (w .first) p e))
+
+reset-entry-fits : (memory : List ℕ) (r : CpuRegisters) → Fits (resetEntry memory r)
+unfolding resetEntry
+reset-entry-fits memory r = record { writes = omega arith; least = omega arith; most = omega arith }
+
+interrupt-entry-fits : (memory : List ℕ) (vector : ℕ) (r : CpuRegisters) → Fits (interruptEntry memory vector r)
+unfolding interruptEntry interrupted pushInterrupt
+interrupt-entry-fits memory vector r = record { writes = omega arith; least = omega arith; most = omega arith }
+
+-- of the end of a clock's CPU part, where there is one
+abbrev pub Ends : (Next → Type 0) → Processed → Type 0
+Ends P Undefined = Unit {0}
+Ends P (Done n) = P n
+
+-- What holds of the peripherals before, and after each read, and what follows of the state after an entry or an instruction, of one
+-- with a clock less to wait, and of one that RES holds: that holds of the CPU's part.
+module _ (s : State) (memory : List ℕ) (Q : Peripherals → Type 0) (P : Next → Type 0)
+    (first : Q (s .peripherals)) (reads : (p : Peripherals) (at : ℕ) → Q p → Q (afterRead p at))
+    (ends : (due : Due) (p : Peripherals) (w : Worked) → Q p → Fits w → P (nextOf s due p w)) where
+  turn-ends : (p : Peripherals) (answers : List ℕ) (goOn : Reading → Processed) → Q p → ((r : Reading) → Q (r .peripherals) → Ends P (goOn r))
+      → Ends P (turned goOn (turnOf s p answers memory))
+  unfolding turnOf answerOf
+  turn-ends p answers goOn q on = by-outcome (instructionOf (registersOf (s .cpu)) answers memory) refl
+    where
+      by-outcome : (o : Outcome) → instructionOf (registersOf (s .cpu)) answers memory ≡ o → Ends P (turned goOn (turnBy s p o))
+      by-outcome outcome.Undefined e = tt
+      by-outcome (outcome.Asked ask) e = on _ (reads p (ask .address) q)
+      by-outcome (outcome.Done w) e = ends (s .due) p w q (done-fits (registersOf (s .cpu)) answers memory w e)
+
+  instruction-ends : (n : ℕ) (p : Peripherals) (answers : List ℕ) → Q p → Ends P (instructionFrom Undefined n s p answers memory)
+  unfolding instructionFrom
+  instruction-ends zero p answers q = tt
+  instruction-ends (suc n) p answers q =
+      turn-ends p answers _ q (λ r f. instruction-ends n (r .peripherals) (answers ++ (r .value ∷ [])) f)
+
+  start-ends : Ends P (startOf s memory)
+  unfolding startOf resetStart nmiStart irqStart wholeInstruction
+  start-ends =
+      cond-both (Ends P) (s .due .reset) _ _ (λ _. ends _ _ _ first (reset-entry-fits memory (registersOf (s .cpu))))
+      (λ _. cond-both (Ends P) (s .due .nmi) _ _ (λ _. ends _ _ _ first (interrupt-entry-fits memory nmiVector (registersOf (s .cpu))))
+      (λ _. cond-both (Ends P) (irqDue s) _ _ (λ _. ends _ _ _ first (interrupt-entry-fits memory irqVector (registersOf (s .cpu))))
+      (λ _. instruction-ends 6 (s .peripherals) [] first)))
+
+  pub processor-ends : Ends P (quietly (waiting s (s .cpu .wait - 1))) → Ends P (quietly s) → Ends P (processorOf s memory)
+  unfolding processorOf
+  processor-ends waits rests =
+      cond-both (Ends P) (s .last .res) _ _
+      (λ _. cond-both (Ends P) (ltb 0 (s .cpu .wait)) _ _ (λ _. waits) (λ _. start-ends))
+      (λ _. rests)
+
+-- "wait minus 1" stays in its range
+fewer-formed : (s : State) → wellFormed s ≡ true → wellFormed (waiting s (s .cpu .wait - 1)) ≡ true
+fewer-formed s e =
+    let f = formed-cpu s e in
+    let status = eqb (s .cpu .p / 16 % 4) 0 in
+    let fits = leb-true (s .cpu .wait) 6 (and-right status (leb (s .cpu .wait) 6) f) in
+    formed _
+    (and-both status (leb (s .cpu .wait - 1) 6) (and-left status (leb (s .cpu .wait) 6) f) (le-leb (s .cpu .wait - 1) 6 (omega arith)))
+    (formed-peripherals s e)
+
+-- every field stays in its range
+pub processor-formed : (s : State) (memory : List ℕ) → wellFormed s ≡ true → Ends (λ n. wellFormed (n .state) ≡ true) (processorOf s memory)
+processor-formed s memory e =
+    processor-ends s memory (λ p. peripheralsFit p ≡ true) (λ n. wellFormed (n .state) ≡ true) (formed-peripherals s e) read-fits
+    (λ due p w q f. formed _ (cpu-of-fits (w .registers) (w .length) (f .most)) (after-fits p (w .writes) q))
+    (fewer-formed s e) e
+
+-- the clock is left alone
+pub processor-clock : (s : State) (memory : List ℕ) → Ends (λ n. n .state .clock ≡ s .clock) (processorOf s memory)
+processor-clock s memory =
+    processor-ends s memory (λ p. Unit {0}) (λ n. n .state .clock ≡ s .clock) tt (λ p a q. tt) (λ due p w q f. refl) refl refl
+
+-- at most three writes
+pub processor-writes : (s : State) (memory : List ℕ) → Ends (λ n. n .writes .count ≤ 3) (processorOf s memory)
+processor-writes s memory =
+    processor-ends s memory (λ p. Unit {0}) (λ n. n .writes .count ≤ 3) tt (λ p a q. tt) (λ due p w q f. f .writes) (omega arith) (omega arith)

@@ -1,0 +1,244 @@
+// Step 4 of a clock: the CPU on the state that steps 1 to 3 leave. Nothing is written to memory here.
+ghost use mathlib.Core.Path.{_≡_};
+ghost use mathlib.Core.List.{[]};
+ghost use Prim.Native.Nat.{_≤_};
+ghost use Rattle.cpu_opcodes.specs.Table.{opcodeTable};
+ghost use Rattle.r6501q_cpu.specs.Processor.{registersOf, cpuOf, putRegister, registersAfter, answerOf, nextOf, turnOf, instructionFrom, wholeInstruction, irqDue, resetStart, nmiStart, irqStart, startOf, quietly, waiting, processorOf};
+use cpu::Ask;
+use cpu::Outcome;
+use cpu::entries::interrupt_entry;
+use cpu::entries::reset_entry;
+use cpu::quiet::one_outcome;
+use cpu_access::CpuRegisters;
+use cpu_access::IRQ_VECTOR;
+use cpu_access::NMI_VECTOR;
+use cpu_access::stack::Write;
+use cpu_access::stack::Writes;
+use cpu_access::stack::no_writes;
+use cpu_alu::Status;
+use cpu_operations::Worked;
+use memory::is_register;
+use r6501q_registers::read::Reading;
+use r6501q_state::state::Cpu;
+use r6501q_state::state::Due;
+use r6501q_state::state::Peripherals;
+use r6501q_state::state::State;
+
+// The state after the CPU's part of a clock, and its writes: those at register addresses are done, the others are not yet.
+pub struct Next {
+    pub state: State,
+    pub writes: Writes,
+}
+
+// What the CPU's part of a clock comes to.
+pub enum Processed {
+    Undefined,
+    Done(Next),
+}
+
+// An instruction with the answers so far: it is over, or one more answer is given.
+pub enum Turn {
+    Over(Processed),
+    Answered(Reading),
+}
+
+// The interrupt disable bit of P, by weight.
+const INTERRUPT_DISABLE: u8 = 4;
+
+// More answers than an instruction asks for.
+const ANSWERS: usize = 6;
+
+// The CPU's registers as an instruction has them.
+pub fn registers_of(c: Cpu) -> CpuRegisters
+    ensures { λ r. ⌜ r ≡ registersOf c ⌝ }
+{
+    CpuRegisters {
+        a: c.a,
+        x: c.x,
+        y: c.y,
+        sp: c.sp,
+        pc: c.pc,
+        status: Status::unpack(c.p),
+    }
+}
+
+// The registers kept, and the clocks still to wait.
+pub fn cpu_of(r: CpuRegisters, wait: u8) -> Cpu
+    ensures { λ x. ⌜ x ≡ cpuOf r wait ⌝ }
+{
+    Cpu {
+        a: r.a,
+        x: r.x,
+        y: r.y,
+        sp: r.sp,
+        p: r.status.pack(),
+        pc: r.pc,
+        wait: wait,
+    }
+}
+
+// A write at a register's address, where there is one.
+fn put_register(there: bool, w: Write, p: Peripherals) -> Peripherals
+    ensures { λ r. ⌜ r ≡ putRegister there w p ⌝ }
+{
+    let here = there & is_register(w.address);
+    if here {
+        return r6501q_registers::write::write(p, w.address, w.value);
+    }
+    p
+}
+
+// The register writes of an instruction, in their order.
+fn registers_after(p: Peripherals, w: Writes) -> Peripherals
+    ensures { λ r. ⌜ r ≡ registersAfter p w ⌝ }
+{
+    let first = put_register(0 < w.count, w.first, p);
+    let second = put_register(1 < w.count, w.second, first);
+    put_register(2 < w.count, w.third, second)
+}
+
+// The answer to what an instruction asks.
+fn answer(p: Peripherals, levels: u32, ask: Ask) -> Reading
+    ensures { λ r. ⌜ r ≡ answerOf p levels ask ⌝ }
+{
+    let written = registers_after(p, ask.writes);
+    Reading {
+        value: r6501q_registers::read::value(written, levels, ask.latch, ask.address),
+        peripherals: r6501q_registers::read::after_read(p, ask.address),
+    }
+}
+
+// The state after an entry or an instruction.
+fn next_state(s: State, due: Due, p: Peripherals, w: Worked) -> Next
+    ensures { λ r. ⌜ r ≡ nextOf s due p w ⌝ }
+{
+    let writes = w.writes;
+    let cpu = cpu_of(w.registers, bits::one_less(w.length));
+    let peripherals = registers_after(p, writes);
+    let mut state = s;
+    state.cpu = cpu;
+    state.due = due;
+    state.peripherals = peripherals;
+    Next {
+        state: state,
+        writes: writes,
+    }
+}
+
+// An instruction worked with the answers so far.
+fn take_turn(s: State, p: Peripherals, answers: &[u8], memory: &[u8], entries: &[u16]) -> Turn
+    requires { ⌜ now entries ≡ opcodeTable ⌝ }
+    ensures { λ r. ⌜ r ≡ turnOf s p (now (answers .entry)) (now (memory .entry)) ⌝ }
+{
+    let outcome = one_outcome(registers_of(s.cpu), answers, memory, entries);
+    match outcome {
+        Outcome::Undefined => Turn::Over(Processed::Undefined),
+        Outcome::Asked(ask) => Turn::Answered(answer(p, s.last.ports, ask)),
+        Outcome::Done(worked) => Turn::Over(Processed::Done(next_state(s, s.due, p, worked))),
+    }
+}
+
+// One whole instruction: each question is answered in turn.
+fn whole_instruction(s: State, memory: &[u8], entries: &[u16]) -> Processed
+    requires { ⌜ now entries ≡ opcodeTable ⌝ }
+    ensures { λ r. ⌜ r ≡ wholeInstruction s (now (memory .entry)) ⌝ }
+{
+    let mut answers = [0u8; ANSWERS];
+    let mut peripherals = s.peripherals;
+    let mut count = 0;
+    while count < ANSWERS {
+        let turned = take_turn(s, peripherals, &answers[..count], memory, entries);
+        match turned {
+            Turn::Over(processed) => {
+                return processed;
+            }
+            Turn::Answered(reading) => {
+                answers[count] = reading.value;
+                peripherals = reading.peripherals;
+                count += 1;
+            }
+        }
+    }
+    Processed::Undefined
+}
+
+// Whether an interrupt request is taken.
+fn irq_due(s: State) -> bool
+    ensures { λ r. ⌜ r ≡ irqDue s ⌝ }
+{
+    (s.cpu.p / INTERRUPT_DISABLE % 2 != 1) & s.peripherals.control.pending()
+}
+
+fn start_reset(s: State, memory: &[u8]) -> Next
+    ensures { λ r. ⌜ r ≡ resetStart s (now (memory .entry)) ⌝ }
+{
+    let worked = reset_entry(memory, registers_of(s.cpu));
+    let due = Due {
+        reset: false,
+        nmi: s.due.nmi,
+    };
+    next_state(s, due, s.peripherals, worked)
+}
+
+fn start_nmi(s: State, memory: &[u8]) -> Next
+    ensures { λ r. ⌜ r ≡ nmiStart s (now (memory .entry)) ⌝ }
+{
+    let worked = interrupt_entry(memory, NMI_VECTOR, registers_of(s.cpu));
+    let due = Due {
+        reset: s.due.reset,
+        nmi: false,
+    };
+    next_state(s, due, s.peripherals, worked)
+}
+
+fn start_irq(s: State, memory: &[u8]) -> Next
+    ensures { λ r. ⌜ r ≡ irqStart s (now (memory .entry)) ⌝ }
+{
+    let worked = interrupt_entry(memory, IRQ_VECTOR, registers_of(s.cpu));
+    next_state(s, s.due, s.peripherals, worked)
+}
+
+// What starts: an entry that is due, or one whole instruction.
+fn start(s: State, memory: &[u8], entries: &[u16]) -> Processed
+    requires { ⌜ now entries ≡ opcodeTable ⌝ }
+    ensures { λ r. ⌜ r ≡ startOf s (now (memory .entry)) ⌝ }
+{
+    if s.due.reset {
+        return Processed::Done(start_reset(s, memory));
+    }
+    if s.due.nmi {
+        return Processed::Done(start_nmi(s, memory));
+    }
+    if irq_due(s) {
+        return Processed::Done(start_irq(s, memory));
+    }
+    whole_instruction(s, memory, entries)
+}
+
+// Nothing is written.
+fn without_writes(s: State) -> Processed
+    ensures { λ r. ⌜ r ≡ quietly s ⌝ }
+{
+    let writes = no_writes();
+    Processed::Done(Next {
+        state: s,
+        writes: writes,
+    })
+}
+
+// The CPU's part of a clock. `entries` is what `cpu_opcodes::opcode_table` gave.
+pub fn process(s: State, memory: &[u8], entries: &[u16]) -> Processed
+    requires { ⌜ now entries ≡ opcodeTable ⌝ }
+    ensures { λ r. ⌜ r ≡ processorOf s (now (memory .entry)) ⌝ }
+{
+    if s.last.res {
+        if 0 < s.cpu.wait {
+            let mut state = s;
+            let wait = s.cpu.wait - 1;
+            state.cpu.wait = wait;
+            return without_writes(state);
+        }
+        return start(s, memory, entries);
+    }
+    without_writes(s)
+}

@@ -1,0 +1,287 @@
+-- Where the next clock of a state is no event clock, that clock is a gap of one clock passed.
+use mathlib.Core.Path.{_≡_, refl, sym, ap, _∙_}
+use mathlib.Core.Bool.{Bool, true, false, _&&_, _||_, not, cond, false≢true}
+use mathlib.Core.List.{List, [], _∷_}
+use Prim.Native.Nat.{ℕ, zero, suc, _+_, _<_}
+use native.Mathlib.Omega.{arith}
+use lib.Dec.{ltb, eqb}
+use lib.ListN.{getD}
+use borrow.Author.Tests.{eqb-true, eqb-false, ne-eqb, le-ltb, lt-ltb, not-false}
+use Rattle.bits.specs.Bits.{bit, setWhere, flipWhere}
+use Rattle.bits.specs.Lists.{anyOf}
+use Rattle.counters.specs.declared.a.CounterA.{CounterA}
+use Rattle.counters.specs.declared.b.CounterB.{CounterB}
+use Rattle.counters.specs.Counters.{clockA, countsA, downA, runsA, clockB, downB, runsB, passA, passB, ticksOf}
+use Rattle.counters.proofs.Gaps.{clock-passes-a, clock-passes-b}
+use Rattle.serial.specs.Transmitter.{transmitterClock}
+use Rattle.serial.specs.Receiver.{receiverClock}
+use Rattle.r6501q_state.specs.declared.state.Peripherals.{Peripherals}
+use Rattle.r6501q_state.specs.declared.state.State.{State}
+use Rattle.r6501q_state.specs.State.{withCounterA, withCounterB}
+use Rattle.r6501q_state.specs.Pins.{levelsOf, rose, fell, edges, withEdges, resetOf, sensedAt, sensed}
+use Rattle.r6501q_state.specs.Control.{modeA, modeB}
+use Rattle.r6501q_clock.specs.Clock.{withInputs, inputsSet, countA, countB, sentBy, heardBy, worked, readyOf}
+use Rattle.r6501q_cpu.specs.Processor.{processorOf, quietly}
+use Rattle.r6501q_gaps.specs.Events.{hasInput, levelsChange, underflowsA, underflowsB, isReset, resetChanges, cpuStarts, eventTests, eventOf}
+use Rattle.r6501q_gaps.specs.Gaps.{clocksOf, runningA, runningB, waitAfter, passCounters, passOf}
+use Rattle.r6501q_gaps.proofs.Same.{same-levels, levels-same, reset-same}
+
+-- ---- no edge between equal levels
+
+no-rise : (pin x : ℕ) → rose pin x x ≡ false
+unfolding rose
+no-rise pin x = neither (bit pin x)
+  where
+    neither : (b : Bool) → (not b && b) ≡ false
+    neither true = refl
+    neither false = refl
+
+no-fall : (pin x : ℕ) → fell pin x x ≡ false
+unfolding fell
+no-fall pin x = neither (bit pin x)
+  where
+    neither : (b : Bool) → (b && not b) ≡ false
+    neither true = refl
+    neither false = refl
+
+no-edges : (ifr x : ℕ) → edges ifr x x ≡ ifr
+unfolding edges setWhere
+no-edges ifr x = rw (no-fall 3 x, no-fall 2 x, no-rise 1 x, no-rise 0 x)
+
+no-nmi : (due level : Bool) → (due || (level && not level)) ≡ due
+no-nmi true level = refl
+no-nmi false true = refl
+no-nmi false false = refl
+
+-- ---- underflows without a rise
+
+-- counter A underflows where it runs and stands at 0000h
+underflow-a : (c : CounterA) (mode : ℕ) (low : Bool) → clockA c mode false low .underflow ≡ (runsA mode low && eqb (c .count) 0)
+unfolding clockA runsA downA
+underflow-a c mode low = by-tests (countsA mode false low) (eqb (c .count) 0) refl refl
+  where
+    by-tests : (t z : Bool) → countsA mode false low ≡ t → eqb (c .count) 0 ≡ z
+        → clockA c mode false low .underflow ≡ (countsA mode false low && eqb (c .count) 0)
+    by-tests true true e f = rw (e, f)
+    by-tests true false e f = rw (e, f)
+    by-tests false z e f = rw e
+
+-- and so does counter B
+underflow-b : (c : CounterB) (mode : ℕ) → clockB c mode false .underflow ≡ (runsB mode && eqb (c .count) 0)
+unfolding clockB runsB downB
+underflow-b c mode = by-tests (ltb mode 2) (eqb mode 2) (eqb (c .count) 0) refl refl refl
+  where
+    by-tests : (l t z : Bool) → ltb mode 2 ≡ l → eqb mode 2 ≡ t → eqb (c .count) 0 ≡ z
+        → clockB c mode false .underflow ≡ (not (eqb mode 2) && eqb (c .count) 0)
+    by-tests l true z e f g =
+        let m : mode ≡ 2 = eqb-true mode 2 f in
+        let k : ltb mode 2 ≡ false = le-ltb mode 2 (omega arith) in
+        rw (k, f)
+    by-tests true false true e f g = rw (e, f, g)
+    by-tests true false false e f g = rw (e, f, g)
+    by-tests false false true e f g = rw (e, f, g)
+    by-tests false false false e f g = rw (e, f, g)
+
+-- the same of a state whose levels are the last ones
+still-a : (s : State)
+    → underflowsA (s .last .ports) s ≡ (runningA (s .peripherals .control) (s .last .ports) && eqb (s .peripherals .countera .count) 0)
+unfolding underflowsA runningA
+still-a s =
+    let c = s .peripherals .countera in
+    let mode = modeA (s .peripherals .control .mcr) (s .peripherals .control .sccr) in
+    let low = not (bit 4 (s .last .ports)) in
+    ap (λ (r : Bool). clockA c mode r low .underflow) (no-rise 4 (s .last .ports)) ∙ underflow-a c mode low
+
+still-b : (s : State) → underflowsB (s .last .ports) s ≡ (runningB (s .peripherals .control) && eqb (s .peripherals .counterb .count) 0)
+unfolding underflowsB runningB
+still-b s =
+    let c = s .peripherals .counterb in
+    let mode = modeB (s .peripherals .control .mcr) in
+    ap (λ (r : Bool). clockB c mode r .underflow) (no-rise 5 (s .last .ports)) ∙ underflow-b c mode
+
+-- a counter, or the wait, that counts down is above 0, or it does not count down
+not-at-zero : (running : Bool) (count : ℕ) → (running ≡ true → 0 < count) → (running && eqb count 0) ≡ false
+not-at-zero true count h = ne-eqb count 0 (λ e. let k = h refl in omega arith)
+not-at-zero false count h = refl
+
+above-zero : (running : Bool) (count : ℕ) → (running && eqb count 0) ≡ false → running ≡ true → 0 < count
+above-zero true count e z = let k = eqb-false count 0 e in omega arith
+above-zero false count e z = absurd (false≢true z)
+
+-- RES is high, or RES low changes no field
+pub no-both : (r t : Bool) → (r ≡ false → t ≡ true) → (not r && not t) ≡ false
+no-both true t h = refl
+no-both false t h = rw (h refl)
+
+pub both-no : (r t : Bool) → (not r && not t) ≡ false → r ≡ false → t ≡ true
+both-no true t e z = absurd (false≢true (sym z))
+both-no false t e z = not-false t e
+
+-- ---- what is known of a state whose next clock, without an input, is no event clock, or one by the CPU's start alone
+
+pub record Still (s : State) : Type 0 where
+  pub levels : levelsOf s ≡ s .last
+  pub above-a : runningA (s .peripherals .control) (s .last .ports) ≡ true → 0 < s .peripherals .countera .count
+  pub above-b : runningB (s .peripherals .control) ≡ true → 0 < s .peripherals .counterb .count
+  pub reset : s .last .res ≡ false → isReset s ≡ true
+
+-- ---- what is known of a state whose next clock, without an input, is no event clock
+
+pub record Quiet (s : State) : Type 0 where
+  pub still : Still s
+  pub waits : s .last .res ≡ true → 0 < s .cpu .wait
+
+-- ---- step 1
+
+-- the state whose clock is counted and has no inputs
+abbrev pub ahead : State → State
+ahead s = record { cpu = s .cpu; due = s .due; peripherals = s .peripherals; external = s .external; last = s .last; clock = s .clock + 1 }
+
+inputsSet-ahead : (s : State) → inputsSet s [] ≡ ahead s
+unfolding withInputs
+inputsSet-ahead s = refl
+
+-- levels and tests of RES low do not look at the clock
+levels-ahead : (s : State) → levelsOf (ahead s) ≡ levelsOf s
+unfolding levelsOf
+levels-ahead s = refl
+
+reset-ahead : (s : State) → isReset (ahead s) ≡ isReset s
+unfolding isReset
+reset-ahead s = refl
+
+-- no edge is recorded where the levels are the last ones
+not-withEdges : (s : State) → withEdges s (s .last) ≡ s
+unfolding withEdges
+not-withEdges s = rw (no-edges (s .peripherals .control .ifr) (s .last .ports), no-nmi (s .due .nmi) (s .last .nmi))
+
+withEdges-ahead : (s : State) → levelsOf s ≡ s .last → withEdges (ahead s) (levelsOf (ahead s)) ≡ ahead s
+withEdges-ahead s e = rw (levels-ahead, e) (not-withEdges (ahead s))
+
+sensedAt-same : (s : State) → (s .last .res ≡ false → isReset s ≡ true) → sensedAt s (s .last) ≡ s
+unfolding sensedAt
+sensedAt-same s h = rw (not-withEdges s) (by-res (s .last .res) h)
+  where
+    by-res : (r : Bool) → (r ≡ false → isReset s ≡ true) → cond r s (resetOf s) ≡ s
+    by-res true k = refl
+    by-res false k = reset-same s (k refl)
+
+-- step 1 counts the clock and changes nothing else
+sensed-ahead : (s : State) → levelsOf s ≡ s .last → (s .last .res ≡ false → isReset s ≡ true) → sensed (ahead s) ≡ ahead s
+unfolding sensed
+sensed-ahead s e h = rw (levels-ahead, e) (sensedAt-same (ahead s) (λ k. reset-ahead s ∙ h k))
+
+-- ---- steps 2 and 3
+
+counted-a-quiet : (p : Peripherals) (x : ℕ) → (runningA (p .control) x ≡ true → 0 < p .countera .count)
+    → countA p x x
+    ≡ record { peripherals = withCounterA p (passA (p .countera) (runningA (p .control) x) (clocksOf 1)); ticks = ticksOf false }
+unfolding countA runningA setWhere flipWhere
+counted-a-quiet p x h =
+    rw (no-rise 4 x, clock-passes-a (p .countera) (modeA (p .control .mcr) (p .control .sccr)) (not (bit 4 x)) h)
+
+counted-b-quiet : (p : Peripherals) (x : ℕ) → (runningB (p .control) ≡ true → 0 < p .counterb .count)
+    → countB p x x ≡ withCounterB p (passB (p .counterb) (runningB (p .control)) (clocksOf 1))
+unfolding countB runningB setWhere flipWhere
+counted-b-quiet p x h = rw (no-rise 5 x, clock-passes-b (p .counterb) (modeB (p .control .mcr)) h)
+
+-- without a tick the serial channel stands still
+sent-none : (p : Peripherals) → sentBy p (ticksOf false) ≡ p
+unfolding sentBy transmitterClock ticksOf
+sent-none p = refl
+
+heard-none : (p : Peripherals) (x : ℕ) → heardBy p (ticksOf false) x ≡ p
+unfolding heardBy receiverClock ticksOf
+heard-none p x = refl
+
+worked-quiet : (p : Peripherals) (x : ℕ) → (runningA (p .control) x ≡ true → 0 < p .countera .count)
+    → (runningB (p .control) ≡ true → 0 < p .counterb .count) → worked p x x ≡ passCounters p x (clocksOf 1)
+unfolding worked
+worked-quiet p x a b =
+    rw (counted-a-quiet p x a, counted-b-quiet (withCounterA p (passA (p .countera) (runningA (p .control) x) (clocksOf 1))) x b, sent-none, heard-none)
+
+-- ---- the whole clock
+
+abbrev pub workedTo : State → Peripherals → State
+workedTo s p = record { cpu = s .cpu; due = s .due; peripherals = p; external = s .external; last = s .last; clock = s .clock }
+
+-- steps 1 to 3
+pub ready-still : (s : State) → Still s → readyOf s [] ≡ workedTo (ahead s) (passCounters (s .peripherals) (s .last .ports) (clocksOf 1))
+unfolding readyOf
+ready-still s q =
+    rw (inputsSet-ahead s, sensed-ahead s (q .levels) (q .reset), worked-quiet (s .peripherals) (s .last .ports) (q .above-a) (q .above-b))
+
+ready-quiet : (s : State) → Quiet s → readyOf s [] ≡ workedTo (ahead s) (passCounters (s .peripherals) (s .last .ports) (clocksOf 1))
+ready-quiet s q = ready-still s (q .still)
+
+-- steps 1 to 4 of a clock without inputs
+pub clock-quiet : (s : State) (memory : List ℕ) → Quiet s → processorOf (readyOf s []) memory ≡ quietly (passOf s (clocksOf 1))
+unfolding processorOf passOf waitAfter
+clock-quiet s memory q = rw (ready-quiet s q) (by-res (s .last .res) refl)
+  where
+    by-res : (r : Bool) → s .last .res ≡ r
+        → processorOf (workedTo (ahead s) (passCounters (s .peripherals) (s .last .ports) (clocksOf 1))) memory ≡ quietly (passOf s (clocksOf 1))
+    by-res true e = rw (e, lt-ltb 0 (s .cpu .wait) (q .waits e))
+    by-res false e = rw e
+
+-- ---- no event clock
+
+quiet-underflow-a : (s : State) → Quiet s → underflowsA (s .last .ports) (ahead s) ≡ false
+quiet-underflow-a s q = still-a (ahead s) ∙ not-at-zero _ (s .peripherals .countera .count) (q .still .above-a)
+
+quiet-underflow-b : (s : State) → Quiet s → underflowsB (s .last .ports) (ahead s) ≡ false
+quiet-underflow-b s q = still-b (ahead s) ∙ not-at-zero _ (s .peripherals .counterb .count) (q .still .above-b)
+
+quiet-change : (s : State) → Quiet s → levelsChange (ahead s) ≡ false
+unfolding levelsChange
+quiet-change s q = rw (levels-ahead, levels-same (levelsOf s) (s .last) (q .still .levels))
+
+quiet-reset : (s : State) → Quiet s → resetChanges (ahead s) ≡ false
+unfolding resetChanges
+quiet-reset s q = rw reset-ahead (no-both (s .last .res) (isReset s) (q .still .reset))
+
+quiet-start : (s : State) → Quiet s → cpuStarts (ahead s) ≡ false
+unfolding cpuStarts
+quiet-start s q = not-at-zero (s .last .res) (s .cpu .wait) (q .waits)
+
+-- none of the kinds of event
+pub quiet-event : (s : State) → Quiet s → eventOf s [] ≡ false
+unfolding eventOf hasInput
+quiet-event s q =
+    rw (
+      inputsSet-ahead s,
+      sensed-ahead s (q .still .levels) (q .still .reset),
+      withEdges-ahead s (q .still .levels),
+      quiet-change s q,
+      quiet-underflow-a s q,
+      quiet-underflow-b s q,
+      quiet-reset s q,
+      quiet-start s q,
+    )
+
+-- ---- and back
+
+-- where none of a list of tests holds, each of them does not
+none-of : (tests : List Bool) → anyOf (λ (test : Bool). test) tests ≡ false → (k : ℕ) → getD tests k false ≡ false
+none-of [] e k = refl
+none-of (true ∷ tests) e k = absurd (false≢true (sym e))
+none-of (false ∷ tests) e zero = refl
+none-of (false ∷ tests) e (suc k) = none-of tests e k
+
+pub event-quiet : (s : State) → eventOf s [] ≡ false → Quiet s
+unfolding eventOf hasInput levelsChange resetChanges cpuStarts
+event-quiet s e =
+    let none : (k : ℕ) → getD (false ∷ eventTests (ahead s)) k false ≡ false = none-of (false ∷ eventTests (ahead s)) (rw (inputsSet-ahead s) at e) in
+    let levels : levelsOf s ≡ s .last = sym (levels-ahead s) ∙ same-levels (levelsOf (ahead s)) (s .last) (not-false _ (none 1)) in
+    let reset : s .last .res ≡ false → isReset s ≡ true =
+    λ z. sym (reset-ahead s) ∙ both-no (s .last .res) _ (ap resetChanges (sym (withEdges-ahead s levels)) ∙ none 4) z in
+    let same : sensed (ahead s) ≡ ahead s = sensed-ahead s levels reset in
+    record {
+      still = record {
+        levels = levels;
+        above-a = above-zero _ (s .peripherals .countera .count) (sym (still-a (ahead s)) ∙ ap (underflowsA (s .last .ports)) (sym same) ∙ none 2);
+        above-b = above-zero _ (s .peripherals .counterb .count) (sym (still-b (ahead s)) ∙ ap (underflowsB (s .last .ports)) (sym same) ∙ none 3);
+        reset = reset;
+      };
+      waits = above-zero (s .last .res) (s .cpu .wait) (ap cpuStarts (sym same) ∙ none 5);
+    }

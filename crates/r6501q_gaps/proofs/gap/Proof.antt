@@ -1,0 +1,84 @@
+use Rattle.r6501q_gaps.specs.Gaps.{gapOf}
+use borrow.Author.Needs.{needs}
+use Rattle.r6501q_gaps.proofs.gap.Statement.{statement}
+use Rattle.r6501q_gaps.proofs.gap.Tie as tie
+use Rattle.r6501q_gaps.proofs.gap.Reads as reads
+use Rattle.r6501q_gaps.proofs.gap.Lts as lts
+use Rattle.r6501q_gaps.proofs.distances.to_change.Reads as to-change-reads
+use Rattle.r6501q_gaps.proofs.distances.to_input.Reads as to-input-reads
+use Rattle.r6501q_gaps.proofs.distances.to_reset.Reads as to-reset-reads
+use Rattle.r6501q_gaps.proofs.distances.to_start.Reads as to-start-reads
+use Rattle.r6501q_gaps.proofs.distances.to_underflow_a.Reads as to-underflow-a-reads
+use Rattle.r6501q_gaps.proofs.distances.to_underflow_b.Reads as to-underflow-b-reads
+use Rattle.r6501q_gaps.proofs.nearer.Reads as nearer-reads
+
+-- src/lib.rt:37:24
+to-reset-requires : tie.Need-to-reset-requires
+to-reset-requires c κs = search needs
+
+-- src/lib.rt:37:47
+to-start-requires : tie.Need-to-start-requires
+to-start-requires c κs = search needs
+
+-- src/lib.rt:37:9
+nearer-requires : tie.Need-nearer-requires
+nearer-requires c κs = search needs
+
+-- src/lib.rt:38:30
+to-underflow-b-requires : tie.Need-to-underflow-b-requires
+to-underflow-b-requires c κs = search needs
+
+-- src/lib.rt:38:9
+nearer-requires-2 : tie.Need-nearer-requires-2
+nearer-requires-2 c κs = search needs
+
+-- src/lib.rt:39:30
+to-underflow-a-requires : tie.Need-to-underflow-a-requires
+to-underflow-a-requires c κs = search needs
+
+-- src/lib.rt:39:9
+nearer-requires-3 : tie.Need-nearer-requires-3
+nearer-requires-3 c κs = search needs
+
+-- src/lib.rt:40:25
+to-change-requires : tie.Need-to-change-requires
+to-change-requires c κs = search needs
+
+-- src/lib.rt:40:9
+nearer-requires-4 : tie.Need-nearer-requires-4
+nearer-requires-4 c κs = search needs
+
+-- src/lib.rt:41:24
+to-input-requires : tie.Need-to-input-requires
+to-input-requires c κs = search needs
+
+-- src/lib.rt:41:9
+nearer-requires-5 : tie.Need-nearer-requires-5
+nearer-requires-5 c κs = search needs
+
+-- src/lib.rt:42:5
+nearer-requires-6 : tie.Need-nearer-requires-6
+nearer-requires-6 c κs = search needs
+
+-- src/lib.rt:34:1
+returns : tie.Need-returns
+unfolding gapOf
+returns c = rw (c .nearer6 .ensures, c .before .nearer5 .ensures, c .before .before .to-input .ensures, c .before .before .before .nearer4 .ensures, c .before .before .before .before .to-change .ensures, c .before .before .before .before .before .nearer3 .ensures, c .before .before .before .before .before .before .to-underflow-a .ensures, c .before .before .before .before .before .before .before .nearer2 .ensures, c .before .before .before .before .before .before .before .before .to-underflow-b .ensures, c .before .before .before .before .before .before .before .before .before .nearer .ensures, c .before .before .before .before .before .before .before .before .before .before .to-start .ensures, c .before .before .before .before .before .before .before .before .before .before .before .to-reset .ensures)
+
+pub gap-spec : {M : Type 1} → statement M
+gap-spec =
+    tie.close
+    (tie.spec
+    to-reset-requires
+    to-start-requires
+    nearer-requires
+    to-underflow-b-requires
+    nearer-requires-2
+    to-underflow-a-requires
+    nearer-requires-3
+    to-change-requires
+    nearer-requires-4
+    to-input-requires
+    nearer-requires-5
+    nearer-requires-6
+    returns)

@@ -1,0 +1,84 @@
+// The clocks before the next event clock of each kind, where there is one to be seen, else the clocks left.
+ghost use mathlib.Core.Bool.{cond};
+ghost use mathlib.Core.Path.{_≡_};
+ghost use Rattle.r6501q_gaps.specs.Gaps.{clocksOf, runningA, runningB, toInput, toChange, toUnderflowA, toUnderflowB, toReset, toStart};
+use crate::events::levels_change;
+use crate::events::reset_changes;
+use counters::time::Clocks;
+use r6501q_state::state::Control;
+use r6501q_state::state::State;
+
+// Whether counter A counts in every clock of a gap, given the port levels.
+pub fn running_a(c: Control, ports: u32) -> bool
+    ensures { λ r. ⌜ r ≡ runningA c ports ⌝ }
+{
+    counters::a::runs(c.mode_a(), !bits::bit32(ports, 4))
+}
+
+// Whether counter B does.
+pub fn running_b(c: Control) -> bool
+    ensures { λ r. ⌜ r ≡ runningB c ⌝ }
+{
+    counters::b::runs(c.mode_b())
+}
+
+// An input: the first entry of the rest of the input list.
+pub fn to_input(left: Clocks, clock: u32, clocks: &[u32]) -> Clocks
+    ensures { λ r. ⌜ r ≡ clocksOf (toInput (left .0) clock (now (clocks .entry))) ⌝ }
+{
+    if clocks.len() == 0 {
+        return left;
+    }
+    let next = clocks[0];
+    if next <= clock {
+        return Clocks(0);
+    }
+    Clocks(next - clock - 1)
+}
+
+// A distance where there is such an event to be seen, else the clocks left.
+fn where_seen(seen: bool, distance: Clocks, left: Clocks) -> Clocks
+    ensures { λ r. ⌜ r ≡ clocksOf (cond seen (distance .0) (left .0)) ⌝ }
+{
+    if seen {
+        return distance;
+    }
+    left
+}
+
+// Pin levels unlike the last ones.
+pub fn to_change(left: Clocks, s: State) -> Clocks
+    ensures { λ r. ⌜ r ≡ clocksOf (toChange (left .0) s) ⌝ }
+{
+    where_seen(levels_change(s), Clocks(0), left)
+}
+
+// An underflow of counter A.
+pub fn to_underflow_a(left: Clocks, s: State) -> Clocks
+    ensures { λ r. ⌜ r ≡ clocksOf (toUnderflowA (left .0) s) ⌝ }
+{
+    let running = running_a(s.peripherals.control, s.last.ports);
+    where_seen(running, Clocks(s.peripherals.countera.count as u32), left)
+}
+
+// An underflow of counter B.
+pub fn to_underflow_b(left: Clocks, s: State) -> Clocks
+    ensures { λ r. ⌜ r ≡ clocksOf (toUnderflowB (left .0) s) ⌝ }
+{
+    let running = running_b(s.peripherals.control);
+    where_seen(running, Clocks(s.peripherals.counterb.count as u32), left)
+}
+
+// RES low that changes a field.
+pub fn to_reset(left: Clocks, s: State) -> Clocks
+    ensures { λ r. ⌜ r ≡ clocksOf (toReset (left .0) s) ⌝ }
+{
+    where_seen(reset_changes(s), Clocks(0), left)
+}
+
+// The CPU's start.
+pub fn to_start(left: Clocks, s: State) -> Clocks
+    ensures { λ r. ⌜ r ≡ clocksOf (toStart (left .0) s) ⌝ }
+{
+    where_seen(s.last.res, Clocks(s.cpu.wait as u32), left)
+}

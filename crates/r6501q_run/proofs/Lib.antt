@@ -1,0 +1,5 @@
+pub mod Laws
+pub mod Runs
+pub mod Spanned
+pub mod Fair
+pub mod Table

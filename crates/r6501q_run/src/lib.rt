@@ -1,0 +1,295 @@
+// The leaping run: from event clock to event clock.
+ghost use mathlib.Core.Path.{_≡_};
+ghost use Prim.Native.Nat.{_+_, _-_, _≤_, _<_};
+ghost use lib.ListN.{length, drop};
+ghost use Rattle.leaps.specs.Leaps.{leapOf, leftAfter};
+ghost use Rattle.leaps.specs.Lists.{runOf, plainRunOf};
+ghost use Rattle.leaps.specs.Calls.{callStart};
+ghost use Rattle.cpu_opcodes.specs.Table.{opcodeTable};
+ghost use Rattle.r6501q_gaps.specs.Gaps.{gapOf, clocksOf};
+ghost use Rattle.r6501q_step.specs.R6501q.{chip, machine};
+ghost use Rattle.r6501q_step.specs.World.{worldOf};
+ghost use Rattle.r6501q_step.specs.Calls.{handed, leapsFrom};
+ghost use Rattle.r6501q_run.specs.Leap.{passedBy, goesOn, runFrom, runEnded, beginRun, Leaping};
+ghost use Rattle.r6501q_run.specs.Spanned.{spanFrom, spannedTo, Spanned};
+use counters::time::Clocks;
+use cpu::quiet::Work;
+use r6501q_spans::begin_work;
+use r6501q_spans::work_once;
+use r6501q_state::state::State;
+use r6501q_step::CallResult;
+use r6501q_step::Progress;
+use r6501q_step::advance;
+use r6501q_step::begin;
+use r6501q_step::call_refusal;
+use r6501q_step::leaps_from;
+use r6501q_step::refused;
+use r6501q_step::result_of;
+
+// How far a run has come: the clocks left, and the leaps done.
+pub struct Leaped {
+    pub progress: Progress,
+    pub left: Clocks,
+    pub leaps: u32,
+}
+
+// The gap before the next event clock of a call.
+fn gap_from(p: Progress, left: Clocks, inputclocks: &[u32]) -> Clocks
+    requires { ⌜ p .read ≤ length (now inputclocks) ⌝ }
+    ensures { λ r. ⌜ r ≡ gapOf (left .0) (p .state) (drop (p .read) (now (inputclocks .entry))) ⌝ }
+{
+    let from = p.read;
+    r6501q_gaps::gap(p.state, left, &inputclocks[from..])
+}
+
+// The gap passed.
+fn pass_progress(p: Progress, gap: Clocks) -> Progress
+    requires { ⌜ p .state .clock + gap .0 ≤ 4294967295 ⌝ }
+    ensures { λ r. ⌜ r ≡ passedBy gap p ⌝ }
+{
+    let state = r6501q_gaps::pass(p.state, gap);
+    Progress {
+        state: state,
+        read: p.read,
+        written: p.written,
+        stop: p.stop,
+    }
+}
+
+// The clocks left after a gap and its event clock.
+fn left_after(left: Clocks, gap: Clocks) -> Clocks
+    ensures { λ r. ⌜ r ≡ clocksOf (left .0 - (gap .0 + 1)) ⌝ }
+{
+    if left.0 <= gap.0 {
+        return Clocks(0);
+    }
+    Clocks(left.0 - gap.0 - 1)
+}
+
+// One leap: the gap, the gap passed, then the event clock, if it is reached.
+fn leap(
+    p: Progress,
+    left: Clocks,
+    gap: Clocks,
+    memory: &mut [u8],
+    inputclocks: &[u32],
+    inputcodes: &[u8],
+    outputclocks: &mut [u32],
+    outputwords: &mut [u32],
+    entries: &[u16],
+) -> Progress
+    requires { ⌜ Leaping p (left .0) (now inputclocks) (now inputcodes) (now outputclocks) (now outputwords) ⌝ }
+    requires { ⌜ p .stop ≡ 0 ⌝ }
+    requires { ⌜ gap ≡ gapOf (left .0) (p .state) (drop (p .read) (now inputclocks)) ⌝ }
+    requires { ⌜ now entries ≡ opcodeTable ⌝ }
+    ensures { λ r. ⌜ worldOf r (now (memory .exit)) (now (inputclocks .entry)) (now (inputcodes .entry)) (now (outputclocks .exit)) (now (outputwords .exit)) ≡ leapOf chip (left .0) (worldOf p (now (memory .entry)) (now (inputclocks .entry)) (now (inputcodes .entry)) (now (outputclocks .entry)) (now (outputwords .entry))) ⌝ }
+{
+    let passed = pass_progress(p, gap);
+    if gap.0 < left.0 {
+        return advance(
+            passed,
+            memory,
+            inputclocks,
+            inputcodes,
+            outputclocks,
+            outputwords,
+            entries,
+        );
+    }
+    passed
+}
+
+// Whether another leap is to be made.
+fn goes_on(at: Leaped) -> bool
+    ensures { λ r. ⌜ r ≡ goesOn at ⌝ }
+{
+    (0 < at.left.0) & (at.progress.stop == 0)
+}
+
+// One leap more of a run.
+fn leap_once(
+    at: Leaped,
+    memory: &mut [u8],
+    inputclocks: &[u32],
+    inputcodes: &[u8],
+    outputclocks: &mut [u32],
+    outputwords: &mut [u32],
+    entries: &[u16],
+) -> Leaped
+    requires { ⌜ Leaping (at .progress) (at .left .0) (now inputclocks) (now inputcodes) (now outputclocks) (now outputwords) ⌝ }
+    requires { ⌜ (0 < at .left .0) × (at .progress .stop ≡ 0) ⌝ }
+    requires { ⌜ at .leaps + at .left .0 ≤ 4294967295 ⌝ }
+    requires { ⌜ now entries ≡ opcodeTable ⌝ }
+    ensures { λ r. ⌜ worldOf (r .progress) (now (memory .exit)) (now (inputclocks .entry)) (now (inputcodes .entry)) (now (outputclocks .exit)) (now (outputwords .exit)) ≡ leapOf chip (at .left .0) (worldOf (at .progress) (now (memory .entry)) (now (inputclocks .entry)) (now (inputcodes .entry)) (now (outputclocks .entry)) (now (outputwords .entry))) ⌝ }
+    ensures { λ r. ⌜ r .left ≡ clocksOf (leftAfter chip (at .left .0) (worldOf (at .progress) (now (memory .entry)) (now (inputclocks .entry)) (now (inputcodes .entry)) (now (outputclocks .entry)) (now (outputwords .entry)))) ⌝ }
+    ensures { λ r. ⌜ r .leaps ≡ at .leaps + leapsFrom (at .progress .state .clock) (r .progress .state .clock) ⌝ }
+{
+    let p = at.progress;
+    let left = at.left;
+    let gap = gap_from(p, left, inputclocks);
+    let q = leap(
+        p,
+        left,
+        gap,
+        memory,
+        inputclocks,
+        inputcodes,
+        outputclocks,
+        outputwords,
+        entries,
+    );
+    let moved = leaps_from(p.state.clock, q.state.clock);
+    Leaped {
+        progress: q,
+        left: left_after(left, gap),
+        leaps: at.leaps + moved,
+    }
+}
+
+// The clocks in which only the CPU acts; none where the run has stopped.
+fn span_from(at: Leaped, inputclocks: &[u32]) -> Clocks
+    requires { ⌜ at .progress .read ≤ length (now inputclocks) ⌝ }
+    ensures { λ r. ⌜ r ≡ spanFrom at (now (inputclocks .entry)) ⌝ }
+{
+    if at.progress.stop != 0 {
+        return Clocks(0);
+    }
+    let from = at.progress.read;
+    r6501q_spans::span(at.progress.state, at.left, &inputclocks[from..])
+}
+
+// A run after the leaps of a span.
+fn spanned_to(at: Leaped, w: Work) -> Leaped
+    requires { ⌜ (at .progress .state .clock + w .gone .0 ≤ 4294967295) × (at .leaps + w .leaps ≤ 4294967295) × (w .gone .0 ≤ at .left .0) ⌝ }
+    ensures { λ r. ⌜ r ≡ spannedTo at w ⌝ }
+{
+    let state = r6501q_spans::working_state(at.progress.state, w);
+    let progress = Progress {
+        state: state,
+        read: at.progress.read,
+        written: at.progress.written,
+        stop: at.progress.stop,
+    };
+    Leaped {
+        progress: progress,
+        left: Clocks(at.left.0 - w.gone.0),
+        leaps: at.leaps + w.leaps,
+    }
+}
+
+// The leaps of a span, one for each instruction that starts in it, up to the first that is not the CPU's alone.
+fn leap_within(
+    at: Leaped,
+    span: Clocks,
+    memory: &mut [u8],
+    inputclocks: &[u32],
+    entries: &[u16],
+) -> Leaped
+    requires { ⌜ (at .progress .state .clock + at .left .0 ≤ 4294967295) × (at .leaps + at .left .0 ≤ 4294967295) ⌝ }
+    requires { ⌜ (span ≡ spanFrom at (now inputclocks)) × (0 < span .0) ⌝ }
+    requires { ⌜ now entries ≡ opcodeTable ⌝ }
+    ensures { λ r. ⌜ Spanned at (now (memory .entry)) r (now (memory .exit)) (now (inputclocks .entry)) ⌝ }
+{
+    let mut w = begin_work(at.progress.state);
+    let mut on = true;
+    while on {
+        let next = work_once(w, span, memory, entries);
+        on = w.gone.0 < next.gone.0;
+        w = next;
+    }
+    spanned_to(at, w)
+}
+
+// The leaps of a span, if there is one.
+fn leap_span(at: Leaped, memory: &mut [u8], inputclocks: &[u32], entries: &[u16]) -> Leaped
+    requires { ⌜ (at .progress .state .clock + at .left .0 ≤ 4294967295) × (at .leaps + at .left .0 ≤ 4294967295) ⌝ }
+    requires { ⌜ at .progress .read ≤ length (now inputclocks) ⌝ }
+    requires { ⌜ now entries ≡ opcodeTable ⌝ }
+    ensures { λ r. ⌜ Spanned at (now (memory .entry)) r (now (memory .exit)) (now (inputclocks .entry)) ⌝ }
+{
+    let span = span_from(at, inputclocks);
+    if span.0 == 0 {
+        return at;
+    }
+    leap_within(at, span, memory, inputclocks, entries)
+}
+
+// Leaps, until no clock is left or one stops.
+fn leap_on(
+    start: Leaped,
+    memory: &mut [u8],
+    inputclocks: &[u32],
+    inputcodes: &[u8],
+    outputclocks: &mut [u32],
+    outputwords: &mut [u32],
+    entries: &[u16],
+) -> Leaped
+    requires { ⌜ Leaping (start .progress) (start .left .0) (now inputclocks) (now inputcodes) (now outputclocks) (now outputwords) ⌝ }
+    requires { ⌜ start .leaps + start .left .0 ≤ 4294967295 ⌝ }
+    requires { ⌜ now entries ≡ opcodeTable ⌝ }
+    ensures { λ r. ⌜ runEnded r (now (memory .exit)) (now (inputclocks .entry)) (now (inputcodes .entry)) (now (outputclocks .exit)) (now (outputwords .exit)) ≡ runFrom start (now (memory .entry)) (now (inputclocks .entry)) (now (inputcodes .entry)) (now (outputclocks .entry)) (now (outputwords .entry)) ⌝ }
+{
+    let mut at = start;
+    while goes_on(at) {
+        at = leap_once(
+            at,
+            memory,
+            inputclocks,
+            inputcodes,
+            outputclocks,
+            outputwords,
+            entries,
+        );
+        at = leap_span(at, memory, inputclocks, entries);
+    }
+    at
+}
+
+// A run that has just begun.
+fn begin_run(state: State, n: u32) -> Leaped
+    ensures { λ r. ⌜ r ≡ beginRun state n ⌝ }
+{
+    Leaped {
+        progress: begin(state),
+        left: Clocks(n),
+        leaps: 0,
+    }
+}
+
+// The call for n clocks.
+pub fn run(
+    state: State,
+    memory: &mut [u8],
+    inputclocks: &[u32],
+    inputcodes: &[u8],
+    outputclocks: &mut [u32],
+    outputwords: &mut [u32],
+    n: u32,
+) -> CallResult
+    ensures { λ r. ⌜ handed r (now (memory .exit)) (now (outputclocks .exit)) (now (outputwords .exit)) ≡ runOf machine n (callStart state (now (memory .entry)) (now (inputclocks .entry)) (now (inputcodes .entry)) (now (outputclocks .entry)) (now (outputwords .entry))) ⌝ }
+    ensures { λ r. ⌜ handed r (now (memory .exit)) (now (outputclocks .exit)) (now (outputwords .exit)) ≡ plainRunOf machine n (callStart state (now (memory .entry)) (now (inputclocks .entry)) (now (inputcodes .entry)) (now (outputclocks .entry)) (now (outputwords .entry))) ⌝ }
+{
+    let number = call_refusal(
+        state,
+        memory.len(),
+        inputclocks,
+        inputcodes,
+        outputclocks.len(),
+        outputwords.len(),
+        n,
+    );
+    if number != 0 {
+        return refused(number, state);
+    }
+    let entries = cpu_opcodes::opcode_table();
+    let end = leap_on(
+        begin_run(state, n),
+        memory,
+        inputclocks,
+        inputcodes,
+        outputclocks,
+        outputwords,
+        &entries,
+    );
+    result_of(end.leaps, end.progress)
+}

@@ -1,0 +1,89 @@
+-- Spans: clocks in which nothing of the chip acts but the CPU.
+use mathlib.Core.Path.{_≡_}
+use mathlib.Core.Bool.{Bool, true, false, _&&_, _||_, not, cond}
+use mathlib.Core.List.{List, []}
+use Prim.Native.Nat.{ℕ, _+_, _-_, min}
+use lib.Dec.{ltb, leb, eqb}
+use Rattle.cpu_alu.specs.Status.{packed, unpacked}
+use Rattle.counters.specs.declared.time.Clocks.{Clocks}
+use Rattle.r6501q_state.specs.declared.state.Cpu.{Cpu}
+use Rattle.r6501q_state.specs.declared.state.State.{State}
+use Rattle.r6501q_state.specs.Control.{pending}
+use Rattle.cpu_access.specs.declared.stack.Write.{Write}
+use Rattle.cpu_access.specs.declared.stack.Writes.{Writes}
+use Rattle.cpu_access.specs.Stack.{eachWrite}
+use Rattle.memory.specs.Memory.{isRegister}
+use Rattle.cpu_operations.specs.declared.Worked.{Worked}
+use Rattle.cpu.specs.declared.Outcome.{Outcome}
+use Rattle.cpu.specs.declared.Outcome.the-variants.{Undefined, Asked, Done}
+use Rattle.cpu.specs.declared.quiet.Work.{Work}
+use Rattle.cpu.specs.Instruction.{instructionOf}
+use Rattle.cpu.specs.Quiet.{nextWork, Quietly}
+use Rattle.r6501q_cpu.specs.Processor.{registersOf, cpuOf}
+use Rattle.r6501q_gaps.specs.Gaps.{clocksOf, toInput, toChange, toUnderflowA, toUnderflowB, passCounters}
+use Rattle.r6501q_clock.specs.Commit.{committed}
+
+-- RES is high, neither reset nor NMI is due, and no flag that is enabled is set; P is as the machine keeps it (01, Machine state: "Bits 4
+-- and 5 of P are 0")
+unfoldable pub onlyCpu : State → Bool
+onlyCpu s =
+    (s .last .res && not (s .due .reset) && not (s .due .nmi))
+    && not (pending (s .peripherals .control))
+    && eqb (packed (unpacked (s .cpu .p))) (s .cpu .p)
+
+-- the clocks before the next event clock that is one by anything but the CPU's start: the least over the other kinds of event, n
+-- clocks being left; none where more than the CPU may act. With RES high, RES low changes nothing.
+unfoldable pub spanOf : ℕ → State → List ℕ → Clocks
+spanOf n s clocks =
+    cond (onlyCpu s)
+    (clocksOf (min n (min (toInput n (s .clock) clocks) (min (toChange n s) (min (toUnderflowA n s) (toUnderflowB n s))))))
+    (clocksOf 0)
+
+abbrev pub beginWork : State → Work
+beginWork s = record { registers = registersOf (s .cpu); wait = s .cpu .wait; gone = clocksOf 0; leaps = 0 }
+
+-- the state in a span that began with `s`: its clock and the counters that run go on, and all else but the CPU stays
+abbrev pub workingState : State → Work → State
+workingState s w = record {
+  cpu = cpuOf (w .registers) (w .wait);
+  due = s .due;
+  peripherals = passCounters (s .peripherals) (s .last .ports) (w .gone);
+  external = s .external;
+  last = s .last;
+  clock = s .clock + w .gone .0;
+}
+
+-- one of the writes is at a register's address
+unfoldable pub writesRegister : Writes → Bool
+writesRegister w = eachWrite (λ (there : Bool) (x : Write) (before : Bool). before || (there && isRegister (x .address))) w false
+
+unfoldable pub continuedBy : Work → Worked → Work
+continuedBy w worked = cond (writesRegister (worked .writes)) w (nextWork w worked)
+
+unfoldable pub committedBy : List ℕ → Worked → List ℕ
+committedBy memory worked = cond (writesRegister (worked .writes)) memory (committed memory (worked .writes))
+
+-- with no answer about a register: an instruction that asks for one, or is undefined, is left to the clock's own rules
+abbrev pub workBy : Work → Outcome → Work
+workBy w Undefined = w
+workBy w (Asked ask) = w
+workBy w (Done worked) = continuedBy w worked
+
+abbrev pub memoryBy : List ℕ → Outcome → List ℕ
+memoryBy memory Undefined = memory
+memoryBy memory (Asked ask) = memory
+memoryBy memory (Done worked) = committedBy memory worked
+
+-- the next instruction, if it starts within the span
+unfoldable pub workAfter : ℕ → Work → List ℕ → Work
+workAfter span w memory = cond (leb (span - w .gone .0) (w .wait)) w (workBy w (instructionOf (w .registers) [] memory))
+
+unfoldable pub memoryAfter : ℕ → Work → List ℕ → List ℕ
+memoryAfter span w memory = cond (leb (span - w .gone .0) (w .wait)) memory (memoryBy memory (instructionOf (w .registers) [] memory))
+
+-- the instructions that write nothing, and the one after them
+pub record WorkedOn (span : ℕ) (w : Work) (memory : List ℕ) (r : Work) (memory' : List ℕ) : Type 0 where
+  pub at : Work
+  pub quietly : Quietly span [] memory w at
+  pub work : r ≡ workAfter span at memory
+  pub stored : memory' ≡ memoryAfter span at memory

@@ -1,0 +1,96 @@
+-- Everything here takes well-formed states to well-formed states.
+use mathlib.Core.Path.{_≡_, refl}
+use mathlib.Core.Bool.{Bool, true, false, _&&_}
+use Prim.Native.Nat.{ℕ, _/_, _%_, _<_}
+use native.Mathlib.Omega.{arith}
+use lib.Dec.{leb, ltb, eqb}
+use borrow.Author.Tests.{ltb-true, lt-ltb}
+use Rattle.bits.specs.Bits.{withBit, setWhere}
+use Rattle.bits.proofs.Cond.{and-left, and-right, and-both, cond-both}
+use Rattle.bits.proofs.Bits.{bit-room}
+use Rattle.serial.specs.Transmitter.{transmitterFits}
+use Rattle.serial.specs.Receiver.{receiverFits}
+use Rattle.r6501q_state.specs.declared.state.Peripherals.{Peripherals}
+use Rattle.r6501q_state.specs.declared.state.Levels.{Levels}
+use Rattle.r6501q_state.specs.declared.state.State.{State}
+use Rattle.r6501q_state.specs.State.{fresh, cpuFits, peripheralsFit, wellFormed, flagged}
+use Rattle.r6501q_state.specs.Pins.{rose, fell, edges, withEdges, resetOf, sensedAt, sensed, levelsOf}
+use Rattle.r6501q_state.specs.Inputs.{withInput}
+
+-- the ranges as facts
+pub record InPeripherals (p : Peripherals) : Type 0 where
+  pub ifr : p .control .ifr < 64
+  pub transmitter : transmitterFits (p .transmitter) ≡ true
+  pub receiver : receiverFits (p .receiver) ≡ true
+
+pub in-peripherals : (p : Peripherals) → peripheralsFit p ≡ true → InPeripherals p
+in-peripherals p e = record {
+  ifr = ltb-true _ _ (and-left _ _ (and-left (ltb (p .control .ifr) 64 && transmitterFits (p .transmitter)) (receiverFits (p .receiver)) e));
+  transmitter = and-right (ltb (p .control .ifr) 64) _ (and-left (ltb (p .control .ifr) 64 && transmitterFits (p .transmitter)) (receiverFits (p .receiver)) e);
+  receiver = and-right (ltb (p .control .ifr) 64 && transmitterFits (p .transmitter)) (receiverFits (p .receiver)) e;
+}
+
+pub fit-peripherals : (p : Peripherals) → InPeripherals p → peripheralsFit p ≡ true
+fit-peripherals p i = and-both _ _ (and-both _ _ (lt-ltb _ _ (i .ifr)) (i .transmitter)) (i .receiver)
+
+-- new flags within their range
+pub flagged-in : (p : Peripherals) (v : ℕ) → v < 64 → InPeripherals p → InPeripherals (flagged p v)
+flagged-in p v h i = record { ifr = h; transmitter = i .transmitter; receiver = i .receiver }
+
+-- a well-formed state, taken apart and made
+pub formed-cpu : (s : State) → wellFormed s ≡ true → cpuFits (s .cpu) ≡ true
+unfolding wellFormed
+formed-cpu s e = and-left (cpuFits (s .cpu)) (peripheralsFit (s .peripherals)) e
+
+pub formed-peripherals : (s : State) → wellFormed s ≡ true → peripheralsFit (s .peripherals) ≡ true
+unfolding wellFormed
+formed-peripherals s e = and-right (cpuFits (s .cpu)) (peripheralsFit (s .peripherals)) e
+
+pub formed : (s : State) → cpuFits (s .cpu) ≡ true → peripheralsFit (s .peripherals) ≡ true → wellFormed s ≡ true
+unfolding wellFormed
+formed s e f = and-both (cpuFits (s .cpu)) (peripheralsFit (s .peripherals)) e f
+
+-- 01, Machine state: "Fresh"
+pub fresh-formed : wellFormed fresh ≡ true
+unfolding wellFormed fresh
+fresh-formed = refl
+
+-- 01, One clock, 1: an input sets an external level, on which the ranges do not hang
+abbrev pub withExternal : State → Levels → State
+withExternal s l = record { cpu = s .cpu; due = s .due; peripherals = s .peripherals; external = l; last = s .last; clock = s .clock }
+
+pub input-formed : (s : State) (code : ℕ) → wellFormed s ≡ true → wellFormed (withExternal s (withInput (s .external) code)) ≡ true
+unfolding wellFormed
+input-formed s code e = e
+
+-- a flag set within the range
+pub set-lt : (k x : ℕ) (on : Bool) → k < 6 → x < 64 → setWhere k on x < 64
+unfolding setWhere withBit
+set-lt k x true h l = bit-room 6 k x h l
+set-lt k x false h l = l
+
+edges-lt : (ifr before after : ℕ) → ifr < 64 → edges ifr before after < 64
+unfolding edges
+edges-lt ifr before after h =
+    set-lt 3 _ (fell 3 before after) (omega arith) (set-lt 2 _ (fell 2 before after) (omega arith)
+    (set-lt 1 _ (rose 1 before after) (omega arith) (set-lt 0 ifr (rose 0 before after) (omega arith) h)))
+
+withEdges-formed : (s : State) (now : Levels) → wellFormed s ≡ true → wellFormed (withEdges s now) ≡ true
+unfolding withEdges
+withEdges-formed s now e =
+    let i = in-peripherals (s .peripherals) (formed-peripherals s e) in
+    formed (withEdges s now) (formed-cpu s e)
+    (fit-peripherals (withEdges s now .peripherals) (flagged-in (s .peripherals) _ (edges-lt (s .peripherals .control .ifr) (s .last .ports) (now .ports) (i .ifr)) i))
+
+-- RES low
+pub reset-formed : (s : State) → wellFormed s ≡ true → wellFormed (resetOf s) ≡ true
+unfolding resetOf
+reset-formed s e =
+    formed (resetOf s) (and-both _ _ (and-left (eqb (s .cpu .p / 16 % 4) 0) (leb (s .cpu .wait) 6) (formed-cpu s e)) refl) refl
+
+-- step 1
+pub sensed-formed : (s : State) → wellFormed s ≡ true → wellFormed (sensed s) ≡ true
+unfolding sensed sensedAt
+sensed-formed s e =
+    cond-both (λ (t : State). wellFormed t ≡ true) (levelsOf s .res) (withEdges s (levelsOf s)) (resetOf (withEdges s (levelsOf s)))
+    (λ _. withEdges-formed s (levelsOf s) e) (λ _. reset-formed (withEdges s (levelsOf s)) (withEdges-formed s (levelsOf s) e))

@@ -1,0 +1,4 @@
+pub mod State
+pub mod Pins
+pub mod Inputs
+pub mod Control

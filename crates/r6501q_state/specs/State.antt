@@ -1,0 +1,112 @@
+-- Document 01, "Machine state".
+use mathlib.Core.Bool.{Bool, true, false, _&&_}
+use Prim.Native.Nat.{ℕ, _/_, _%_}
+use lib.Dec.{leb, ltb, eqb}
+use Rattle.counters.specs.declared.a.CounterA.{CounterA}
+use Rattle.counters.specs.declared.b.CounterB.{CounterB}
+use Rattle.serial.specs.declared.transmitter.Transmitter.{Transmitter}
+use Rattle.serial.specs.declared.receiver.Receiver.{Receiver}
+use Rattle.serial.specs.Transmitter.{idleTransmitter, transmitterFits}
+use Rattle.serial.specs.Receiver.{idleReceiver, receiverFits}
+use Rattle.r6501q_state.specs.declared.state.Cpu.{Cpu}
+use Rattle.r6501q_state.specs.declared.state.Due.{Due}
+use Rattle.r6501q_state.specs.declared.state.Ports.{Ports}
+use Rattle.r6501q_state.specs.declared.state.Control.{Control}
+use Rattle.r6501q_state.specs.declared.state.SerialData.{SerialData}
+use Rattle.r6501q_state.specs.declared.state.Peripherals.{Peripherals}
+use Rattle.r6501q_state.specs.declared.state.Levels.{Levels}
+use Rattle.r6501q_state.specs.declared.state.State.{State}
+
+-- "Fresh: A, X, Y, PC, wait 0; SP FFh; P with I set alone"
+abbrev pub freshCpu : Cpu
+freshCpu = record { a = 0; x = 0; y = 0; sp = 0xFF; p = 0x04; pc = 0; wait = 0 }
+
+-- "reset due, NMI not"
+abbrev pub freshDue : Due
+freshDue = record { reset = true; nmi = false }
+
+-- "ports FFh"
+abbrev pub freshPorts : Ports
+freshPorts = record { a = 0xFF; b = 0xFF; c = 0xFF; d = 0xFF }
+
+-- "registers .. 0 but SCSR 40h"
+abbrev pub freshControl : Control
+freshControl = record { ifr = 0; ier = 0; mcr = 0; sccr = 0; scsr = 0x40 }
+
+-- "counters, latches FFFFh; .. turn C; .. serial data and progress 0"
+abbrev pub freshPeripherals : Peripherals
+freshPeripherals = record {
+  ports = freshPorts;
+  countera = record { count = 0xFFFF; latch = 0xFFFF };
+  counterb = record { count = 0xFFFF; latchb = 0xFFFF; latchc = 0xFFFF; turnc = true };
+  control = freshControl;
+  serial = record { sent = 0; received = 0 };
+  transmitter = idleTransmitter;
+  receiver = idleReceiver;
+}
+
+-- "all levels 1"
+abbrev pub freshLevels : Levels
+freshLevels = record { ports = 0xFFFFFFFF; nmi = true; res = true }
+
+-- "Fresh", with "clock 0"
+unfoldable pub fresh : State
+fresh = record {
+  cpu = freshCpu;
+  due = freshDue;
+  peripherals = freshPeripherals;
+  external = freshLevels;
+  last = freshLevels;
+  clock = 0;
+}
+
+-- "wait (0 to 6)"; "Bits 4 and 5 of P are 0"
+abbrev pub cpuFits : Cpu → Bool
+cpuFits c = eqb (c .p / 16 % 4) 0 && leb (c .wait) 6
+
+-- "IFR bits 0 to 5", and the serial progress
+abbrev pub peripheralsFit : Peripherals → Bool
+peripheralsFit p = ltb (p .control .ifr) 64 && transmitterFits (p .transmitter) && receiverFits (p .receiver)
+
+-- "Well-formed: every field is within its range here." In code, fields of 8, 16 and 32 bits, flags and levels are so by their
+-- types, and the theorems over states hold whatever numbers stand there; what types do not say is tested.
+unfoldable pub wellFormed : State → Bool
+wellFormed s = cpuFits (s .cpu) && peripheralsFit (s .peripherals)
+
+-- one field set anew
+abbrev pub withPorts : Peripherals → Ports → Peripherals
+withPorts p x = record { ports = x; countera = p .countera; counterb = p .counterb; control = p .control; serial = p .serial; transmitter = p .transmitter; receiver = p .receiver }
+
+abbrev pub withCounterA : Peripherals → CounterA → Peripherals
+withCounterA p x = record { ports = p .ports; countera = x; counterb = p .counterb; control = p .control; serial = p .serial; transmitter = p .transmitter; receiver = p .receiver }
+
+abbrev pub withCounterB : Peripherals → CounterB → Peripherals
+withCounterB p x = record { ports = p .ports; countera = p .countera; counterb = x; control = p .control; serial = p .serial; transmitter = p .transmitter; receiver = p .receiver }
+
+abbrev pub withControl : Peripherals → Control → Peripherals
+withControl p x = record { ports = p .ports; countera = p .countera; counterb = p .counterb; control = x; serial = p .serial; transmitter = p .transmitter; receiver = p .receiver }
+
+abbrev pub withSent : Peripherals → ℕ → Peripherals
+withSent p x = record { ports = p .ports; countera = p .countera; counterb = p .counterb; control = p .control; serial = record { sent = x; received = p .serial .received }; transmitter = p .transmitter; receiver = p .receiver }
+
+abbrev pub withProgress : Peripherals → Transmitter → Receiver → Peripherals
+withProgress p t r = record { ports = p .ports; countera = p .countera; counterb = p .counterb; control = p .control; serial = p .serial; transmitter = t; receiver = r }
+
+abbrev pub withPortA : Ports → ℕ → Ports
+withPortA p v = record { a = v; b = p .b; c = p .c; d = p .d }
+
+abbrev pub withIfr : Control → ℕ → Control
+withIfr c v = record { ifr = v; ier = c .ier; mcr = c .mcr; sccr = c .sccr; scsr = c .scsr }
+
+abbrev pub withScsr : Control → ℕ → Control
+withScsr c v = record { ifr = c .ifr; ier = c .ier; mcr = c .mcr; sccr = c .sccr; scsr = v }
+
+-- the interrupt flags, the status register, or port A's latch set anew
+abbrev pub flagged : Peripherals → ℕ → Peripherals
+flagged p v = withControl p (withIfr (p .control) v)
+
+abbrev pub statused : Peripherals → ℕ → Peripherals
+statused p v = withControl p (withScsr (p .control) v)
+
+abbrev pub latchedA : Peripherals → ℕ → Peripherals
+latchedA p v = withPorts p (withPortA (p .ports) v)

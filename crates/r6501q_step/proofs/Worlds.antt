@@ -1,0 +1,39 @@
+-- One plain clock, by what it comes to.
+use mathlib.Core.Path.{_≡_, refl, sym, ap, _∙_}
+use mathlib.Core.Bool.{Bool}
+use mathlib.Core.List.{List}
+use Prim.Native.Nat.{ℕ, _+_, _-_, _≤_}
+use native.Mathlib.Omega.{arith}
+use lib.Dec.{ltb, eqb}
+use lib.ListN.{length, take, drop, length-drop}
+use lib.Seq.{take-all}
+use borrow.Author.Tests.{eq-eqb}
+use Rattle.pin_lists.specs.PinLists.{dueCount}
+use Rattle.pin_lists.proofs.PinLists.{due-within}
+use Rattle.leaps.specs.World.{stoppedAt, movedTo, dueIn, plainOf}
+use Rattle.r6501q_clock.specs.declared.Ended.{Ended}
+use Rattle.r6501q_clock.specs.declared.Clocked.the-variants.{Stopped, Done}
+use Rattle.r6501q_clock.specs.Clock.{clockOf}
+use Rattle.r6501q_step.specs.R6501q.{World, r6501q, endOf}
+
+module _ (w : World) (due : ℕ) (free : Bool) (on : w .stop ≡ 0) (counted : due ≡ dueIn r6501q w) where
+  -- a clock that stops
+  pub plain-stops : (number : ℕ) → clockOf (w .state) (take due (w .inputCodes)) (w .memory) free ≡ Stopped number
+      → free ≡ ltb (w .written) (length (w .outputClocks)) → stoppedAt number w ≡ plainOf r6501q w
+  unfolding plainOf
+  plain-stops number e room = rw (eq-eqb (w .stop) 0 on, ← counted, ← room, e)
+
+  -- a clock that is done
+  pub plain-moves : (e : Ended) → clockOf (w .state) (take due (w .inputCodes)) (w .memory) free ≡ Done e
+      → free ≡ ltb (w .written) (length (w .outputClocks)) → movedTo r6501q (endOf (w .memory) e) due w ≡ plainOf r6501q w
+  unfolding plainOf
+  plain-moves ended e room = rw (eq-eqb (w .stop) 0 on, ← counted, ← room, e)
+
+-- the part of a list that begins at an index, as it is lent
+pub lent-part : (l : List ℕ) (n : ℕ) → take (length l - n) (drop n l) ≡ drop n l
+lent-part l n = take-all (length l - n) (drop n l) (omega (arith, length-drop n l))
+
+-- the inputs due are there
+pub due-fits : (clock read : ℕ) (clocks codes : List ℕ) → read ≤ length clocks → length clocks ≡ length codes
+    → read + dueCount clock (drop read clocks) ≤ length codes
+due-fits clock read clocks codes h e = omega (arith, due-within clock (drop read clocks), length-drop read clocks)

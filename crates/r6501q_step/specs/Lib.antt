@@ -1,0 +1,3 @@
+pub mod R6501q
+pub mod World
+pub mod Calls

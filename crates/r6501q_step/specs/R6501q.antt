@@ -1,0 +1,65 @@
+-- The R6501Q as an instance of the theory of leaps: the definitions of its parts, under the theory's names.
+use mathlib.Core.Bool.{Bool, true, false}
+use mathlib.Core.List.{List}
+use Prim.Native.Nat.{ℕ}
+use Rattle.memory.specs.Memory.{memorySpan}
+use Rattle.refusals.specs.declared.Limits.{Limits}
+use Rattle.leaps.specs.Leaps.{System}
+use Rattle.leaps.specs.Chip.{Chip, ClockEnd, ClockOutcome, stopped, done}
+use Rattle.leaps.specs.World as leaps
+use Rattle.leaps.specs.Lists.{Machine}
+use Rattle.leaps.specs.Calls as calls
+use Rattle.r6501q_state.specs.declared.state.State.{State}
+use Rattle.r6501q_state.specs.State.{wellFormed}
+use Rattle.r6501q_state.specs.Inputs.{lastPin}
+use Rattle.r6501q_clock.specs.declared.Ended.{Ended}
+use Rattle.r6501q_clock.specs.declared.Clocked.{Clocked}
+use Rattle.r6501q_clock.specs.declared.Clocked.the-variants.{Stopped, Done}
+use Rattle.r6501q_clock.specs.Clock.{clockOf}
+use Rattle.r6501q_clock.specs.Commit.{committed}
+use Rattle.r6501q_gaps.specs.Events.{eventOf}
+use Rattle.r6501q_gaps.specs.Gaps.{clocksOf, gapOf, passOf}
+
+-- 01, What is handed back: "1 | memory not 65,536 bytes"; 01, Pin lists: "33 RES"
+abbrev pub r6501qLimits : Limits
+r6501qLimits = record { memory = memorySpan; pin = lastPin }
+
+-- a clock that is done: its writes are put into memory
+abbrev pub endOf : List ℕ → Ended → ClockEnd State
+endOf memory e = record { state = e .state; memory = committed memory (e .writes); differs = e .differs; word = e .word; stop = 0 }
+
+abbrev pub clockOutcome : List ℕ → Clocked → ClockOutcome State
+clockOutcome memory (Stopped number) = stopped number
+clockOutcome memory (Done e) = done (endOf memory e)
+
+abbrev pub r6501q : Chip State
+r6501q = record {
+  limits = r6501qLimits;
+  wellFormed = wellFormed;
+  clock = λ (s : State). s .clock;
+  outcome = λ (s : State) (codes memory : List ℕ) (free : Bool). clockOutcome memory (clockOf s codes memory free);
+  event = eventOf;
+  gap = λ (n : ℕ) (s : State) (clocks : List ℕ). gapOf n s clocks .0;
+  pass = λ (g : ℕ) (s : State). passOf s (clocksOf g);
+}
+
+-- the chip with its memory and lists; what a call on it hands back, and its result
+abbrev pub World : Type 0
+World = leaps.WorldOf State
+
+abbrev pub Handed : Type 0
+Handed = calls.HandedOf State
+
+abbrev pub Result : Type 0
+Result = calls.ResultOf State
+
+-- one plain clock
+abbrev pub plain : World → World
+plain = leaps.plainOf r6501q
+
+-- as a machine that leaps, and as one that calls move
+abbrev pub chip : System World
+chip = leaps.systemOf r6501q
+
+abbrev pub machine : Machine World Handed Result
+machine = calls.machineOf r6501q

@@ -1,0 +1,40 @@
+-- What the code of a call carries, as a world.
+use mathlib.Core.Path.{_≡_}
+use mathlib.Core.List.{List}
+use Prim.Native.Nat.{ℕ, _+_, _≤_, _<_}
+use lib.ListN.{length, drop}
+use Rattle.bits.specs.Bits.{digit}
+use Rattle.refusals.specs.Refusals.{lastClock}
+use Rattle.r6501q_clock.specs.declared.Ended.{Ended}
+use Rattle.r6501q_step.specs.declared.Progress.{Progress}
+use Rattle.r6501q_step.specs.R6501q.{World}
+
+-- the lent lists, and how far a call has come with them
+abbrev pub worldOf : Progress → List ℕ → List ℕ → List ℕ → List ℕ → List ℕ → World
+worldOf p memory inputClocks inputCodes outputClocks outputWords = record {
+  state = p .state;
+  memory = memory;
+  inputClocks = drop (p .read) inputClocks;
+  inputCodes = drop (p .read) inputCodes;
+  outputClocks = outputClocks;
+  outputWords = outputWords;
+  read = p .read;
+  written = p .written;
+  stop = p .stop;
+}
+
+-- the two ends of a clock, of what the code carries: a stop, and nothing else changes; or the clock done, of which `due` inputs were due
+abbrev pub stoppedWith : ℕ → Progress → Progress
+stoppedWith number p = record { state = p .state; read = p .read; written = p .written; stop = number }
+
+abbrev pub progressTo : Ended → ℕ → Progress → Progress
+progressTo e due p = record { state = e .state; read = p .read + due; written = p .written + digit (e .differs); stop = 0 }
+
+-- what a clock in code starts from
+pub record Going (p : Progress) (inputClocks inputCodes outputClocks outputWords : List ℕ) : Type 0 where
+  pub clock : p .state .clock < lastClock
+  pub read : p .read ≤ length inputClocks
+  pub inputs : length inputClocks ≡ length inputCodes
+  pub outputs : length outputClocks ≡ length outputWords
+  pub written : p .written ≤ length outputClocks
+  pub stop : p .stop ≡ 0

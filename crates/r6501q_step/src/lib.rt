@@ -1,0 +1,274 @@
+// The chip with its memory and pin lists: one clock of it, and the single-clock call.
+ghost use mathlib.Core.Path.{_≡_};
+ghost use Prim.Native.Nat.{_+_, _≤_, _<_, _^_};
+ghost use lib.ListN.{length, take, drop};
+ghost use Rattle.bits.specs.Bits.{digit};
+ghost use Rattle.pin_lists.specs.PinLists.{dueCount};
+ghost use Rattle.refusals.specs.Refusals.{lastClock, refusalOf};
+ghost use Rattle.leaps.specs.World.{putRecord};
+ghost use Rattle.leaps.specs.Lists.{stepOf};
+ghost use Rattle.leaps.specs.Calls.{callStart};
+ghost use Rattle.cpu_opcodes.specs.Table.{opcodeTable};
+ghost use Rattle.r6501q_state.specs.State.{wellFormed};
+ghost use Rattle.r6501q_clock.specs.Clock.{clockOf};
+ghost use Rattle.r6501q_clock.specs.Commit.{committed};
+ghost use Rattle.r6501q_step.specs.R6501q.{r6501qLimits, plain, machine};
+ghost use Rattle.r6501q_step.specs.World.{worldOf, progressTo, stoppedWith, Going};
+ghost use Rattle.r6501q_step.specs.Calls.{handed, begin, refusalResult, progressResult, leapsFrom};
+use memory::MEMORY_SPAN;
+use pin_lists::inputs_due;
+use r6501q_clock::Clocked;
+use r6501q_clock::Ended;
+use r6501q_clock::commit::commit;
+use r6501q_state::inputs::LAST_PIN;
+use r6501q_state::state::State;
+use r6501q_state::state::well_formed;
+use refusals::Limits;
+use refusals::refusal;
+
+// How far a call has come: the state, the inputs read, the records written, and the stop, 0 where nothing stopped.
+pub struct Progress {
+    pub state: State,
+    pub read: usize,
+    pub written: usize,
+    pub stop: u8,
+}
+
+// What a call hands back beside the lent lists: document 01's number, the state, the leaps, the inputs read and the records written.
+#[repr(C)]
+pub struct CallResult {
+    pub number: u8,
+    pub state: State,
+    pub leaps: u32,
+    pub read: usize,
+    pub written: usize,
+}
+
+// A record into one of the output lists.
+fn put_record(list: &mut [u32], differs: bool, at: usize, value: u32)
+    ensures { λ _. ⌜ now (list .exit) ≡ putRecord differs at value (now (list .entry)) ⌝ }
+{
+    if differs {
+        if at < list.len() {
+            list[at] = value;
+        }
+    }
+}
+
+// The records written once one more is, where the word differs.
+fn written_after(written: usize, differs: bool) -> usize
+    requires { ⌜ written + 1 < 2 ^ 64 ⌝ }
+    ensures { λ r. ⌜ r ≡ written + digit differs ⌝ }
+{
+    if differs { written + 1 } else { written }
+}
+
+// How many inputs of a clock stand at the front of the part of the list that begins at its first unread entry.
+fn due_from(inputclocks: &[u32], from: usize, clock: u32) -> usize
+    requires { ⌜ from ≤ length (now inputclocks) ⌝ }
+    ensures { λ r. ⌜ r ≡ dueCount clock (drop from (now (inputclocks .entry))) ⌝ }
+{
+    inputs_due(clock, &inputclocks[from..])
+}
+
+// What the next clock comes to, of which `due` inputs are due.
+fn outcome_from(
+    p: Progress,
+    due: usize,
+    memory: &[u8],
+    inputcodes: &[u8],
+    free: bool,
+    entries: &[u16],
+) -> Clocked
+    requires { ⌜ (p .state .clock < lastClock) × (p .read + due ≤ length (now inputcodes)) ⌝ }
+    requires { ⌜ now entries ≡ opcodeTable ⌝ }
+    ensures { λ r. ⌜ r ≡ clockOf (p .state) (take due (drop (p .read) (now (inputcodes .entry)))) (now (memory .entry)) free ⌝ }
+{
+    let from = p.read;
+    let upto = from + due;
+    r6501q_clock::clock(p.state, &inputcodes[from..upto], memory, free, entries)
+}
+
+// A clock that is done: its writes, its record and its inputs.
+fn complete(
+    p: Progress,
+    due: usize,
+    ended: Ended,
+    memory: &mut [u8],
+    outputclocks: &mut [u32],
+    outputwords: &mut [u32],
+) -> Progress
+    requires { ⌜ (p .read + due < 2 ^ 64) × (p .written + 1 < 2 ^ 64) ⌝ }
+    ensures { λ r. ⌜ r ≡ progressTo ended due p ⌝ }
+    ensures { λ _. ⌜ now (memory .exit) ≡ committed (now (memory .entry)) (ended .writes) ⌝ }
+    ensures { λ _. ⌜ now (outputclocks .exit) ≡ putRecord (ended .differs) (p .written) (ended .state .clock) (now (outputclocks .entry)) ⌝ }
+    ensures { λ _. ⌜ now (outputwords .exit) ≡ putRecord (ended .differs) (p .written) (ended .word) (now (outputwords .entry)) ⌝ }
+{
+    let state = ended.state;
+    let written = p.written;
+    let differs = ended.differs;
+    commit(memory, ended.writes);
+    put_record(outputclocks, differs, written, state.clock);
+    put_record(outputwords, differs, written, ended.word);
+    Progress {
+        state: state,
+        read: p.read + due,
+        written: written_after(written, differs),
+        stop: 0,
+    }
+}
+
+// A clock that stops changes nothing but the number.
+fn stop_at(number: u8, p: Progress) -> Progress
+    ensures { λ r. ⌜ r ≡ stoppedWith number p ⌝ }
+{
+    let state = p.state;
+    Progress {
+        state: state,
+        read: p.read,
+        written: p.written,
+        stop: number,
+    }
+}
+
+// One clock: what it comes to, and then what it does.
+pub fn advance(
+    p: Progress,
+    memory: &mut [u8],
+    inputclocks: &[u32],
+    inputcodes: &[u8],
+    outputclocks: &mut [u32],
+    outputwords: &mut [u32],
+    entries: &[u16],
+) -> Progress
+    requires { ⌜ Going p (now inputclocks) (now inputcodes) (now outputclocks) (now outputwords) ⌝ }
+    requires { ⌜ now entries ≡ opcodeTable ⌝ }
+    ensures { λ r. ⌜ worldOf r (now (memory .exit)) (now (inputclocks .entry)) (now (inputcodes .entry)) (now (outputclocks .exit)) (now (outputwords .exit)) ≡ plain (worldOf p (now (memory .entry)) (now (inputclocks .entry)) (now (inputcodes .entry)) (now (outputclocks .entry)) (now (outputwords .entry))) ⌝ }
+{
+    let due = due_from(inputclocks, p.read, p.state.clock + 1);
+    let free = p.written < outputclocks.len();
+    let clocked = outcome_from(p, due, memory, inputcodes, free, entries);
+    match clocked {
+        Clocked::Stopped(number) => stop_at(number, p),
+        Clocked::Done(ended) => complete(p, due, ended, memory, outputclocks, outputwords),
+    }
+}
+
+// The bytes of a memory, and the last pin.
+pub fn limits() -> Limits
+    ensures { λ r. ⌜ r ≡ r6501qLimits ⌝ }
+{
+    Limits {
+        memory: MEMORY_SPAN,
+        pin: LAST_PIN,
+    }
+}
+
+// The number of the first check that fails of a call for n clocks, or 0.
+pub fn call_refusal(
+    state: State,
+    span: usize,
+    inputclocks: &[u32],
+    inputcodes: &[u8],
+    outputclocks: usize,
+    outputwords: usize,
+    n: u32,
+) -> u8
+    ensures { λ r. ⌜ r ≡ refusalOf r6501qLimits (wellFormed state) (state .clock) span (now (inputclocks .entry)) (now (inputcodes .entry)) outputclocks outputwords n ⌝ }
+{
+    let formed = well_formed(state);
+    refusal(
+        limits(),
+        formed,
+        state.clock,
+        span,
+        inputclocks,
+        inputcodes,
+        outputclocks,
+        outputwords,
+        n,
+    )
+}
+
+// The result of a refused call.
+pub fn refused(number: u8, state: State) -> CallResult
+    ensures { λ r. ⌜ r ≡ refusalResult number state ⌝ }
+{
+    CallResult {
+        number: number,
+        state: state,
+        leaps: 0,
+        read: 0,
+        written: 0,
+    }
+}
+
+// The result of a call that was not refused.
+pub fn result_of(leaps: u32, p: Progress) -> CallResult
+    ensures { λ r. ⌜ r ≡ progressResult leaps p ⌝ }
+{
+    let state = p.state;
+    CallResult {
+        number: p.stop,
+        state: state,
+        leaps: leaps,
+        read: p.read,
+        written: p.written,
+    }
+}
+
+// The leap of a single clock: one where the clock moved.
+pub fn leaps_from(before: u32, after: u32) -> u32
+    ensures { λ r. ⌜ r ≡ leapsFrom before after ⌝ }
+{
+    if before < after { 1 } else { 0 }
+}
+
+// A call that has just begun.
+pub fn begin(state: State) -> Progress
+    ensures { λ r. ⌜ r ≡ begin state ⌝ }
+{
+    Progress {
+        state: state,
+        read: 0,
+        written: 0,
+        stop: 0,
+    }
+}
+
+// The single-clock call.
+pub fn step(
+    state: State,
+    memory: &mut [u8],
+    inputclocks: &[u32],
+    inputcodes: &[u8],
+    outputclocks: &mut [u32],
+    outputwords: &mut [u32],
+) -> CallResult
+    ensures { λ r. ⌜ handed r (now (memory .exit)) (now (outputclocks .exit)) (now (outputwords .exit)) ≡ stepOf machine (callStart state (now (memory .entry)) (now (inputclocks .entry)) (now (inputcodes .entry)) (now (outputclocks .entry)) (now (outputwords .entry))) ⌝ }
+{
+    let number = call_refusal(
+        state,
+        memory.len(),
+        inputclocks,
+        inputcodes,
+        outputclocks.len(),
+        outputwords.len(),
+        1,
+    );
+    if number != 0 {
+        return refused(number, state);
+    }
+    let entries = cpu_opcodes::opcode_table();
+    let end = advance(
+        begin(state),
+        memory,
+        inputclocks,
+        inputcodes,
+        outputclocks,
+        outputwords,
+        &entries,
+    );
+    let leaps = leaps_from(state.clock, end.state.clock);
+    result_of(leaps, end)
+}

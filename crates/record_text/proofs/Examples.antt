@@ -1,0 +1,12 @@
+-- Document 01's example, "it prints `10 FFFFFF55` ..., then `end 100 0`", as lines.
+use mathlib.Core.Path.{_≡_, refl}
+use mathlib.Core.List.{[], _∷_}
+use Rattle.record_text.specs.Lines.{digitOf, digitsOf, digitCount, decimalOf, hexWord, recordLine, endLine}
+
+pub record-example : recordLine 10 0xFFFFFF55 ≡ 49 ∷ 48 ∷ 32 ∷ 70 ∷ 70 ∷ 70 ∷ 70 ∷ 70 ∷ 70 ∷ 53 ∷ 53 ∷ 10 ∷ []
+unfolding digitOf digitsOf digitCount decimalOf hexWord recordLine
+record-example = refl
+
+pub end-example : endLine 100 0 ≡ 101 ∷ 110 ∷ 100 ∷ 32 ∷ 49 ∷ 48 ∷ 48 ∷ 32 ∷ 48 ∷ 10 ∷ []
+unfolding digitOf digitsOf digitCount decimalOf endLine
+end-example = refl

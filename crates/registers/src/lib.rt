@@ -1,7 +1,0 @@
-// The registers of the R6501Q at 00h to 3Fh: what each read and each write does.
-
-// Reads.
-pub mod read;
-
-// Writes.
-pub mod write;

@@ -1,0 +1,90 @@
+-- A replay is never refused by the call, and what it prints is what 100 plain clocks come to.
+use mathlib.Core.Path.{_≡_, refl, ap, _∙_}
+use mathlib.Core.Bool.{true}
+use mathlib.Core.List.{List, []}
+use Prim.Native.Nat.{ℕ, _≤_}
+use native.Mathlib.Omega.{arith}
+use lib.ListN.{length, take, replicate}
+use borrow.Author.Tests.{eq-eqb, ne-eqb}
+use Rattle.memory.specs.Memory.{memorySpan}
+use Rattle.pin_lists.specs.PinLists.{pinsRight}
+use Rattle.refusals.proofs.Accepted.{accepts}
+use Rattle.leaps.specs.Leaps.{plains, leapCount}
+use Rattle.leaps.specs.Lists.{plainRunOf}
+use Rattle.leaps.specs.Calls.{callStart, handedBackOf, refusalIn, Fit}
+use Rattle.leaps.proofs.Laws.{plains-kept}
+use Rattle.leaps.proofs.Chips.{plain-fits, no-gap-event}
+use Rattle.r6501q_state.specs.declared.state.State.{State}
+use Rattle.r6501q_state.specs.State.{fresh, wellFormed}
+use Rattle.r6501q_state.specs.Inputs.{lastPin}
+use Rattle.r6501q_step.specs.declared.CallResult.{CallResult}
+use Rattle.r6501q_step.specs.R6501q.{World, Handed, r6501qLimits, r6501q, chip, machine}
+use Rattle.r6501q_step.specs.Calls.{handed}
+use Rattle.r6501q_run.proofs.Laws.{laws, lawful}
+use Rattle.tape.specs.declared.LoadResult.{LoadResult}
+use Rattle.tape.specs.Tapes.{loaded, loadOf}
+use Rattle.record_text.specs.Lines.{endLine, outcomeLines}
+use Rattle.replay_text.specs.Replay.{zeroMemory, freeRecords, replayStart, ranOf, replayOf}
+
+fresh-formed : wellFormed fresh ≡ true
+unfolding fresh wellFormed
+fresh-formed = refl
+
+fresh-clock : fresh .clock ≡ 0
+unfolding fresh
+fresh-clock = refl
+
+-- an empty pin list is right
+none-right : pinsRight lastPin (fresh .clock) [] [] ≡ true
+unfolding fresh pinsRight
+none-right = refl
+
+module _ (memory : List ℕ) (whole : length memory ≡ memorySpan) where
+  -- where the clocks lead to
+  abbrev ended : World
+  ended = plains chip 100 (replayStart memory)
+
+  not-refused : refusalIn r6501q 100 (replayStart memory) ≡ 0
+  not-refused =
+      accepts r6501qLimits (wellFormed fresh) (fresh .clock) (length memory) [] [] (length freeRecords) (length freeRecords) 100
+      (record { memory = whole; state = fresh-formed; inputs = refl; outputs = refl; most = omega (arith, fresh-clock); pins = none-right })
+
+  start-fits : Fit r6501q (replayStart memory)
+  start-fits = record { memory = whole; state = fresh-formed; pins = none-right; outputs = refl; written = omega arith }
+
+  -- every plain clock keeps it so
+  ended-fits : Fit r6501q ended
+  ended-fits = plains-kept chip lawful (Fit r6501q) (plain-fits r6501q laws) (no-gap-event r6501q laws) 100 (replayStart memory) start-fits
+
+  module _ (s : State) (result : CallResult) (memory' times words : List ℕ) (new : s ≡ fresh)
+      (e : handed result memory' times words ≡ plainRunOf machine 100 (callStart s memory [] [] (replicate 100 0) (replicate 100 0))) where
+    -- what the call hands back
+    back : handed result memory' times words ≡ handedBackOf (leapCount chip 100 (replayStart memory)) ended
+    unfolding plainRunOf freeRecords
+    back = (rw new at e) ∙ rw (eq-eqb (refusalIn r6501q 100 (replayStart memory)) 0 not-refused)
+
+    pub written-clocks : result .written ≤ length times
+    written-clocks =
+        let n = ap (λ (h : Handed). h .result .written) back in
+        let l = ap (λ (h : Handed). length (h .outputClocks)) back in
+        omega (arith, ended-fits .written)
+
+    pub written-words : result .written ≤ length words
+    written-words =
+        let n = ap (λ (h : Handed). h .result .written) back in
+        let l = ap (λ (h : Handed). length (h .outputWords)) back in
+        omega (arith, ended-fits .written, ended-fits .outputs)
+
+    pub lines-of-run : outcomeLines (take (result .written) times) (take (result .written) words) (result .state .clock) (result .number) ≡ ranOf memory
+    unfolding ranOf
+    lines-of-run =
+        ap (λ (h : Handed). outcomeLines (take (h .result .written) (h .outputClocks)) (take (h .result .written) (h .outputWords)) (h .result .state .clock) (h .result .number)) back
+
+module _ (tape memory : List ℕ) (result : LoadResult) (e : loaded result memory ≡ loadOf tape zeroMemory) where
+  pub replay-refused : (result .number ≡ 0 → ⊥) → endLine 0 (result .number) ≡ replayOf tape
+  unfolding replayOf
+  replay-refused some = rw (← e, ne-eqb (result .number) 0 some)
+
+  pub replay-ran : result .number ≡ 0 → ranOf memory ≡ replayOf tape
+  unfolding replayOf
+  replay-ran none = rw (← e, eq-eqb (result .number) 0 none)

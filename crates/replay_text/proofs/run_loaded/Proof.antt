@@ -1,0 +1,70 @@
+use mathlib.Core.Path.{sym, ap, _∙_}
+use native.Mathlib.Omega.{arith}
+use denote.Ref.{now}
+use lib.Seq.{length-take-le}
+use Rattle.record_text.specs.Lines.{written, putOf}
+use Rattle.replay_text.proofs.Laws.{written-clocks, written-words, lines-of-run}
+use borrow.Author.Needs.{needs}
+use Rattle.replay_text.proofs.run_loaded.Statement.{statement}
+use Rattle.replay_text.proofs.run_loaded.Tie as tie
+
+fresh-state-requires : tie.Need-fresh-state-requires
+fresh-state-requires c κs = search needs
+
+slice-aggregate-run : tie.Need-slice-aggregate-run
+slice-aggregate-run c = search needs
+
+slice-aggregate-run-2 : tie.Need-slice-aggregate-run-2
+slice-aggregate-run-2 c = search needs
+
+slice-aggregate-run-3 : tie.Need-slice-aggregate-run-3
+slice-aggregate-run-3 c = search needs
+
+slice-aggregate-run-4 : tie.Need-slice-aggregate-run-4
+slice-aggregate-run-4 c = search needs
+
+run-requires : tie.Need-run-requires
+run-requires c κs = search needs
+
+array-share-prefix-outputclocks : tie.Need-array-share-prefix-outputclocks
+array-share-prefix-outputclocks c = written-clocks (now (c .before .before .before .before .before .before .before .before .before .before .before .before .before .args .memory)) (c .before .before .before .before .before .before .before .before .before .before .before .before .before .pre .0) (c .before .before .before .before .before .before .before .before .before .before .fresh-state .result) (c .before .before .before .before .run .result) (c .before .before .before .before .run .last .1 .0) (c .before .before .before .before .run .last .1 .1 .1 .1 .0) (c .before .before .before .before .run .last .1 .1 .1 .1 .1 .0) (c .before .before .before .before .before .before .before .before .before .before .fresh-state .ensures) (c .before .before .before .before .run .ensures .1)
+
+slice-aggregate-put-outcome : tie.Need-slice-aggregate-put-outcome
+slice-aggregate-put-outcome c = sym (length-take-le _ _ (array-share-prefix-outputclocks (c .before)))
+
+array-share-prefix-outputwords : tie.Need-array-share-prefix-outputwords
+array-share-prefix-outputwords c = written-words (now (c .before .before .before .before .before .before .before .before .before .before .before .before .before .before .args .memory)) (c .before .before .before .before .before .before .before .before .before .before .before .before .before .before .pre .0) (c .before .before .before .before .before .before .before .before .before .before .before .fresh-state .result) (c .before .before .before .before .before .run .result) (c .before .before .before .before .before .run .last .1 .0) (c .before .before .before .before .before .run .last .1 .1 .1 .1 .0) (c .before .before .before .before .before .run .last .1 .1 .1 .1 .1 .0) (c .before .before .before .before .before .before .before .before .before .before .before .fresh-state .ensures) (c .before .before .before .before .before .run .ensures .1)
+
+slice-aggregate-put-outcome-2 : tie.Need-slice-aggregate-put-outcome-2
+slice-aggregate-put-outcome-2 c = sym (length-take-le _ _ (array-share-prefix-outputwords (c .before)))
+
+put-outcome-requires : tie.Need-put-outcome-requires
+put-outcome-requires c κs = let t = slice-aggregate-put-outcome (c .before .before) in let w = slice-aggregate-put-outcome-2 (c .before) in (sym t ∙ w, omega (arith, array-share-prefix-outputclocks (c .before .before .before)))
+
+same-length : tie.Need-same-length
+same-length c = search needs
+
+same-length-2 : tie.Need-same-length-2
+same-length-2 c = search needs
+
+returns : tie.Need-returns
+returns c = (c .before .before .put-outcome .ensures .0 ∙ ap (λ lines. putOf lines (written 0 (now (c .before .before .before .before .before .before .before .before .before .before .before .before .before .before .before .before .before .before .before .args .text)))) (lines-of-run (now (c .before .before .before .before .before .before .before .before .before .before .before .before .before .before .before .before .before .before .before .args .memory)) (c .before .before .before .before .before .before .before .before .before .before .before .before .before .before .before .before .before .before .before .pre .0) (c .before .before .before .before .before .before .before .before .before .before .before .before .before .before .before .before .fresh-state .result) (c .before .before .before .before .before .before .before .before .before .before .run .result) (c .before .before .before .before .before .before .before .before .before .before .run .last .1 .0) (c .before .before .before .before .before .before .before .before .before .before .run .last .1 .1 .1 .1 .0) (c .before .before .before .before .before .before .before .before .before .before .run .last .1 .1 .1 .1 .1 .0) (c .before .before .before .before .before .before .before .before .before .before .before .before .before .before .before .before .fresh-state .ensures) (c .before .before .before .before .before .before .before .before .before .before .run .ensures .1)), c .before .before .put-outcome .ensures .1)
+
+pub run-loaded-spec : {M : Type 1} → statement M
+run-loaded-spec =
+    tie.close
+    (tie.spec
+    fresh-state-requires
+    slice-aggregate-run
+    slice-aggregate-run-2
+    slice-aggregate-run-3
+    slice-aggregate-run-4
+    run-requires
+    array-share-prefix-outputclocks
+    slice-aggregate-put-outcome
+    array-share-prefix-outputwords
+    slice-aggregate-put-outcome-2
+    put-outcome-requires
+    same-length
+    same-length-2
+    returns)

@@ -1,0 +1,65 @@
+// A tape replayed: loaded into a memory of zeros, then 100 clocks from fresh, no inputs.
+use memory::MEMORY_SPAN;
+use r6501q_state::state::fresh_state;
+use record_text::LINE_LENGTH;
+use record_text::put_end;
+use record_text::put_outcome;
+ghost use mathlib.Core.Path.{_≡_};
+ghost use Prim.Native.Nat.{_≤_};
+ghost use lib.ListN.{length};
+ghost use Rattle.memory.specs.Memory.{memorySpan};
+ghost use Rattle.record_text.specs.Lines.{written, putOf};
+ghost use Rattle.replay_text.specs.Replay.{ranOf, replayOf};
+
+// The clocks of a replay, and its free output records.
+const CLOCKS: u32 = 100;
+
+const RECORDS: usize = 100;
+
+// The most characters that a replay prints: a line for each record, and the end line.
+pub const TEXT_LENGTH: usize = LINE_LENGTH * (RECORDS + 1);
+
+// Runs the clocks on a loaded memory, and puts the lines of what they come to into `text`. A fresh chip's clock is 0, so that
+// its clock afterwards is the number of clocks done.
+fn run_loaded(memory: &mut [u8], text: &mut [u8]) -> usize
+    requires { ⌜ length (now memory) ≡ memorySpan ⌝ }
+    requires { ⌜ 2020 ≤ length (now text) ⌝ }
+    ensures { λ r. ⌜ written r (now (text .exit)) ≡ putOf (ranOf (now (memory .entry))) (written 0 (now (text .entry))) ⌝ }
+    ensures { λ r. ⌜ r ≤ length (now (text .exit)) ⌝ }
+{
+    let inputclocks = [0u32; 0];
+    let inputcodes = [0u8; 0];
+    let mut outputclocks = [0u32; RECORDS];
+    let mut outputwords = [0u32; RECORDS];
+    let result = r6501q_run::run(
+        fresh_state(),
+        memory,
+        &inputclocks,
+        &inputcodes,
+        &mut outputclocks,
+        &mut outputwords,
+        CLOCKS,
+    );
+    let written = result.written;
+    put_outcome(
+        &outputclocks[..written],
+        &outputwords[..written],
+        result.state.clock,
+        result.number,
+        text,
+    )
+}
+
+// Replays a tape, and puts what is to be printed into `text`; gives how many characters it is.
+pub fn replay(tape: &[u8], text: &mut [u8]) -> usize
+    requires { ⌜ 2020 ≤ length (now text) ⌝ }
+    ensures { λ r. ⌜ written r (now (text .exit)) ≡ putOf (replayOf (now (tape .entry))) (written 0 (now (text .entry))) ⌝ }
+    ensures { λ r. ⌜ r ≤ length (now (text .exit)) ⌝ }
+{
+    let mut memory = [0u8; MEMORY_SPAN];
+    let loaded = tape::load(tape, &mut memory);
+    if loaded.number != 0 {
+        return put_end(0, loaded.number, text, 0);
+    }
+    run_loaded(&mut memory, text)
+}

@@ -1,3 +1,0 @@
-pub mod Bits
-pub mod Lists
-pub mod Memory
