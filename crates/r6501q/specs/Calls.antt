@@ -1,8 +1,11 @@
 -- The calls of programs in C and Rust: the library's own, on the state that the host's stands for.
+use mathlib.Core.Path.{_≡_}
 use mathlib.Core.Bool.{Bool, true, false, _&&_, cond}
 use mathlib.Core.List.{List}
 use Prim.Native.Nat.{ℕ}
 use lib.ListN.{length}
+use Rattle.bit_rate.specs.declared.Found.{Found}
+use Rattle.bit_rate.specs.BitRate.{LatchFor}
 use Rattle.refusals.specs.Refusals.{refusalOf}
 use Rattle.leaps.specs.World as leaps
 use Rattle.leaps.specs.Calls as calls
@@ -13,7 +16,8 @@ use Rattle.tape.specs.Tapes.{loadOf}
 use Rattle.r6501q.specs.declared.host.HostState.{HostState}
 use Rattle.r6501q.specs.declared.host.HostResult.{HostResult}
 use Rattle.r6501q.specs.declared.host.HostLoadResult.{HostLoadResult}
-use Rattle.r6501q.specs.Host.{stateFromHost, flagsFit, hostState, hostLoadResult}
+use Rattle.r6501q.specs.declared.host.HostLatch.{HostLatch}
+use Rattle.r6501q.specs.Host.{stateFromHost, flagsFit, hostState, hostLoadResult, hostLatch}
 
 -- "Well-formed: every field is within its range here", the flags too
 abbrev pub hostWellFormed : HostState → Bool
@@ -95,3 +99,9 @@ hostLoaded r memory = record { result = r; memory = memory }
 -- a load by the host
 abbrev pub hostLoad : List ℕ → List ℕ → HostLoaded
 hostLoad tape memory = hostLoaded (hostLoadResult (loadOf tape memory .result)) (loadOf tape memory .memory)
+
+-- 02, U2: what the latch call hands back stands for an answer that keeps its promise
+pub record LatchHanded (f b t : ℕ) (r : HostLatch) : Type 0 where
+  pub found : Found
+  pub promised : LatchFor f b t found
+  pub handed : r ≡ hostLatch found

@@ -3,6 +3,9 @@ use mathlib.Core.Bool.{Bool, true, false, _&&_}
 use Prim.Native.Nat.{ℕ}
 use lib.Dec.{leb, eqb}
 use Rattle.bits.specs.Bits.{digit}
+use Rattle.bit_rate.specs.declared.Found.{Found}
+use Rattle.bit_rate.specs.declared.Found.the-variants.{Fits, Nothing, Refused}
+use Rattle.bit_rate.specs.BitRate.{numberOf}
 use Rattle.counters.specs.declared.b.CounterB.{CounterB}
 use Rattle.serial.specs.declared.receiver.Receiver.{Receiver}
 use Rattle.r6501q_state.specs.declared.state.Due.{Due}
@@ -19,6 +22,7 @@ use Rattle.r6501q.specs.declared.host.HostLevels.{HostLevels}
 use Rattle.r6501q.specs.declared.host.HostState.{HostState}
 use Rattle.r6501q.specs.declared.host.HostResult.{HostResult}
 use Rattle.r6501q.specs.declared.host.HostLoadResult.{HostLoadResult}
+use Rattle.r6501q.specs.declared.host.HostLatch.{HostLatch}
 
 -- ---- from the host: "(yes or no)" is a byte of 1 or 0
 
@@ -113,3 +117,9 @@ hostRefused number h = record { number = number; state = h; leaps = 0; read = 0;
 
 abbrev pub hostLoadResult : LoadResult → HostLoadResult
 hostLoadResult l = record { number = l .number; place = l .place }
+
+-- 02, U2: the answer's number, whether a latch value was found, and the value; without one both are 0
+abbrev pub hostLatch : Found → HostLatch
+hostLatch (Fits N) = record { number = numberOf (Fits N); found = 1; value = N }
+hostLatch Nothing = record { number = numberOf Nothing; found = 0; value = 0 }
+hostLatch Refused = record { number = numberOf Refused; found = 0; value = 0 }

@@ -1,6 +1,7 @@
 // The state and what is handed back as the host, a program in C or Rust, holds them: each flag and level is a byte, 0 or 1.
 ghost use mathlib.Core.Path.{_≡_};
-ghost use Rattle.r6501q.specs.Host.{dueFromHost, counterBFromHost, receiverFromHost, levelsFromHost, peripheralsFromHost, stateFromHost, flagsFit, hostDue, hostCounterB, hostReceiver, hostLevels, hostPeripherals, hostState, hostResult, hostLoadResult};
+ghost use Rattle.r6501q.specs.Host.{dueFromHost, counterBFromHost, receiverFromHost, levelsFromHost, peripheralsFromHost, stateFromHost, flagsFit, hostDue, hostCounterB, hostReceiver, hostLevels, hostPeripherals, hostState, hostResult, hostLoadResult, hostLatch};
+use bit_rate::Found;
 use bits::digit8;
 use counters::a::CounterA;
 use counters::b::CounterB;
@@ -80,6 +81,13 @@ pub struct HostResult {
 pub struct HostLoadResult {
     pub number: u8,
     pub place: usize,
+}
+
+#[repr(C)]
+pub struct HostLatch {
+    pub number: u8,
+    pub found: u8,
+    pub value: u16,
 }
 
 // From the host: a byte of 1 is a yes. Bytes above 1 are refused before, by `flags_fit`.
@@ -264,5 +272,28 @@ pub fn host_load_result(l: LoadResult) -> HostLoadResult
     HostLoadResult {
         number: l.number,
         place: l.place,
+    }
+}
+
+// What the latch call hands back, as the host's.
+pub fn host_latch(found: Found) -> HostLatch
+    ensures { λ r. ⌜ r ≡ hostLatch found ⌝ }
+{
+    match found {
+        Found::Fits(value) => HostLatch {
+            number: 0,
+            found: 1,
+            value: value,
+        },
+        Found::Nothing => HostLatch {
+            number: 0,
+            found: 0,
+            value: 0,
+        },
+        Found::Refused => HostLatch {
+            number: 11,
+            found: 0,
+            value: 0,
+        },
     }
 }

@@ -8,12 +8,14 @@ ghost use Rattle.leaps.specs.Calls.{callStart};
 ghost use Rattle.r6501q_state.specs.State.{fresh};
 ghost use Rattle.r6501q_step.specs.R6501q.{r6501qLimits, machine};
 ghost use Rattle.r6501q.specs.Host.{hostState, hostRefused};
-ghost use Rattle.r6501q.specs.Calls.{hostWellFormed, hostHanded, hostCall, hostLoad, hostLoaded};
+ghost use Rattle.r6501q.specs.Calls.{hostWellFormed, hostHanded, hostCall, hostLoad, hostLoaded, LatchHanded};
 use bits::digit8;
+use host::HostLatch;
 use host::HostLoadResult;
 use host::HostResult;
 use host::HostState;
 use host::flags_fit;
+use host::host_latch;
 use host::host_load_result;
 use host::host_result;
 use host::host_state;
@@ -154,4 +156,13 @@ pub extern "C" fn r6501q_load(tape: &[u8], memory: &mut [u8]) -> HostLoadResult
 {
     let result = tape::load(tape, memory);
     host_load_result(result)
+}
+
+// A latch value of counter A for a wanted bit rate.
+#[no_mangle]
+pub extern "C" fn r6501q_latch(clockrate: u32, bitrate: u32, tolerance: u32) -> HostLatch
+    ensures { λ r. ⌜ LatchHanded clockrate bitrate tolerance r ⌝ }
+{
+    let found = bit_rate::latch(clockrate, bitrate, tolerance);
+    host_latch(found)
 }

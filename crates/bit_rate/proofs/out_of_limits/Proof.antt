@@ -1,0 +1,14 @@
+use mathlib.Core.Path.{refl}
+use Rattle.bit_rate.specs.BitRate.{outOfLimits}
+use Rattle.bit_rate.proofs.out_of_limits.Statement.{statement}
+use Rattle.bit_rate.proofs.out_of_limits.Tie as tie
+use Rattle.bit_rate.proofs.out_of_limits.Reads as reads
+use Rattle.bit_rate.proofs.out_of_limits.Lts as lts
+
+-- src/lib.rt:18:1
+returns : tie.Need-returns
+unfolding outOfLimits
+returns c = refl
+
+pub out-of-limits-spec : {M : Type 1} → statement M
+out-of-limits-spec = tie.close (tie.spec returns)

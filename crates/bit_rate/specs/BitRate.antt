@@ -1,0 +1,43 @@
+-- Document 02, U2: a latch value for a wanted bit rate.
+use mathlib.Core.Path.{_≡_}
+use mathlib.Core.Bool.{Bool, true, false, _||_}
+use Prim.Native.Nat.{ℕ, _+_, _-_, _*_, _≤_}
+use lib.Dec.{leb, ltb, eqb}
+use Rattle.bit_rate.specs.declared.Found.{Found}
+use Rattle.bit_rate.specs.declared.Found.the-variants.{Fits, Nothing, Refused}
+
+-- "|f - ..|": of the two differences one is 0
+abbrev pub difference : ℕ → ℕ → ℕ
+difference a b = (a - b) + (b - a)
+
+-- "|f - 16 × b × (N + 1)| × 1,000 at most t × 16 × b × (N + 1)": the latch value N fits clock rate f, bit rate b and tolerance t
+unfoldable pub fits : ℕ → ℕ → ℕ → ℕ → Bool
+fits f b t N = leb (difference f (16 * b * (N + 1)) * 1000) (t * 16 * b * (N + 1))
+
+-- "a latch value N from 0 to 65,535"
+abbrev pub highestLatch : ℕ
+highestLatch = 65535
+
+-- "clock rate f, bit rate b (each to 10,000,000) and tolerance t in thousandths (to 1,000)"
+abbrev pub highestRate : ℕ
+highestRate = 10000000
+
+abbrev pub highestTolerance : ℕ
+highestTolerance = 1000
+
+-- "f or b is 0, or a figure is above its limit"
+unfoldable pub outOfLimits : ℕ → ℕ → ℕ → Bool
+outOfLimits f b t = eqb f 0 || eqb b 0 || ltb highestRate f || ltb highestRate b || ltb highestTolerance t
+
+-- what an answer promises; which of several that fit is given is left free. "give a latch value N .. with ..", "or say none, which
+-- must mean that no N fits", "11: .. before any search"
+unfoldable pub LatchFor : ℕ → ℕ → ℕ → Found → Type 0
+LatchFor f b t (Fits N) = (outOfLimits f b t ≡ false) × (N ≤ highestLatch) × (fits f b t N ≡ true)
+LatchFor f b t Nothing = (outOfLimits f b t ≡ false) × ((N : ℕ) → N ≤ highestLatch → fits f b t N ≡ false)
+LatchFor f b t Refused = outOfLimits f b t ≡ true
+
+-- the number that is handed back: 0 with a latch value, 0 with none, and 11
+abbrev pub numberOf : Found → ℕ
+numberOf (Fits N) = 0
+numberOf Nothing = 0
+numberOf Refused = 11
