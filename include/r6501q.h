@@ -8,7 +8,7 @@
  * may be written, and while a call goes on nobody else writes any of the lists, the memory or the tape, or reads those
  * three.
  *
- * Rules and numbers are those of document 01. Hexadecimal ends in h.
+ * Rules and numbers are those of document 01, those of r6501q_latch document 02's. Hexadecimal ends in h.
  */
 #ifndef R6501Q_H
 #define R6501Q_H
@@ -28,7 +28,11 @@ extern "C" {
 /* Added to a pin's number in an input code where the new level is high. */
 #define R6501Q_HIGH 64
 
-/* Why a call ended, its field `number` (document 01, "What is handed back"). */
+/* The highest clock rate and bit rate, and the highest tolerance in thousandths, of r6501q_latch. */
+#define R6501Q_HIGHEST_RATE 10000000
+#define R6501Q_HIGHEST_TOLERANCE 1000
+
+/* Why a call ended, its field `number` (document 01, "What is handed back"; document 02). */
 enum r6501q_number {
     /* Run and step: all clocks done. Load: the tape is in memory. */
     R6501Q_DONE = 0,
@@ -48,7 +52,10 @@ enum r6501q_number {
     /* A refused tape. Memory is unchanged; `place` is the index of the faulty record's `;`. */
     R6501Q_MALFORMED_RECORD = 8, /* a digit missing or wrong, a count above 18h, or an address + count above 65,536 */
     R6501Q_WRONG_CHECK_SUM = 9, /* the record's check sum is not the sum of its bytes */
-    R6501Q_WRONG_LAST_RECORD = 10 /* the last record's count is wrong; or it is missing, `place` the tape's length */
+    R6501Q_WRONG_LAST_RECORD = 10, /* the last record's count is wrong; or it is missing, `place` the tape's length */
+
+    /* A refused latch call (document 02, U2). */
+    R6501Q_RATE_OUT_OF_LIMITS = 11 /* a rate is 0, or a rate or the tolerance is above its limit */
 };
 
 /* The machine state (document 01, "Machine state"). The range of a field is that of its type where none is given. */
@@ -166,6 +173,13 @@ typedef struct r6501q_load_result {
     size_t place;
 } r6501q_load_result;
 
+/* What the latch call hands back. */
+typedef struct r6501q_latch_result {
+    uint8_t number; /* R6501Q_DONE or R6501Q_RATE_OUT_OF_LIMITS */
+    uint8_t found; /* 1 where a latch value fits, else 0 */
+    uint16_t value; /* the latch value, 0 where none is found */
+} r6501q_latch_result;
+
 /* A chip that has not run yet: reset due, clock 0, all levels high. Always well-formed. */
 r6501q_state r6501q_fresh(void);
 
@@ -218,6 +232,19 @@ r6501q_call_result r6501q_step(r6501q_state state,
  *                  the tape's length where the last record is missing; memory unchanged
  */
 r6501q_load_result r6501q_load(const uint8_t *tape, size_t tape_length, uint8_t *memory, size_t memory_length);
+
+/* A latch value for counter A that makes a wanted bit rate of the serial channel (document 02, U2).
+ *
+ * In:   clock_rate   clocks a second, 1 to R6501Q_HIGHEST_RATE
+ *       bit_rate     bits a second, 1 to R6501Q_HIGHEST_RATE
+ *       tolerance    thousandths of the bit rate that the rate made may differ by, 0 to R6501Q_HIGHEST_TOLERANCE
+ *
+ * Back: 0, found 1   value N fits: |clock_rate - 16 * bit_rate * (N + 1)| * 1000 is at most tolerance * 16 * bit_rate *
+ *                    (N + 1), in exact arithmetic. Where several fit, any of them is given
+ *       0, found 0   no value of 0 to 65,535 fits
+ *       11           a rate is 0, or a figure is above its limit; found and value are 0
+ */
+r6501q_latch_result r6501q_latch(uint32_t clock_rate, uint32_t bit_rate, uint32_t tolerance);
 
 /* The layout that the library was built with, on x86-64 Linux. */
 #if defined(__cplusplus) && __cplusplus >= 201103L
@@ -316,6 +343,11 @@ R6501Q_AT(call_result, written, 88);
 R6501Q_SIZE(load_result, 16);
 R6501Q_AT(load_result, number, 0);
 R6501Q_AT(load_result, place, 8);
+
+R6501Q_SIZE(latch_result, 4);
+R6501Q_AT(latch_result, number, 0);
+R6501Q_AT(latch_result, found, 1);
+R6501Q_AT(latch_result, value, 2);
 
 #undef R6501Q_AT
 #undef R6501Q_SIZE

@@ -370,6 +370,31 @@ static void check_refusals(void)
     SAME(run(r6501q_fresh(), 8).number, R6501Q_UNDEFINED_OPCODE);
 }
 
+/* Document 02's two examples of U2, and its limits. */
+static void check_latch(void)
+{
+    r6501q_latch_result result;
+#define LATCH(clock_rate, bit_rate, tolerance, expected_number, expected_found, expected_value) \
+    do { \
+        result = r6501q_latch((clock_rate), (bit_rate), (tolerance)); \
+        SAME(result.number, (expected_number)); \
+        SAME(result.found, (expected_found)); \
+        SAME(result.value, (expected_value)); \
+    } while (0)
+    LATCH(1000000, 62500, 0, R6501Q_DONE, 1, 0);
+    LATCH(1000000, 9600, 20, R6501Q_DONE, 0, 0);
+    LATCH(1048576, 1, 0, R6501Q_DONE, 1, 65535);
+    LATCH(1048592, 1, 0, R6501Q_DONE, 0, 0);
+    LATCH(R6501Q_HIGHEST_RATE, 625000, R6501Q_HIGHEST_TOLERANCE - 1000, R6501Q_DONE, 1, 0);
+    LATCH(R6501Q_HIGHEST_RATE + 1, 625000, 0, R6501Q_RATE_OUT_OF_LIMITS, 0, 0);
+    LATCH(1000000, R6501Q_HIGHEST_RATE + 1, 0, R6501Q_RATE_OUT_OF_LIMITS, 0, 0);
+    LATCH(1000000, 62500, R6501Q_HIGHEST_TOLERANCE + 1, R6501Q_RATE_OUT_OF_LIMITS, 0, 0);
+    LATCH(0, 62500, 0, R6501Q_RATE_OUT_OF_LIMITS, 0, 0);
+    LATCH(1000000, 0, 0, R6501Q_RATE_OUT_OF_LIMITS, 0, 0);
+    LATCH(0xFFFFFFFF, 0xFFFFFFFF, 0xFFFFFFFF, R6501Q_RATE_OUT_OF_LIMITS, 0, 0);
+#undef LATCH
+}
+
 int main(void)
 {
     check_fresh();
@@ -379,6 +404,7 @@ int main(void)
     check_inputs();
     check_example();
     check_refusals();
+    check_latch();
     if (faults != 0) {
         printf("%d faults\n", faults);
         return EXIT_FAILURE;

@@ -63,10 +63,10 @@ pub struct LoadResult {
     pub place: usize,
 }
 
-// The number that a byte of the library stands for: it is proved to give none above 10.
+// The number that a byte of the library stands for: it is proved to give none above 11.
 #[inline]
-fn number(byte: u8) -> Number {
-    Number::try_from(byte).expect("the library gives 0 to 10")
+pub(crate) fn number(byte: u8) -> Number {
+    Number::try_from(byte).expect("the library gives 0 to 11")
 }
 
 #[inline]

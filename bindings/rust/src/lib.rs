@@ -41,12 +41,22 @@
 //! assert_eq!((next.number, next.read), (Number::Done, 1));
 //! assert_eq!(next.state.peripherals.control.ifr & 1, 1); // the rise of PA0 set IFR0
 //! ```
+//!
+//! [`latch`] finds a latch value of counter A for a wanted bit rate; it needs no chip:
+//!
+//! ```
+//! use r6501q::{latch, Latch};
+//!
+//! assert_eq!(latch(1_000_000, 62_500, 0), Latch::Fits(0));
+//! assert_eq!(latch(1_000_000, 9_600, 20), Latch::Nothing);
+//! ```
 #![deny(missing_docs)]
 #![deny(unsafe_code)]
 
 mod calls;
 mod chip;
 mod frame;
+mod latch;
 mod library;
 mod number;
 mod pin;
@@ -56,6 +66,7 @@ mod state;
 pub use calls::{code, load, run, step, CallResult, LoadResult, MEMORY_LENGTH, PIN_NMI, PIN_RES};
 pub use chip::{Chip, RefusedTape};
 pub use frame::{Frame, Parity};
+pub use latch::{latch, Latch, HIGHEST_RATE, HIGHEST_TOLERANCE};
 pub use number::{NotANumber, Number};
 pub use pin::{Level, NotAPin, Pin};
 pub use record::Record;

@@ -24,8 +24,17 @@ pub(crate) struct HostLoadResult {
     pub place: usize,
 }
 
+/// What the latch call hands back, as the library lays it out.
+#[repr(C)]
+pub(crate) struct HostLatchResult {
+    pub number: u8,
+    pub found: u8,
+    pub value: u16,
+}
+
 layout!(HostCallResult, 96, number at 0, state at 4, leaps at 72, read at 80, written at 88);
 layout!(HostLoadResult, 16, number at 0, place at 8);
+layout!(HostLatchResult, 4, number at 0, found at 1, value at 2);
 
 extern "C" {
     fn r6501q_fresh() -> State;
@@ -58,6 +67,7 @@ extern "C" {
         n: u32,
     ) -> HostCallResult;
     fn r6501q_load(tape: *const u8, tape_length: usize, memory: *mut u8, memory_length: usize) -> HostLoadResult;
+    fn r6501q_latch(clock_rate: u32, bit_rate: u32, tolerance: u32) -> HostLatchResult;
 }
 
 #[inline]
@@ -132,4 +142,10 @@ pub(crate) fn run(
 pub(crate) fn load(tape: &[u8], memory: &mut [u8]) -> HostLoadResult {
     // SAFETY: see the module's text.
     unsafe { r6501q_load(tape.as_ptr(), tape.len(), memory.as_mut_ptr(), memory.len()) }
+}
+
+#[inline]
+pub(crate) fn latch(clock_rate: u32, bit_rate: u32, tolerance: u32) -> HostLatchResult {
+    // SAFETY: nothing is lent; the layout of HostLatchResult is asserted.
+    unsafe { r6501q_latch(clock_rate, bit_rate, tolerance) }
 }

@@ -1,16 +1,16 @@
-//! Why a call ended (document 01, "What is handed back").
+//! Why a call ended (document 01, "What is handed back"; document 02).
 use std::error::Error;
 use std::fmt;
 
 /// Why a call ended. 1 to 5 are refusals: the state given comes back, nothing is read, counted or changed. 6 and 7 are
-/// stops: all is as reached. 8 to 10 are refused tapes: memory is unchanged.
+/// stops: all is as reached. 8 to 10 are refused tapes: memory is unchanged. 11 is a refused latch call.
 ///
 /// ```
 /// use r6501q::Number;
 ///
 /// assert_eq!(u8::from(Number::WrongPinList), 5);
 /// assert_eq!(Number::try_from(6), Ok(Number::UndefinedOpcode));
-/// assert!(Number::try_from(11).is_err());
+/// assert!(Number::try_from(12).is_err());
 /// assert_eq!(Number::NoFreeRecord.to_string(), "the next clock needs a record and none is free (7)");
 /// ```
 #[repr(u8)]
@@ -38,11 +38,13 @@ pub enum Number {
     WrongCheckSum = 9,
     /// The tape's last record is missing, or its count is wrong.
     WrongLastRecord = 10,
+    /// A rate is 0, or a rate or the tolerance is above its limit.
+    RateOutOfLimits = 11,
 }
 
 impl Number {
     /// Every number, in order.
-    pub const ALL: [Number; 11] = [
+    pub const ALL: [Number; 12] = [
         Number::Done,
         Number::WrongMemoryLength,
         Number::StateNotWellFormed,
@@ -54,6 +56,7 @@ impl Number {
         Number::MalformedRecord,
         Number::WrongCheckSum,
         Number::WrongLastRecord,
+        Number::RateOutOfLimits,
     ];
 
     /// `Ok` for [`Number::Done`], the number itself as an error for every other.
@@ -91,6 +94,7 @@ impl Number {
             Number::MalformedRecord => "a tape record is malformed",
             Number::WrongCheckSum => "a tape record's check sum is wrong",
             Number::WrongLastRecord => "the tape's last record is missing, or its count is wrong",
+            Number::RateOutOfLimits => "a rate is 0, or a rate or the tolerance is above its limit",
         }
     }
 }
@@ -119,7 +123,7 @@ impl TryFrom<u8> for Number {
     }
 }
 
-/// A byte above 10, which no call gives.
+/// A byte above 11, which no call gives.
 #[derive(Clone, Copy, PartialEq, Eq, Debug)]
 pub struct NotANumber(
     /// The byte.
@@ -128,7 +132,7 @@ pub struct NotANumber(
 
 impl fmt::Display for NotANumber {
     fn fmt(&self, f: &mut fmt::Formatter<'_>) -> fmt::Result {
-        write!(f, "{} is above 10, the highest number that a call gives", self.0)
+        write!(f, "{} is above 11, the highest number that a call gives", self.0)
     }
 }
 
@@ -143,7 +147,7 @@ mod tests {
         for byte in 0..=u8::MAX {
             match Number::try_from(byte) {
                 Ok(number) => assert_eq!(u8::from(number), byte),
-                Err(NotANumber(other)) => assert_eq!((other, byte > 10), (byte, true)),
+                Err(NotANumber(other)) => assert_eq!((other, byte > 11), (byte, true)),
             }
         }
     }

@@ -80,9 +80,10 @@ fits-both f b t N =
     let w = 16 * b * M in
     let p = t * 16 * b * M in
     let faster : (1000 + t) * 16 * b * M ≡ 1000 * w + p = in-turn (1000 + t) b M ∙ sum-times t w ∙ rw (in-turn t b M) in
-    let slower : (1000 - t) * 16 * b * M ≡ 1000 * w - p = in-turn (1000 - t) b M ∙ less-times t w ∙ rw (in-turn t b M) in
-    (λ e. let h = two-sided f w p .0 (leb-true _ _ e) in (omega (arith, faster, h .0), omega (arith, slower, h .1)),
-    λ h. le-leb _ _ (two-sided f w p .1 (omega (arith, faster, h .0), omega (arith, slower, h .1))))
+    let slower : (1000 - t) * 16 * b * M ≡ 1000 * w - p = in-turn (1000 - t) b M ∙ less-times t w ∙ rw (in-turn t b M) in (
+      λ e. let h = two-sided f w p .0 (leb-true _ _ e) in (omega (arith, faster, h .0), omega (arith, slower, h .1)),
+      λ h. le-leb _ _ (two-sided f w p .1 (omega (arith, faster, h .0), omega (arith, slower, h .1))),
+    )
 
 -- with no tolerance two latch values that fit are one
 pub exact-alone : (f b N K : ℕ) → 0 < b → fits f b 0 N ≡ true → fits f b 0 K ≡ true → K ≡ N

@@ -12,6 +12,7 @@ pub enum Found {
 
 // The highest clock rate and bit rate, and the highest tolerance.
 const HIGHEST_RATE: u32 = 10000000;
+
 const HIGHEST_TOLERANCE: u32 = 1000;
 
 // Whether a rate is 0, or a figure above its limit.

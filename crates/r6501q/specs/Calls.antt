@@ -16,8 +16,8 @@ use Rattle.tape.specs.Tapes.{loadOf}
 use Rattle.r6501q.specs.declared.host.HostState.{HostState}
 use Rattle.r6501q.specs.declared.host.HostResult.{HostResult}
 use Rattle.r6501q.specs.declared.host.HostLoadResult.{HostLoadResult}
-use Rattle.r6501q.specs.declared.host.HostLatch.{HostLatch}
-use Rattle.r6501q.specs.Host.{stateFromHost, flagsFit, hostState, hostLoadResult, hostLatch}
+use Rattle.r6501q.specs.declared.host.HostLatchResult.{HostLatchResult}
+use Rattle.r6501q.specs.Host.{stateFromHost, flagsFit, hostState, hostLoadResult, hostLatchResult}
 
 -- "Well-formed: every field is within its range here", the flags too
 abbrev pub hostWellFormed : HostState → Bool
@@ -101,7 +101,7 @@ abbrev pub hostLoad : List ℕ → List ℕ → HostLoaded
 hostLoad tape memory = hostLoaded (hostLoadResult (loadOf tape memory .result)) (loadOf tape memory .memory)
 
 -- 02, U2: what the latch call hands back stands for an answer that keeps its promise
-pub record LatchHanded (f b t : ℕ) (r : HostLatch) : Type 0 where
+pub record LatchHanded (f b t : ℕ) (r : HostLatchResult) : Type 0 where
   pub found : Found
   pub promised : LatchFor f b t found
-  pub handed : r ≡ hostLatch found
+  pub handed : r ≡ hostLatchResult found

@@ -22,7 +22,7 @@ use Rattle.r6501q.specs.declared.host.HostLevels.{HostLevels}
 use Rattle.r6501q.specs.declared.host.HostState.{HostState}
 use Rattle.r6501q.specs.declared.host.HostResult.{HostResult}
 use Rattle.r6501q.specs.declared.host.HostLoadResult.{HostLoadResult}
-use Rattle.r6501q.specs.declared.host.HostLatch.{HostLatch}
+use Rattle.r6501q.specs.declared.host.HostLatchResult.{HostLatchResult}
 
 -- ---- from the host: "(yes or no)" is a byte of 1 or 0
 
@@ -119,7 +119,7 @@ abbrev pub hostLoadResult : LoadResult → HostLoadResult
 hostLoadResult l = record { number = l .number; place = l .place }
 
 -- 02, U2: the answer's number, whether a latch value was found, and the value; without one both are 0
-abbrev pub hostLatch : Found → HostLatch
-hostLatch (Fits N) = record { number = numberOf (Fits N); found = 1; value = N }
-hostLatch Nothing = record { number = numberOf Nothing; found = 0; value = 0 }
-hostLatch Refused = record { number = numberOf Refused; found = 0; value = 0 }
+abbrev pub hostLatchResult : Found → HostLatchResult
+hostLatchResult (Fits N) = record { number = numberOf (Fits N); found = 1; value = N }
+hostLatchResult Nothing = record { number = numberOf Nothing; found = 0; value = 0 }
+hostLatchResult Refused = record { number = numberOf Refused; found = 0; value = 0 }

@@ -1,6 +1,6 @@
 // The state and what is handed back as the host, a program in C or Rust, holds them: each flag and level is a byte, 0 or 1.
 ghost use mathlib.Core.Path.{_≡_};
-ghost use Rattle.r6501q.specs.Host.{dueFromHost, counterBFromHost, receiverFromHost, levelsFromHost, peripheralsFromHost, stateFromHost, flagsFit, hostDue, hostCounterB, hostReceiver, hostLevels, hostPeripherals, hostState, hostResult, hostLoadResult, hostLatch};
+ghost use Rattle.r6501q.specs.Host.{dueFromHost, counterBFromHost, receiverFromHost, levelsFromHost, peripheralsFromHost, stateFromHost, flagsFit, hostDue, hostCounterB, hostReceiver, hostLevels, hostPeripherals, hostState, hostResult, hostLoadResult, hostLatchResult};
 use bit_rate::Found;
 use bits::digit8;
 use counters::a::CounterA;
@@ -84,7 +84,7 @@ pub struct HostLoadResult {
 }
 
 #[repr(C)]
-pub struct HostLatch {
+pub struct HostLatchResult {
     pub number: u8,
     pub found: u8,
     pub value: u16,
@@ -276,21 +276,21 @@ pub fn host_load_result(l: LoadResult) -> HostLoadResult
 }
 
 // What the latch call hands back, as the host's.
-pub fn host_latch(found: Found) -> HostLatch
-    ensures { λ r. ⌜ r ≡ hostLatch found ⌝ }
+pub fn host_latch_result(found: Found) -> HostLatchResult
+    ensures { λ r. ⌜ r ≡ hostLatchResult found ⌝ }
 {
     match found {
-        Found::Fits(value) => HostLatch {
+        Found::Fits(value) => HostLatchResult {
             number: 0,
             found: 1,
             value: value,
         },
-        Found::Nothing => HostLatch {
+        Found::Nothing => HostLatchResult {
             number: 0,
             found: 0,
             value: 0,
         },
-        Found::Refused => HostLatch {
+        Found::Refused => HostLatchResult {
             number: 11,
             found: 0,
             value: 0,

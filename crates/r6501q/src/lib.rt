@@ -10,12 +10,12 @@ ghost use Rattle.r6501q_step.specs.R6501q.{r6501qLimits, machine};
 ghost use Rattle.r6501q.specs.Host.{hostState, hostRefused};
 ghost use Rattle.r6501q.specs.Calls.{hostWellFormed, hostHanded, hostCall, hostLoad, hostLoaded, LatchHanded};
 use bits::digit8;
-use host::HostLatch;
+use host::HostLatchResult;
 use host::HostLoadResult;
 use host::HostResult;
 use host::HostState;
 use host::flags_fit;
-use host::host_latch;
+use host::host_latch_result;
 use host::host_load_result;
 use host::host_result;
 use host::host_state;
@@ -160,9 +160,9 @@ pub extern "C" fn r6501q_load(tape: &[u8], memory: &mut [u8]) -> HostLoadResult
 
 // A latch value of counter A for a wanted bit rate.
 #[no_mangle]
-pub extern "C" fn r6501q_latch(clockrate: u32, bitrate: u32, tolerance: u32) -> HostLatch
+pub extern "C" fn r6501q_latch(clockrate: u32, bitrate: u32, tolerance: u32) -> HostLatchResult
     ensures { λ r. ⌜ LatchHanded clockrate bitrate tolerance r ⌝ }
 {
     let found = bit_rate::latch(clockrate, bitrate, tolerance);
-    host_latch(found)
+    host_latch_result(found)
 }

@@ -1,3 +1,5 @@
-//! The model's state as the library's. The benchmark compares the two sides by it too.
+//! What other packages use too: the model's state as the library's, by which the benchmark compares the two sides, and
+//! random numbers.
 
 pub mod convert;
+pub mod random;

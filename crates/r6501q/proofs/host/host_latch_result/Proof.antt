@@ -1,9 +1,9 @@
 use mathlib.Core.Path.{refl}
 use borrow.Author.Needs.{needs}
-use Rattle.r6501q.proofs.host.host_latch.Statement.{statement}
-use Rattle.r6501q.proofs.host.host_latch.Tie as tie
-use Rattle.r6501q.proofs.host.host_latch.Reads as reads
-use Rattle.r6501q.proofs.host.host_latch.Lts as lts
+use Rattle.r6501q.proofs.host.host_latch_result.Statement.{statement}
+use Rattle.r6501q.proofs.host.host_latch_result.Tie as tie
+use Rattle.r6501q.proofs.host.host_latch_result.Reads as reads
+use Rattle.r6501q.proofs.host.host_latch_result.Lts as lts
 
 -- src/host.rt:283:21
 enum-known-found : tie.Need-enum-known-found
@@ -29,6 +29,6 @@ returns-2 c = rw (c .enum-told .given .1) refl
 returns-3 : tie.Need-returns-3
 returns-3 c = rw (c .enum-told2 .given .1) refl
 
-pub host-latch-spec : {M : Type 1} → statement M
-host-latch-spec =
+pub host-latch-result-spec : {M : Type 1} → statement M
+host-latch-result-spec =
     tie.close (tie.spec enum-known-found enum-told enum-told-2 returns returns-2 returns-3)
