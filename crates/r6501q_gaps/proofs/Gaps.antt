@@ -27,6 +27,11 @@ pub gap-le : (n : ℕ) (s : State) (clocks : List ℕ) → gapOf n s clocks .0 �
 unfolding gapOf
 gap-le n s clocks = omega arith
 
+-- 02, U3: where the CPU starts on the next clock, there is no gap, whatever the other distances are
+pub cpu-next : (n : ℕ) (s : State) (clocks : List ℕ) → s .last .res ≡ true → s .cpu .wait ≡ 0 → gapOf n s clocks ≡ clocksOf 0
+unfolding gapOf toStart
+cpu-next n s clocks high over = rw (high, over) (ap clocksOf (omega arith))
+
 -- ---- a gap above 0
 
 -- a distance above 0, of an event that the next clock brings, or that a count brings

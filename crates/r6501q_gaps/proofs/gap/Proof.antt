@@ -1,4 +1,9 @@
+use mathlib.Core.Path.{sym}
+use lib.Dec.{eqb}
+use borrow.Author.Tests.{eqb-true}
+use Rattle.bits.proofs.Cond.{and-left, and-right}
 use Rattle.r6501q_gaps.specs.Gaps.{gapOf}
+use Rattle.r6501q_gaps.proofs.Gaps.{cpu-next}
 use borrow.Author.Needs.{needs}
 use Rattle.r6501q_gaps.proofs.gap.Statement.{statement}
 use Rattle.r6501q_gaps.proofs.gap.Tie as tie
@@ -12,65 +17,73 @@ use Rattle.r6501q_gaps.proofs.distances.to_underflow_a.Reads as to-unde
 use Rattle.r6501q_gaps.proofs.distances.to_underflow_b.Reads as to-underflow-b-reads
 use Rattle.r6501q_gaps.proofs.nearer.Reads as nearer-reads
 
--- src/lib.rt:37:24
-to-reset-requires : tie.Need-to-reset-requires
-to-reset-requires c κs = search needs
+-- src/lib.rt:39:9
+returns : tie.Need-returns
+returns c =
+    let s = c .before .before .before .before .args .state in
+    sym (cpu-next _ s _ (and-left (s .last .res) (eqb (s .cpu .wait) 0) (c .if1 .taken))
+    (eqb-true (s .cpu .wait) 0 (and-right (s .last .res) (eqb (s .cpu .wait) 0) (c .if1 .taken))))
 
--- src/lib.rt:37:47
+-- src/lib.rt:41:17
 to-start-requires : tie.Need-to-start-requires
 to-start-requires c κs = search needs
 
--- src/lib.rt:37:9
+-- src/lib.rt:42:24
+to-reset-requires : tie.Need-to-reset-requires
+to-reset-requires c κs = search needs
+
+-- src/lib.rt:42:17
 nearer-requires : tie.Need-nearer-requires
 nearer-requires c κs = search needs
 
--- src/lib.rt:38:30
+-- src/lib.rt:43:30
 to-underflow-b-requires : tie.Need-to-underflow-b-requires
 to-underflow-b-requires c κs = search needs
 
--- src/lib.rt:38:9
+-- src/lib.rt:43:9
 nearer-requires-2 : tie.Need-nearer-requires-2
 nearer-requires-2 c κs = search needs
 
--- src/lib.rt:39:30
+-- src/lib.rt:44:30
 to-underflow-a-requires : tie.Need-to-underflow-a-requires
 to-underflow-a-requires c κs = search needs
 
--- src/lib.rt:39:9
+-- src/lib.rt:44:9
 nearer-requires-3 : tie.Need-nearer-requires-3
 nearer-requires-3 c κs = search needs
 
--- src/lib.rt:40:25
+-- src/lib.rt:45:25
 to-change-requires : tie.Need-to-change-requires
 to-change-requires c κs = search needs
 
--- src/lib.rt:40:9
+-- src/lib.rt:45:9
 nearer-requires-4 : tie.Need-nearer-requires-4
 nearer-requires-4 c κs = search needs
 
--- src/lib.rt:41:24
+-- src/lib.rt:46:24
 to-input-requires : tie.Need-to-input-requires
 to-input-requires c κs = search needs
 
--- src/lib.rt:41:9
+-- src/lib.rt:46:9
 nearer-requires-5 : tie.Need-nearer-requires-5
 nearer-requires-5 c κs = search needs
 
--- src/lib.rt:42:5
+-- src/lib.rt:47:5
 nearer-requires-6 : tie.Need-nearer-requires-6
 nearer-requires-6 c κs = search needs
 
--- src/lib.rt:34:1
-returns : tie.Need-returns
+-- src/lib.rt:35:1
+returns-2 : tie.Need-returns-2
 unfolding gapOf
-returns c = rw (c .nearer6 .ensures, c .before .nearer5 .ensures, c .before .before .to-input .ensures, c .before .before .before .nearer4 .ensures, c .before .before .before .before .to-change .ensures, c .before .before .before .before .before .nearer3 .ensures, c .before .before .before .before .before .before .to-underflow-a .ensures, c .before .before .before .before .before .before .before .nearer2 .ensures, c .before .before .before .before .before .before .before .before .to-underflow-b .ensures, c .before .before .before .before .before .before .before .before .before .nearer .ensures, c .before .before .before .before .before .before .before .before .before .before .to-start .ensures, c .before .before .before .before .before .before .before .before .before .before .before .to-reset .ensures)
+returns-2 c = rw (c .nearer6 .ensures, c .before .nearer5 .ensures, c .before .before .to-input .ensures, c .before .before .before .nearer4 .ensures, c .before .before .before .before .to-change .ensures, c .before .before .before .before .before .nearer3 .ensures, c .before .before .before .before .before .before .to-underflow-a .ensures, c .before .before .before .before .before .before .before .nearer2 .ensures, c .before .before .before .before .before .before .before .before .to-underflow-b .ensures, c .before .before .before .before .before .before .before .before .before .nearer .ensures, c .before .before .before .before .before .before .before .before .before .before .to-reset .ensures, c .before .before .before .before .before .before .before .before .before .before .before .to-start .ensures)
 
 pub gap-spec : {M : Type 1} → statement M
 gap-spec =
     tie.close
     (tie.spec
-    to-reset-requires
+    returns
     to-start-requires
+    to-reset-requires
     nearer-requires
     to-underflow-b-requires
     nearer-requires-2
@@ -81,4 +94,4 @@ gap-spec =
     to-input-requires
     nearer-requires-5
     nearer-requires-6
-    returns)
+    returns-2)
