@@ -27,10 +27,15 @@ pub gap-le : (n : ℕ) (s : State) (clocks : List ℕ) → gapOf n s clocks .0 �
 unfolding gapOf
 gap-le n s clocks = omega arith
 
--- 02, U3: where the CPU starts on the next clock, there is no gap, whatever the other distances are
+-- 02, U3, "a gap of 0 is then shown to be the least": where no clock comes before the CPU's start, whatever the other distances are
+pub none-before-start : (n : ℕ) (s : State) (clocks : List ℕ) → toStart n s ≡ 0 → gapOf n s clocks ≡ clocksOf 0
+unfolding gapOf
+none-before-start n s clocks e = ap clocksOf (omega arith)
+
+-- so where the next clock is the CPU's start: RES was high and no wait is left
 pub cpu-next : (n : ℕ) (s : State) (clocks : List ℕ) → s .last .res ≡ true → s .cpu .wait ≡ 0 → gapOf n s clocks ≡ clocksOf 0
-unfolding gapOf toStart
-cpu-next n s clocks high over = rw (high, over) (ap clocksOf (omega arith))
+unfolding toStart
+cpu-next n s clocks high over = none-before-start n s clocks (rw (high, over))
 
 -- ---- a gap above 0
 

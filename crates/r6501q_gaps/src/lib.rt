@@ -32,14 +32,14 @@ pub fn nearer(a: Clocks, b: Clocks) -> Clocks
 }
 
 // The clocks before the next event clock, at most those left. `clocks` are those of the rest of the input list. The CPU comes
-// first: where it starts on the next clock, there is no gap, and no distance is worked out.
+// first: where it starts on the next clock, there is no gap, and no other distance is worked out.
 pub fn gap(state: State, left: Clocks, clocks: &[u32]) -> Clocks
     ensures { λ r. ⌜ r ≡ gapOf (left .0) state (now (clocks .entry)) ⌝ }
 {
-    if state.last.res & (state.cpu.wait == 0) {
+    let start = to_start(left, state);
+    if start.0 == 0 {
         return Clocks(0);
     }
-    let start = to_start(left, state);
     let reset = nearer(to_reset(left, state), start);
     let underflow_b = nearer(to_underflow_b(left, state), reset);
     let underflow_a = nearer(to_underflow_a(left, state), underflow_b);

@@ -1,9 +1,7 @@
-use mathlib.Core.Path.{sym}
-use lib.Dec.{eqb}
-use borrow.Author.Tests.{eqb-true}
-use Rattle.bits.proofs.Cond.{and-left, and-right}
-use Rattle.r6501q_gaps.specs.Gaps.{gapOf}
-use Rattle.r6501q_gaps.proofs.Gaps.{cpu-next}
+use mathlib.Core.Path.{_≡_, sym, ap, _∙_}
+use Rattle.counters.specs.declared.time.Clocks.{Clocks}
+use Rattle.r6501q_gaps.specs.Gaps.{toStart, gapOf}
+use Rattle.r6501q_gaps.proofs.Gaps.{none-before-start}
 use borrow.Author.Needs.{needs}
 use Rattle.r6501q_gaps.proofs.gap.Statement.{statement}
 use Rattle.r6501q_gaps.proofs.gap.Tie as tie
@@ -17,16 +15,16 @@ use Rattle.r6501q_gaps.proofs.distances.to_underflow_a.Reads as to-unde
 use Rattle.r6501q_gaps.proofs.distances.to_underflow_b.Reads as to-underflow-b-reads
 use Rattle.r6501q_gaps.proofs.nearer.Reads as nearer-reads
 
--- src/lib.rt:39:9
-returns : tie.Need-returns
-returns c =
-    let s = c .before .before .before .before .args .state in
-    sym (cpu-next _ s _ (and-left (s .last .res) (eqb (s .cpu .wait) 0) (c .if1 .taken))
-    (eqb-true (s .cpu .wait) 0 (and-right (s .last .res) (eqb (s .cpu .wait) 0) (c .if1 .taken))))
-
--- src/lib.rt:41:17
+-- src/lib.rt:38:17
 to-start-requires : tie.Need-to-start-requires
 to-start-requires c κs = search needs
+
+-- src/lib.rt:40:9
+returns : tie.Need-returns
+returns c =
+    let at = c .before .before .before .before .args in
+    let start : toStart (at .left .0) (at .state) ≡ 0 = sym (ap (λ (r : Clocks). r .0) (c .before .before .to-start .ensures)) ∙ c .if1 .taken in
+    sym (none-before-start (at .left .0) (at .state) _ start)
 
 -- src/lib.rt:42:24
 to-reset-requires : tie.Need-to-reset-requires
@@ -75,14 +73,14 @@ nearer-requires-6 c κs = search needs
 -- src/lib.rt:35:1
 returns-2 : tie.Need-returns-2
 unfolding gapOf
-returns-2 c = rw (c .nearer6 .ensures, c .before .nearer5 .ensures, c .before .before .to-input .ensures, c .before .before .before .nearer4 .ensures, c .before .before .before .before .to-change .ensures, c .before .before .before .before .before .nearer3 .ensures, c .before .before .before .before .before .before .to-underflow-a .ensures, c .before .before .before .before .before .before .before .nearer2 .ensures, c .before .before .before .before .before .before .before .before .to-underflow-b .ensures, c .before .before .before .before .before .before .before .before .before .nearer .ensures, c .before .before .before .before .before .before .before .before .before .before .to-reset .ensures, c .before .before .before .before .before .before .before .before .before .before .before .to-start .ensures)
+returns-2 c = rw (c .nearer6 .ensures, c .before .nearer5 .ensures, c .before .before .to-input .ensures, c .before .before .before .nearer4 .ensures, c .before .before .before .before .to-change .ensures, c .before .before .before .before .before .nearer3 .ensures, c .before .before .before .before .before .before .to-underflow-a .ensures, c .before .before .before .before .before .before .before .nearer2 .ensures, c .before .before .before .before .before .before .before .before .to-underflow-b .ensures, c .before .before .before .before .before .before .before .before .before .nearer .ensures, c .before .before .before .before .before .before .before .before .before .before .to-reset .ensures, c .before .before .before .before .before .before .before .before .before .before .before .before .before .to-start .ensures)
 
 pub gap-spec : {M : Type 1} → statement M
 gap-spec =
     tie.close
     (tie.spec
-    returns
     to-start-requires
+    returns
     to-reset-requires
     nearer-requires
     to-underflow-b-requires
