@@ -8,6 +8,7 @@ use lib.Dec.{eqb}
 use lib.ListN.{take}
 use borrow.Author.Tests.{eqb-false, ne-eqb, not-false}
 use Rattle.bits.proofs.Cond.{cond-both}
+use Rattle.counters.specs.declared.time.Clocks.{Clocks}
 use Rattle.counters.specs.Counters.{passA, passB}
 use Rattle.r6501q_state.specs.declared.state.State.{State}
 use Rattle.r6501q_state.specs.Pins.{levelsOf}
@@ -26,6 +27,10 @@ use Rattle.r6501q_gaps.proofs.Passing.{pass-change, pass-reset}
 pub gap-le : (n : ℕ) (s : State) (clocks : List ℕ) → gapOf n s clocks .0 ≤ n
 unfolding gapOf
 gap-le n s clocks = omega arith
+
+-- the lesser of two distances that are known
+pub nearer-of : {a b r : Clocks} {x y : ℕ} → a ≡ clocksOf x → b ≡ clocksOf y → r ≡ clocksOf (min (a .0) (b .0)) → r ≡ clocksOf (min x y)
+nearer-of p q e = e ∙ rw (p, q)
 
 -- 02, U3, "a gap of 0 is then shown to be the least": where no clock comes before the CPU's start, whatever the other distances are
 pub none-before-start : (n : ℕ) (s : State) (clocks : List ℕ) → toStart n s ≡ 0 → gapOf n s clocks ≡ clocksOf 0

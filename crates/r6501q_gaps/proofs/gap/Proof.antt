@@ -1,7 +1,8 @@
-use mathlib.Core.Path.{_≡_, sym, ap, _∙_}
+use mathlib.Core.Path.{_≡_, refl, sym, ap}
+use native.Mathlib.Omega.{arith}
 use Rattle.counters.specs.declared.time.Clocks.{Clocks}
 use Rattle.r6501q_gaps.specs.Gaps.{toStart, gapOf}
-use Rattle.r6501q_gaps.proofs.Gaps.{none-before-start}
+use Rattle.r6501q_gaps.proofs.Gaps.{none-before-start, nearer-of}
 use borrow.Author.Needs.{needs}
 use Rattle.r6501q_gaps.proofs.gap.Statement.{statement}
 use Rattle.r6501q_gaps.proofs.gap.Tie as tie
@@ -23,7 +24,7 @@ to-start-requires c κs = search needs
 returns : tie.Need-returns
 returns c =
     let at = c .before .before .before .before .args in
-    let start : toStart (at .left .0) (at .state) ≡ 0 = sym (ap (λ (r : Clocks). r .0) (c .before .before .to-start .ensures)) ∙ c .if1 .taken in
+    let start : toStart (at .left .0) (at .state) ≡ 0 = omega (arith, ap (λ (r : Clocks). r .0) (c .before .before .to-start .ensures), c .if1 .taken) in
     sym (none-before-start (at .left .0) (at .state) _ start)
 
 -- src/lib.rt:42:24
@@ -73,7 +74,13 @@ nearer-requires-6 c κs = search needs
 -- src/lib.rt:35:1
 returns-2 : tie.Need-returns-2
 unfolding gapOf
-returns-2 c = rw (c .nearer6 .ensures, c .before .nearer5 .ensures, c .before .before .to-input .ensures, c .before .before .before .nearer4 .ensures, c .before .before .before .before .to-change .ensures, c .before .before .before .before .before .nearer3 .ensures, c .before .before .before .before .before .before .to-underflow-a .ensures, c .before .before .before .before .before .before .before .nearer2 .ensures, c .before .before .before .before .before .before .before .before .to-underflow-b .ensures, c .before .before .before .before .before .before .before .before .before .nearer .ensures, c .before .before .before .before .before .before .before .before .before .before .to-reset .ensures, c .before .before .before .before .before .before .before .before .before .before .before .before .before .to-start .ensures)
+returns-2 c =
+    let reset = nearer-of (c .before .before .before .before .before .before .before .before .before .before .to-reset .ensures) (c .before .before .before .before .before .before .before .before .before .before .before .before .before .to-start .ensures) (c .before .before .before .before .before .before .before .before .before .nearer .ensures) in
+    let underflow-b = nearer-of (c .before .before .before .before .before .before .before .before .to-underflow-b .ensures) reset (c .before .before .before .before .before .before .before .nearer2 .ensures) in
+    let underflow-a = nearer-of (c .before .before .before .before .before .before .to-underflow-a .ensures) underflow-b (c .before .before .before .before .before .nearer3 .ensures) in
+    let change = nearer-of (c .before .before .before .before .to-change .ensures) underflow-a (c .before .before .before .nearer4 .ensures) in
+    let input = nearer-of (c .before .before .to-input .ensures) change (c .before .nearer5 .ensures) in
+    nearer-of refl input (c .nearer6 .ensures)
 
 pub gap-spec : {M : Type 1} → statement M
 gap-spec =
