@@ -1,6 +1,6 @@
 -- Bits put in turn into the receiver's register, in either mode, and what is read off it.
-use mathlib.Core.Path.{_≡_, refl, ap, _∙_, sym}
-use mathlib.Core.Bool.{Bool, true, false, cond}
+use mathlib.Core.Path.{_≡_, ap, _∙_, sym}
+use mathlib.Core.Bool.{Bool, true, false}
 use mathlib.Core.List.{List, [], _∷_, _++_}
 use Prim.Native.Nat.{ℕ, zero, suc, _+_, _-_, _*_, _/_, _%_, _^_, _≤_, _<_}
 use native.Mathlib.Nat.{div-one, pow-suc, mul-comm, mul-assoc, add-mul-div-right, add-mul-div-left, mul-add, div-eq-of-lt, zero-add, mod-eq-of-lt, add-mul-mod-self-left}
@@ -73,12 +73,12 @@ abbrev pub withRegister : Receiver → ℕ → ℕ → Receiver
 withRegister r left register = record { subinterval = r .subinterval; half = r .half; left = left; register = register }
 
 -- eight levels, from no bits left, whatever register, sub-interval and half: the byte is their number
-pub byte-in-turn : (r : Receiver) (scsr received : ℕ) (a b c d e f g h : Bool) → r .register < 2048
+pub byte-received : (r : Receiver) (scsr received : ℕ) (a b c d e f g h : Bool) → r .register < 2048
     → let levels : List Bool = a ∷ b ∷ c ∷ d ∷ e ∷ f ∷ g ∷ h ∷ [] in
     risen levels (receiving (withRegister r 0 (r .register)) scsr received)
     ≡ keptWith (number levels) (withRegister r 0 (putAll (r .register) levels)) (statusAfter scsr false false) scsr received
 unfolding receiveRise shiftedAtRise byteEnded
-byte-in-turn r scsr received a b c d e f g h lt =
+byte-received r scsr received a b c d e f g h lt =
     let levels : List Bool = a ∷ b ∷ c ∷ d ∷ e ∷ f ∷ g ∷ h ∷ [] in
     let top : putAll (r .register) levels / 8 ≡ number levels = top-in-turn (r .register) levels (omega arith) lt in
     let small : number levels < 256 = number-lt levels in
@@ -99,10 +99,10 @@ byte-dropped r byte scsr received e = rw e
 -- ---- an asynchronous frame
 
 -- data levels, then parity or none, then the stop
-pub frame-in-turn : (sccr register : ℕ) (levels ending : List Bool) → length levels ≡ width sccr → length ending ≡ digit (hasParity sccr) + 1
+pub frame-received : (sccr register : ℕ) (levels ending : List Bool) → length levels ≡ width sccr → length ending ≡ digit (hasParity sccr) + 1
     → register < 2048 → receivedByte sccr (putAll register (levels ++ ending)) ≡ number levels
 unfolding receivedByte
-frame-in-turn sccr register levels ending l e lt =
+frame-received sccr register levels ending l e lt =
     let p = digit-le (hasParity sccr) in
     let n : length (levels ++ ending) ≡ width sccr + (digit (hasParity sccr) + 1) = length-append levels ending ∙ rw (l, e) in
     let place : 10 - digit (hasParity sccr) - width sccr ≡ 11 - length (levels ++ ending) = omega (arith, p, n) in

@@ -2,7 +2,7 @@
 -- asynchronous frame, 2 in a byte in shift-register mode.
 use mathlib.Core.Path.{_≡_, refl, ap, _∙_, sym, subst}
 use mathlib.Core.Logic.{_≢_}
-use mathlib.Core.Bool.{Bool, true, false, _||_, not, cond}
+use mathlib.Core.Bool.{Bool, true, false, cond}
 use mathlib.Core.List.{List, [], _∷_}
 use Prim.Native.Nat.{ℕ, zero, suc, _+_, _-_, _*_, _/_, _%_, _^_, _≤_, _<_}
 use native.Mathlib.Nat.{not-suc-le-zero, le-of-suc-le-suc}
@@ -226,19 +226,19 @@ begun sccr next scsr byte p k j bits e f h g =
     f (sent-in-turn sccr next scsr bits k j h) g
 
 -- an asynchronous frame: 16 ticks a bit
-pub frame-in-turn : (sccr next scsr byte k j : ℕ) → transmitterShifts sccr ≡ false → k < length (frameBits sccr byte) → j < 16
+pub frame-sent : (sccr next scsr byte k j : ℕ) → transmitterShifts sccr ≡ false → k < length (frameBits sccr byte) → j < 16
     → sentFor (k * 16 + j) sccr next (sending (framed sccr byte) scsr) ≡ sending (sendingBits (drop k (frameBits sccr byte)) j) scsr
 unfolding sentBits pace
-frame-in-turn sccr next scsr byte k j e h g =
+frame-sent sccr next scsr byte k j e h g =
     let phase : (k * 16 + j) % 16 ≡ j = omega arith in
     begun sccr next scsr byte 16 k j (frameBits sccr byte) (rw e) (rw e) h g
     ∙ ap (λ n. sending (sendingBits (drop k (frameBits sccr byte)) n) scsr) phase
 
 -- a byte in shift-register mode: 2 ticks a bit; `clock-in-turn` has the shift clock
-pub byte-in-turn : (sccr next scsr byte k j : ℕ) → transmitterShifts sccr ≡ true → k < 8 → j < 2
+pub byte-sent : (sccr next scsr byte k j : ℕ) → transmitterShifts sccr ≡ true → k < 8 → j < 2
     → sentFor (k * 2 + j) sccr next (sending (framed sccr byte) scsr) ≡ sending (sendingBits (drop k (bitsOf 8 byte)) (k * 2 + j)) scsr
 unfolding sentBits pace
-byte-in-turn sccr next scsr byte k j e h g =
+byte-sent sccr next scsr byte k j e h g =
     let phase : (k * 2 + j) % 16 ≡ k * 2 + j = omega arith in
     begun sccr next scsr byte 2 k j (bitsOf 8 byte) (rw e) (rw e) h g
     ∙ ap (λ n. sending (sendingBits (drop k (bitsOf 8 byte)) n) scsr) phase

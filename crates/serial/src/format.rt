@@ -1,7 +1,6 @@
 // What the serial control register (SCCR) says, and what is sent of a byte.
 ghost use mathlib.Core.Path.{_≡_};
 ghost use Prim.Native.Nat.{ℕ, _^_, _%_, _-_};
-ghost use mathlib.Core.Bool.{_&&_, not};
 ghost use lib.Dec.{eqb};
 ghost use lib.ListN.{length};
 ghost use Rattle.bits.specs.Bits.{bit, digit};
@@ -58,7 +57,7 @@ pub fn keeps_transmitter(old: u8, sccr: u8) -> bool
     transmitter_on(sccr) & !transmitter_shifts(sccr) & !transmitter_shifts(old)
 }
 
-// Whether it keeps the receiver's.
+// Whether a write of SCCR over an old value keeps the receiver's progress.
 pub fn keeps_receiver(old: u8, sccr: u8) -> bool
     ensures { λ r. ⌜ r ≡ keepsReceiver old sccr ⌝ }
 {

@@ -226,9 +226,12 @@ impl Receiver {
     {
         let register = shifted_in(self.register, high);
         if self.left == 0 {
-            self.left = 7;
-            self.register = register;
-            return self;
+            return Receiver {
+                subinterval: self.subinterval,
+                half: self.half,
+                left: 7,
+                register: register,
+            };
         }
         self.left = one_less(self.left);
         self.register = register;
@@ -271,7 +274,8 @@ impl Receiver {
     ) -> Receiving
         ensures { λ r. ⌜ r ≡ receiverClock self ticks rise sccr scsr received high ⌝ }
     {
-        let asynchronous = (ticks.0 != 0) & receiver_asynchronous(sccr);
+        let ticked = ticks.0 != 0;
+        let asynchronous = ticked & receiver_asynchronous(sccr);
         if asynchronous {
             return self.tick(sccr, scsr, received, high);
         }

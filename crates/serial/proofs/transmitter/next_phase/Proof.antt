@@ -1,3 +1,5 @@
+use mathlib.Core.Path.{refl}
+use native.Mathlib.Omega.{arith}
 use Rattle.serial.specs.Transmitter.{nextPhase}
 use borrow.Author.Tests.{lt-ltb, le-ltb, le-leb, lt-leb, eq-eqb, ne-eqb}
 use borrow.Author.Needs.{needs}
@@ -13,12 +15,12 @@ add-result c = search needs
 -- src/transmitter.rt:83:9
 returns : tie.Need-returns
 unfolding nextPhase
-returns c = rw (lt-ltb _ _ (c .if1 .taken))
+returns c = rw (lt-ltb (c .before .args .phase) 15 (omega arith)) refl
 
 -- src/transmitter.rt:79:1
 returns-2 : tie.Need-returns-2
 unfolding nextPhase
-returns-2 c = rw (le-ltb _ _ (c .if1 .left))
+returns-2 c = rw (le-ltb (c .before .args .phase) 15 (omega arith)) refl
 
 pub next-phase-spec : {M : Type 1} → statement M
 next-phase-spec = tie.close (tie.spec add-result returns returns-2)

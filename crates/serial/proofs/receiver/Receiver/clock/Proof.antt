@@ -24,37 +24,38 @@ at-rise : (r : Receiver) (ticks : Ticks) (rise : Bool) (sccr scsr received : ℕ
 unfolding receiverClock
 at-rise r ticks rise sccr scsr received high e f = rw (e, f)
 
--- src/receiver.rt:273:45
+-- src/receiver.rt:278:37
 receiver-asynchronous-requires : tie.Need-receiver-asynchronous-requires
 receiver-asynchronous-requires c κs = search needs
 
--- src/receiver.rt:275:13
+-- src/receiver.rt:280:13
 tick-requires : tie.Need-tick-requires
 tick-requires c κs = search needs
 
--- src/receiver.rt:275:13
+-- src/receiver.rt:280:13
 returns : tie.Need-returns
 unfolding receiverClock
 returns c = rw (← (c .before .before .receiver-asynchronous .ensures), ← (c .tick .ensures), c .before .if1 .taken)
 
--- src/receiver.rt:277:31
+-- src/receiver.rt:282:31
 receiver-shifting-requires : tie.Need-receiver-shifting-requires
 receiver-shifting-requires c κs = search needs
 
--- src/receiver.rt:279:13
+-- src/receiver.rt:284:13
 rise-requires : tie.Need-rise-requires
 rise-requires c κs = search needs
 
--- src/receiver.rt:279:13
+-- src/receiver.rt:284:13
 returns-2 : tie.Need-returns-2
 unfolding receiverClock
 returns-2 c =
     let a = c .before .before .before .before .before .before .args in
     rw (c .rise .ensures)
-    (sym (at-rise (a .self) (a .ticks) (a .rise) (a .sccr) (a .scsr) (a .received) (a .high) (rw (c .before .before .before .before .receiver-asynchronous .ensures) at (c .before .before .before .if1 .left))
+    (sym (at-rise (a .self) (a .ticks) (a .rise) (a .sccr) (a .scsr) (a .received) (a .high)
+    (rw (c .before .before .before .before .receiver-asynchronous .ensures) at (c .before .before .before .if1 .left))
     (rw (c .before .before .receiver-shifting .ensures) at (c .before .if2 .taken))))
 
--- src/receiver.rt:262:5
+-- src/receiver.rt:266:5
 returns-3 : tie.Need-returns-3
 unfolding receiverClock
 returns-3 c = rw (← (c .before .before .before .receiver-asynchronous .ensures), ← (c .before .receiver-shifting .ensures), c .if2 .left, c .before .before .if1 .left)

@@ -1,3 +1,4 @@
+use mathlib.Core.Path.{refl}
 use Rattle.serial.specs.Receiver.{shiftedAtRise}
 use borrow.Author.Tests.{lt-ltb, le-ltb, le-leb, lt-leb, eq-eqb, ne-eqb}
 use borrow.Author.Needs.{needs}
@@ -15,7 +16,7 @@ shifted-in-requires c κs = search needs
 -- src/receiver.rt:231:13
 returns : tie.Need-returns
 unfolding shiftedAtRise
-returns c = rw (← (c .before .before .shifted-in .ensures), eq-eqb _ _ (c .if1 .taken))
+returns c = rw (← (c .before .before .shifted-in .ensures), eq-eqb _ _ (c .if1 .taken)) refl
 
 -- src/receiver.rt:233:9
 one-less-requires : tie.Need-one-less-requires
