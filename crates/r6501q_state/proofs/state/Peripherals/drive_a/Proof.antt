@@ -1,3 +1,4 @@
+use mathlib.Core.Path.{refl}
 use Rattle.r6501q_state.specs.Pins.{driveA}
 use borrow.Author.Needs.{needs}
 use Rattle.r6501q_state.proofs.state.Peripherals.drive_a.Statement.{statement}
@@ -37,12 +38,30 @@ with-bit-requires-2 c κs = search needs
 -- src/pins.rt:34:17
 returns : tie.Need-returns
 unfolding driveA
-returns c = rw (← (c .before .before .before .before .before .before .before .transmitter-on .ensures), ← (c .before .before .before .before .before .line-level .ensures), ← (c .before .before .before .before .with-bit .ensures), ← (c .before .before .before .transmitter-shifts .ensures), ← (c .before .shift-clock .ensures), ← (c .with-bit2 .ensures), c .before .before .if2 .taken, c .before .before .before .before .before .before .if1 .taken)
+returns c =
+    rw (
+      c .with-bit2 .ensures,
+      c .before .shift-clock .ensures,
+      c .before .before .before .before .with-bit .ensures,
+      c .before .before .before .before .before .line-level .ensures,
+      ← (c .before .before .before .transmitter-shifts .ensures),
+      ← (c .before .before .before .before .before .before .before .transmitter-on .ensures),
+      c .before .before .if2 .taken,
+      c .before .before .before .before .before .before .if1 .taken,
+    ) refl
 
 -- src/pins.rt:36:13
 returns-2 : tie.Need-returns-2
 unfolding driveA
-returns-2 c = rw (← (c .before .before .before .before .before .transmitter-on .ensures), ← (c .before .before .before .line-level .ensures), ← (c .before .before .with-bit .ensures), ← (c .before .transmitter-shifts .ensures), c .if2 .left, c .before .before .before .before .if1 .taken)
+returns-2 c =
+    rw (
+      c .before .before .with-bit .ensures,
+      c .before .before .before .line-level .ensures,
+      ← (c .before .transmitter-shifts .ensures),
+      ← (c .before .before .before .before .before .transmitter-on .ensures),
+      c .if2 .left,
+      c .before .before .before .before .if1 .taken,
+    ) refl
 
 -- src/pins.rt:28:5
 returns-3 : tie.Need-returns-3
