@@ -114,15 +114,16 @@ typedef struct r6501q_serial_data {
     uint8_t received;
 } r6501q_serial_data;
 
-/* The bits left of the frame that is sent, the phase within a bit, and the bits, the present one lowest. */
+/* The bits left of the frame or byte that is sent, the phase (a bit lasts 16 ticks, in shift-register mode 2), and the
+ * bits, the present one lowest. */
 typedef struct r6501q_transmitter {
     uint8_t left; /* 0 to 12 */
     uint8_t phase; /* 0 to 15 */
     uint16_t register_; /* 12 bits; `register` is a word of the language */
 } r6501q_transmitter;
 
-/* The sub-interval, whether the next tick makes a look at PA7, the bits left of the frame, and the bits, the last in
- * bit 10. */
+/* The sub-interval, whether the next tick makes a look at PA7, the bits left of the frame or byte, and the bits, the
+ * last in bit 10. In shift-register mode PA7 is taken at each rise of PA4, and the first two stay as they are. */
 typedef struct r6501q_receiver {
     uint8_t subinterval; /* 0 to 7 */
     uint8_t half; /* 0 or 1 */

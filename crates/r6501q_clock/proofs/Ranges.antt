@@ -38,12 +38,13 @@ sent-in p ticks i = record {
   transmitter = transmitter-clock-fits (p .transmitter) ticks (p .control .sccr) (p .control .scsr) (p .serial .sent) (i .transmitter);
 }
 
-heard-in : (p : Peripherals) (ticks : Ticks) (now : ℕ) → InPeripherals p → InPeripherals (heardBy p ticks now)
+heard-in : (p : Peripherals) (ticks : Ticks) (before now : ℕ) → InPeripherals p → InPeripherals (heardBy p ticks before now)
 unfolding heardBy
-heard-in p ticks now i = record {
+heard-in p ticks before now i = record {
   ifr = i .ifr;
   transmitter = i .transmitter;
-  receiver = receiver-clock-fits (p .receiver) ticks (p .control .sccr) (p .control .scsr) (p .serial .received) (bit 7 now) (i .receiver);
+  receiver =
+      receiver-clock-fits (p .receiver) ticks (rose 4 before now) (p .control .sccr) (p .control .scsr) (p .serial .received) (bit 7 now) (i .receiver);
 }
 
 -- steps 2 and 3
@@ -51,7 +52,7 @@ pub worked-fits : (p : Peripherals) (before now : ℕ) → peripheralsFit p ≡ 
 unfolding worked
 worked-fits p before now e =
     let a = countA p before now in
-    fit-peripherals _ (heard-in _ (a .ticks) now (sent-in _ (a .ticks) (counted-b-in (a .peripherals) before now (counted-a-in p before now (in-peripherals p e)))))
+    fit-peripherals _ (heard-in _ (a .ticks) before now (sent-in _ (a .ticks) (counted-b-in (a .peripherals) before now (counted-a-in p before now (in-peripherals p e)))))
 
 -- steps 1 to 3
 pub ready-formed : (s : State) (codes : List ℕ) → wellFormed s ≡ true → wellFormed (readyOf s codes) ≡ true

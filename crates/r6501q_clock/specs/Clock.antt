@@ -68,7 +68,7 @@ afterB p mode b =
 unfoldable pub countB : Peripherals → ℕ → ℕ → Peripherals
 countB p before now = afterB p (modeB (p .control .mcr)) (clockB (p .counterb) (modeB (p .control .mcr)) (rose 5 before now))
 
--- step 3: the transmitter, then the receiver, which looks at PA7's level of step 1
+-- step 3: the transmitter, then the receiver, which goes by PA7's level and a rise of PA4 in step 1
 abbrev pub afterSending : Peripherals → Sending → Peripherals
 afterSending p x = record {
   ports = p .ports;
@@ -94,13 +94,14 @@ afterReceiving p x = record {
   receiver = x .receiver;
 }
 
-unfoldable pub heardBy : Peripherals → Ticks → ℕ → Peripherals
-heardBy p ticks now =
-    afterReceiving p (receiverClock (p .receiver) ticks (p .control .sccr) (p .control .scsr) (p .serial .received) (bit 7 now))
+unfoldable pub heardBy : Peripherals → Ticks → ℕ → ℕ → Peripherals
+heardBy p ticks before now =
+    afterReceiving p
+    (receiverClock (p .receiver) ticks (rose 4 before now) (p .control .sccr) (p .control .scsr) (p .serial .received) (bit 7 now))
 
 -- "Counter A, then B."; "Serial, at each underflow of A; that is a tick."
 abbrev pub afterCountA : Counted → ℕ → ℕ → Peripherals
-afterCountA c before now = heardBy (sentBy (countB (c .peripherals) before now) (c .ticks)) (c .ticks) now
+afterCountA c before now = heardBy (sentBy (countB (c .peripherals) before now) (c .ticks)) (c .ticks) before now
 
 unfoldable pub worked : Peripherals → ℕ → ℕ → Peripherals
 worked p before now = afterCountA (countA p before now) before now

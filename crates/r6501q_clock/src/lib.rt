@@ -104,12 +104,14 @@ fn send(mut p: Peripherals, ticks: Ticks) -> Peripherals
 }
 
 // Step 3 for the receiver.
-fn receive(mut p: Peripherals, ticks: Ticks, after: u32) -> Peripherals
-    ensures { λ r. ⌜ r ≡ heardBy p ticks after ⌝ }
+fn receive(mut p: Peripherals, ticks: Ticks, before: u32, after: u32) -> Peripherals
+    ensures { λ r. ⌜ r ≡ heardBy p ticks before after ⌝ }
 {
+    let rise = pin_rose(4, before, after);
     let high = bits::bit32(after, 7);
     let receiving = p.receiver.clock(
         ticks,
+        rise,
         p.control.sccr,
         p.control.scsr,
         p.serial.received,
@@ -131,7 +133,7 @@ fn work(p: Peripherals, before: u32, after: u32) -> Peripherals
     let counted = count_a(p, before, after);
     let ticks = counted.ticks;
     let both = count_b(counted.peripherals, before, after);
-    receive(send(both, ticks), ticks, after)
+    receive(send(both, ticks), ticks, before, after)
 }
 
 // Steps 1 to 3 of a clock, given the codes of its inputs.

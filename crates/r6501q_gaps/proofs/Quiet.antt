@@ -185,14 +185,14 @@ counted-b-quiet : (p : Peripherals) (x : ℕ) → (runningB (p .control) ≡ tru
 unfolding countB runningB setWhere flipWhere
 counted-b-quiet p x h = rw (no-rise 5 x, clock-passes-b (p .counterb) (modeB (p .control .mcr)) h)
 
--- without a tick the serial channel stands still
+-- without a tick the transmitter stands still, in either mode, and without a tick and a rise of PA4 the receiver
 sent-none : (p : Peripherals) → sentBy p (ticksOf false) ≡ p
 unfolding sentBy transmitterClock ticksOf
 sent-none p = refl
 
-heard-none : (p : Peripherals) (x : ℕ) → heardBy p (ticksOf false) x ≡ p
+heard-none : (p : Peripherals) (x : ℕ) → heardBy p (ticksOf false) x x ≡ p
 unfolding heardBy receiverClock ticksOf
-heard-none p x = refl
+heard-none p x = rw (no-rise 4 x)
 
 worked-quiet : (p : Peripherals) (x : ℕ) → (runningA (p .control) x ≡ true → 0 < p .countera .count)
     → (runningB (p .control) ≡ true → 0 < p .counterb .count) → worked p x x ≡ passCounters p x (clocksOf 1)

@@ -46,7 +46,7 @@ control-in p at v i =
     (λ _. cond-both InPeripherals (eqb at 0x12) (withControl p (withIer (p .control) v)) _ (λ _. same-in p _ refl refl refl i)
     (λ _. cond-both InPeripherals (eqb at 0x14) (writeMcr p v) _ (λ _. same-in p _ refl refl refl i)
     (λ _. cond-both InPeripherals (eqb at 0x15) (writeSccr p v) _
-    (λ _. record { ifr = i .ifr; transmitter = transmitter-under-fits v (p .transmitter) (i .transmitter); receiver = receiver-under-fits v (p .receiver) (i .receiver) })
+    (λ _. record { ifr = i .ifr; transmitter = transmitter-under-fits (p .control .sccr) v (p .transmitter) (i .transmitter); receiver = receiver-under-fits (p .control .sccr) v (p .receiver) (i .receiver) })
     (λ _. cond-both InPeripherals (eqb at 0x16) (writeScsr p v) _ (λ _. same-in p _ refl refl refl i)
     (λ _. cond-both InPeripherals (eqb at 0x17) (writeData p v) p (λ _. same-in p _ refl refl refl i) (λ _. i))))))
 

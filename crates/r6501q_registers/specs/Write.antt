@@ -42,12 +42,13 @@ entering p c = latchedA (withControl p c) (setWhere 4 (eqb (modeInForce c) 1 && 
 abbrev pub writeMcr : Peripherals → ℕ → Peripherals
 writeMcr p v = entering p (withMcr (p .control) v)
 
--- 01, Serial channel: "Writing SCCR zeroes the progress of each half that the new value has off or in shift-register mode."
-abbrev pub zeroed : Peripherals → ℕ → Peripherals
-zeroed p sccr = withProgress p (transmitterWithSccr sccr (p .transmitter)) (receiverWithSccr sccr (p .receiver))
+-- 01, Serial channel: "Writing SCCR zeroes the progress of each half that the new value has off or in shift-register mode."; 02, U1: "A
+-- write of SCCR that changes a half's mode zeroes its progress too."
+abbrev pub zeroed : Peripherals → ℕ → ℕ → Peripherals
+zeroed p old sccr = withProgress p (transmitterWithSccr old sccr (p .transmitter)) (receiverWithSccr old sccr (p .receiver))
 
 abbrev pub writeSccr : Peripherals → ℕ → Peripherals
-writeSccr p v = zeroed (entering p (withSccr (p .control) v)) v
+writeSccr p v = zeroed (entering p (withSccr (p .control) v)) (p .control .sccr) v
 
 -- "SCSR (16h): bits 4, 5 can be written."
 abbrev pub writeScsr : Peripherals → ℕ → Peripherals

@@ -61,12 +61,12 @@ fn write_mcr(p: Peripherals, value: u8) -> Peripherals
     entering_mode(p, control)
 }
 
-// Progress zeroed in each half that SCCR has off or in shift-register mode.
-fn zero_progress(mut p: Peripherals, sccr: u8) -> Peripherals
-    ensures { λ r. ⌜ r ≡ zeroed p sccr ⌝ }
+// Progress zeroed in each half that SCCR has off or in shift-register mode, or had in it.
+fn zero_progress(mut p: Peripherals, old: u8, sccr: u8) -> Peripherals
+    ensures { λ r. ⌜ r ≡ zeroed p old sccr ⌝ }
 {
-    let transmitter = p.transmitter.with_sccr(sccr);
-    let receiver = p.receiver.with_sccr(sccr);
+    let transmitter = p.transmitter.with_sccr(old, sccr);
+    let receiver = p.receiver.with_sccr(old, sccr);
     p.transmitter = transmitter;
     p.receiver = receiver;
     p
@@ -78,7 +78,7 @@ fn write_sccr(p: Peripherals, value: u8) -> Peripherals
     let mut control = p.control;
     control.sccr = value;
     let entered = entering_mode(p, control);
-    zero_progress(entered, value)
+    zero_progress(entered, p.control.sccr, value)
 }
 
 fn write_scsr(mut p: Peripherals, value: u8) -> Peripherals

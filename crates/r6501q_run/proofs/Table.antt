@@ -1,4 +1,5 @@
--- P1 to P8 of document 01, "Joints, edges and proved examples", in one table under one theorem: each row cites its crate's definitions.
+-- P1 to P8 of document 01, "Joints, edges and proved examples", and two worked examples of document 02, U1, in one table under one theorem:
+-- each row cites its crate's definitions.
 use mathlib.Core.Path.{_≡_, refl, ap}
 use mathlib.Core.Bool.{Bool, true, false}
 use mathlib.Core.List.{List, [], _∷_}
@@ -18,7 +19,7 @@ use Rattle.r6501q_registers.specs.Write.{writeOf, writeCounterA, startA}
 use Rattle.counters.proofs.Examples as counters
 use Rattle.serial.specs.declared.receiver.Receiver.{Receiver}
 use Rattle.serial.specs.Transmitter.{sending, idleTransmitter}
-use Rattle.serial.specs.Receiver.{receiving}
+use Rattle.serial.specs.Receiver.{receiving, idleReceiver}
 use Rattle.serial.proofs.Examples as serial
 use Rattle.refusals.specs.Refusals.{lastClock}
 use Rattle.leaps.specs.Lists.{runFor, calls}
@@ -72,6 +73,20 @@ pub record Examples : Type 0 where
   pub p6 : (register scsr received : ℕ)
       → let r : Receiver = record { subinterval = 0; half = false; left = 0; register = register } in
       serial.heardFor 2 0x40 true (serial.heardFor 2 0x40 false (receiving r scsr received)) ≡ receiving r scsr received
+  -- 02, U1, 41h sent with SCCR A0h, latch 0: taken on clock 1, shifted on each second clock, PA4 low and high for each bit; after clock 17
+  -- an under-run, both lines high
+  pub shift-take : (mode : ℕ) → serial.shiftedFor 1 mode ≡ serial.lines true false 8
+  pub shift-high : (mode : ℕ) → serial.shiftedFor 2 mode ≡ serial.lines true true 8
+  pub shift-second : (mode : ℕ) → serial.shiftedFor 3 mode ≡ serial.lines false false 7
+  pub shift-last : (mode : ℕ) → serial.shiftedFor 16 mode ≡ serial.lines false true 1
+  pub shift-idle : (mode : ℕ)
+      → (serial.shiftedFor 17 mode ≡ serial.lines true true 0) × (serial.drivenFor 17 mode 0xA0 0x41 serial.waiting .sender ≡ sending idleTransmitter 0xC0)
+  -- 02, U1, PA7 1, 0, 0, 0, 0, 0, 1, 0 at rises of PA4, SCCR 50h: 400h after the first, 208h and the byte 41h at the last
+  pub shift-first-rise : (received : ℕ) → serial.risenFor (true ∷ []) (receiving idleReceiver 0x40 received)
+      ≡ receiving (record { subinterval = 0; half = false; left = 7; register = 0x400 }) 0x40 received
+  pub shift-received : (received : ℕ)
+      → serial.risenFor (true ∷ false ∷ false ∷ false ∷ false ∷ false ∷ true ∷ false ∷ []) (receiving idleReceiver 0x40 received)
+      ≡ receiving (record { subinterval = 0; half = false; left = 0; register = 0x208 }) 0x41 0x41
   -- "cut after a clocks from clock 0, an input on clock a is the first half's."
   pub p7 : (a : ℕ) (w : World) → Fit r6501q w → w .state .clock ≡ 0 → a ≤ lastClock → calls machine (runFor a ∷ []) w .world .stop ≡ 0
       → (k : ℕ) → k < length (calls machine (runFor a ∷ []) w .world .inputClocks) → a < getD (calls machine (runFor a ∷ []) w .world .inputClocks) k 0
@@ -90,6 +105,13 @@ examples = record {
   p5-last-bit = serial.p5-last-bit;
   p5-idle = serial.p5-idle;
   p6 = serial.p6;
+  shift-take = serial.shift-take;
+  shift-high = serial.shift-high;
+  shift-second = serial.shift-second;
+  shift-last = serial.shift-last;
+  shift-idle = serial.shift-idle;
+  shift-first-rise = serial.shift-first-rise;
+  shift-received = serial.shift-received;
   p7 = first-half;
   p8 = opcodes.p8;
 }

@@ -3,7 +3,9 @@ use mathlib.Core.Bool.{Bool, true, false, _&&_, _||_, not, cond}
 use Prim.Native.Nat.{ℕ, _+_, _*_}
 use lib.Bits.{bitAnd}
 use Rattle.bits.specs.Bits.{bit, withBit, setWhere}
-use Rattle.serial.specs.Transmitter.{line, idleTransmitter}
+use Rattle.serial.specs.declared.transmitter.Transmitter.{Transmitter}
+use Rattle.serial.specs.Format.{transmitterShifts}
+use Rattle.serial.specs.Transmitter.{line, shiftClock, idleTransmitter}
 use Rattle.serial.specs.Receiver.{idleReceiver}
 use Rattle.r6501q_state.specs.declared.state.Cpu.{Cpu}
 use Rattle.r6501q_state.specs.declared.state.Due.{Due}
@@ -12,9 +14,15 @@ use Rattle.r6501q_state.specs.declared.state.Levels.{Levels}
 use Rattle.r6501q_state.specs.declared.state.State.{State}
 use Rattle.r6501q_state.specs.State.{freshPorts, freshControl, flagged}
 
+-- 02, U1, of a transmitter in shift-register mode: "PA4's drive is its clock"
+abbrev pub withShiftClock : ℕ → Transmitter → ℕ → ℕ
+withShiftClock sccr t a = cond (transmitterShifts sccr) (withBit 4 (shiftClock t) a) a
+
 -- "A pin's drive .. is its port latch; but PA6 is the transmitter's line .. while SCCR7 is set"
 unfoldable pub driveA : Peripherals → ℕ
-driveA p = cond (bit 7 (p .control .sccr)) (withBit 6 (line (p .control .sccr) (p .transmitter)) (p .ports .a)) (p .ports .a)
+driveA p =
+    cond (bit 7 (p .control .sccr))
+    (withShiftClock (p .control .sccr) (p .transmitter) (withBit 6 (line (p .transmitter)) (p .ports .a))) (p .ports .a)
 
 -- "and port D counts as FFh while MCR makes it an input"; Registers, "MCR5: port D output"
 unfoldable pub driveD : Peripherals → ℕ

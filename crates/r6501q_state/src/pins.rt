@@ -8,6 +8,7 @@ use crate::state::State;
 use crate::state::fresh_control;
 use crate::state::fresh_ports;
 use serial::format::transmitter_on;
+use serial::format::transmitter_shifts;
 use serial::receiver::idle_receiver;
 use serial::transmitter::idle_transmitter;
 
@@ -28,8 +29,11 @@ impl Peripherals {
         ensures { λ r. ⌜ r ≡ driveA self ⌝ }
     {
         if transmitter_on(self.control.sccr) {
-            let high = self.transmitter.line_level(self.control.sccr);
-            return bits::with_bit(self.ports.a, 6, high);
+            let driven = bits::with_bit(self.ports.a, 6, self.transmitter.line_level());
+            if transmitter_shifts(self.control.sccr) {
+                return bits::with_bit(driven, 4, self.transmitter.shift_clock());
+            }
+            return driven;
         }
         self.ports.a
     }

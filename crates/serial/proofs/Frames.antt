@@ -42,6 +42,10 @@ number-data sccr x h =
     eqb→eq (number (dataBits sccr x)) (x % 2 ^ width sccr)
     (both-left (eqb (number (dataBits sccr x)) (x % 2 ^ width sccr)) _ (data-right (sccr / 4 % 4) x (omega arith) h))
 
+-- eight data bits are the byte
+pub number-byte : (x : ℕ) → x < 256 → number (bitsOf 8 x) ≡ x
+number-byte x h = number-data 0 x h ∙ mod-eq-of-lt h
+
 pub odd-data : (sccr x : ℕ) → x < 256 → oddOnes (bitsOf 8 (x % 2 ^ width sccr)) ≡ oddOnes (dataBits sccr x)
 unfolding dataRight
 odd-data sccr x h =

@@ -10,7 +10,7 @@ use lib.Pow.{pow-mono}
 use lib.ListN.{length}
 use borrow.Author.Tests.{leb-true, ltb-true, le-leb, lt-ltb, ltb-false, leb-false, eqb-false}
 use Rattle.bits.specs.Bits.{bit, digit, withBit}
-use Rattle.bits.specs.Lists.{number}
+use Rattle.bits.specs.Lists.{bitsOf, number}
 use Rattle.bits.proofs.Cond.{and-left, and-right, and-both, cond-both, digit-le}
 use Rattle.bits.proofs.Numbers.{number-lt}
 use Rattle.counters.specs.declared.time.Ticks.{Ticks}
@@ -18,9 +18,9 @@ use Rattle.serial.specs.declared.transmitter.Transmitter.{Transmitter}
 use Rattle.serial.specs.declared.transmitter.Sending.{Sending}
 use Rattle.serial.specs.declared.receiver.Receiver.{Receiver}
 use Rattle.serial.specs.declared.receiver.Receiving.{Receiving}
-use Rattle.serial.specs.Format.{transmitterMoves, receiverMoves, width, hasParity, frameBits}
-use Rattle.serial.specs.Transmitter.{transmitterFits, sending, framed, taken, idleTick, frameEnd, bitTick, sendTick, transmitterClock, raised, shiftedDown, transmitterWithSccr, idleTransmitter}
-use Rattle.serial.specs.Receiver.{receiverFits, receiving, atSub, atHalf, started, shiftedIn, startDetected, frameEnded, lookTaken, looked, receiveTick, receiverClock, receiverWithSccr, idleReceiver}
+use Rattle.serial.specs.Format.{transmitterShifts, receiverAsynchronous, receiverShifting, keepsTransmitter, keepsReceiver, width, hasParity, frameBits, sentBits, pace}
+use Rattle.serial.specs.Transmitter.{transmitterFits, sending, framed, taken, idleTick, frameEnd, nextPhase, ticked, bitTick, sendTick, transmitterClock, raised, shiftedDown, transmitterWithSccr, idleTransmitter}
+use Rattle.serial.specs.Receiver.{receiverFits, receiving, atSub, atHalf, started, shiftedIn, startDetected, put, keptWith, frameEnded, lookTaken, looked, receiveTick, shiftedAtRise, byteEnded, receiveRise, receiverClock, receiverWithSccr, idleReceiver}
 use Rattle.serial.proofs.Frames.{frame-length}
 
 -- the ranges as facts
@@ -42,13 +42,19 @@ fits-transmitter t i = and-both _ _ (and-both _ _ (le-leb _ _ (i .left)) (le-leb
 abbrev SendingIn : Sending → Type 0
 SendingIn s = InTransmitter (s .transmitter)
 
+sent-length : (sccr byte : ℕ) → length (sentBits sccr byte) ≤ 12
+unfolding sentBits
+sent-length sccr byte =
+    cond-both (λ (l : List Bool). length l ≤ 12) (transmitterShifts sccr) (bitsOf 8 byte) (frameBits sccr byte)
+    (λ _. omega arith) (λ _. let l = frame-length sccr byte in omega arith)
+
 framed-in : (sccr byte : ℕ) → InTransmitter (framed sccr byte)
 unfolding framed
 framed-in sccr byte =
-    let l = frame-length sccr byte in
-    let n = number-lt (frameBits sccr byte) in
-    let p : 2 ^ length (frameBits sccr byte) ≤ 2 ^ 12 = pow-mono {i = length (frameBits sccr byte)} {j = 12} (omega arith) in
-    record { left = omega arith; phase = omega arith; register = lt-of-lt-of-le n p }
+    let l = sent-length sccr byte in
+    let n = number-lt (sentBits sccr byte) in
+    let p : 2 ^ length (sentBits sccr byte) ≤ 2 ^ 12 = pow-mono {i = length (sentBits sccr byte)} {j = 12} l in
+    record { left = l; phase = omega arith; register = lt-of-lt-of-le n p }
 
 taken-in : (sccr scsr byte : ℕ) → SendingIn (taken sccr scsr byte)
 unfolding taken
@@ -62,16 +68,24 @@ end-in : (t : Transmitter) (sccr scsr byte : ℕ) → InTransmitter t → Sendin
 unfolding frameEnd
 end-in t sccr scsr byte i = cond-both SendingIn (bit 6 scsr) (sending t (withBit 7 true scsr)) (taken sccr scsr byte) (λ _. i) (λ _. taken-in sccr scsr byte)
 
+next-le : (phase : ℕ) → nextPhase phase ≤ 15
+unfolding nextPhase
+next-le phase =
+    cond-both (λ (n : ℕ). n ≤ 15) (ltb phase 15) (phase + 1) 0 (λ e. let h = ltb-true phase 15 e in omega arith) (λ _. omega arith)
+
+ticked-in : (ticks : ℕ) (t : Transmitter) → InTransmitter t → InTransmitter (ticked ticks t)
+unfolding ticked
+ticked-in ticks t i =
+    cond-both InTransmitter (eqb (nextPhase (t .phase) % ticks) 0) (shiftedDown (raised t)) (raised t)
+    (λ _. let l = i .left in let r = i .register in record { left = omega arith; phase = next-le (t .phase); register = omega arith })
+    (λ _. record { left = i .left; phase = next-le (t .phase); register = i .register })
+
 bit-in : (t : Transmitter) (sccr scsr byte : ℕ) → InTransmitter t → SendingIn (bitTick t sccr scsr byte)
 unfolding bitTick
 bit-in t sccr scsr byte i =
-    cond-both SendingIn (ltb (t .phase) 15) (sending (raised t) scsr) (cond (eqb (t .left - 1) 0) (frameEnd (shiftedDown t) sccr scsr byte) (sending (shiftedDown t) scsr))
-    (λ e. let h = ltb-true (t .phase) 15 e in record { left = i .left; phase = omega arith; register = i .register })
-    (λ _. cond-both SendingIn (eqb (t .left - 1) 0) (frameEnd (shiftedDown t) sccr scsr byte) (sending (shiftedDown t) scsr)
-    (λ _. end-in (shiftedDown t) sccr scsr byte down) (λ _. down))
-  where
-    down : InTransmitter (shiftedDown t)
-    down = let l = i .left in let r = i .register in record { left = omega arith; phase = omega arith; register = omega arith }
+    let next = ticked (pace sccr) t in
+    let in-range = ticked-in (pace sccr) t i in
+    cond-both SendingIn (eqb (next .left) 0) (frameEnd next sccr scsr byte) (sending next scsr) (λ _. end-in next sccr scsr byte in-range) (λ _. in-range)
 
 tick-in : (t : Transmitter) (sccr scsr byte : ℕ) → InTransmitter t → SendingIn (sendTick t sccr scsr byte)
 unfolding sendTick
@@ -80,12 +94,13 @@ tick-in t sccr scsr byte i = cond-both SendingIn (eqb (t .left) 0) (idleTick t s
 pub transmitter-clock-fits : (t : Transmitter) (ticks : Ticks) (sccr scsr byte : ℕ) → transmitterFits t ≡ true → transmitterFits (transmitterClock t ticks sccr scsr byte .transmitter) ≡ true
 unfolding transmitterClock
 transmitter-clock-fits t ticks sccr scsr byte e =
-    fits-transmitter _ (cond-both SendingIn (not (eqb (ticks .0) 0) && transmitterMoves sccr) (sendTick t sccr scsr byte) (sending t scsr)
+    fits-transmitter _ (cond-both SendingIn (not (eqb (ticks .0) 0) && bit 7 sccr) (sendTick t sccr scsr byte) (sending t scsr)
     (λ _. tick-in t sccr scsr byte (in-transmitter t e)) (λ _. in-transmitter t e))
 
-pub transmitter-under-fits : (sccr : ℕ) (t : Transmitter) → transmitterFits t ≡ true → transmitterFits (transmitterWithSccr sccr t) ≡ true
+pub transmitter-under-fits : (old sccr : ℕ) (t : Transmitter) → transmitterFits t ≡ true → transmitterFits (transmitterWithSccr old sccr t) ≡ true
 unfolding transmitterWithSccr
-transmitter-under-fits sccr t e = cond-both (λ (u : Transmitter). transmitterFits u ≡ true) (transmitterMoves sccr) t idleTransmitter (λ _. e) (λ _. refl)
+transmitter-under-fits old sccr t e =
+    cond-both (λ (u : Transmitter). transmitterFits u ≡ true) (keepsTransmitter old sccr) t idleTransmitter (λ _. e) (λ _. refl)
 
 pub record InReceiver (r : Receiver) : Type 0 where
   pub subinterval : r .subinterval ≤ 7
@@ -115,12 +130,13 @@ startDetected-in r sccr high i =
     (λ _. let d = digit-le (hasParity sccr) in record { subinterval = omega arith; left = omega arith; register = i .register }))
 
 shifted-in : (r : Receiver) (high : Bool) → InReceiver r → InReceiver (shiftedIn r high)
+unfolding put
 shifted-in r high i =
     let l = i .left in let g = i .register in let d = digit-le high in
     record { subinterval = omega arith; left = omega arith; register = omega arith }
 
 lookTaken-in : (r : Receiver) (sccr scsr received : ℕ) (high : Bool) → InReceiver r → ReceivingIn (lookTaken r sccr scsr received high)
-unfolding lookTaken frameEnded
+unfolding lookTaken frameEnded keptWith
 lookTaken-in r sccr scsr received high i =
     cond-both ReceivingIn (ltb (r .subinterval) 7) (receiving (atSub r (r .subinterval + 1)) scsr received)
     (cond (eqb (r .left - 1) 0) (frameEnded (shiftedIn r high) sccr scsr received) (receiving (shiftedIn r high) scsr received))
@@ -143,13 +159,30 @@ hear-in r sccr scsr received high i =
     cond-both ReceivingIn (r .half) (looked (atHalf r false) sccr scsr received high) (receiving (atHalf r true) scsr received)
     (λ _. looked-in (atHalf r false) sccr scsr received high (half-in r false i)) (λ _. half-in r true i)
 
-pub receiver-clock-fits : (r : Receiver) (ticks : Ticks) (sccr scsr received : ℕ) (high : Bool) → receiverFits r ≡ true
-    → receiverFits (receiverClock r ticks sccr scsr received high .receiver) ≡ true
-unfolding receiverClock
-receiver-clock-fits r ticks sccr scsr received high e =
-    fits-receiver _ (cond-both ReceivingIn (not (eqb (ticks .0) 0) && receiverMoves sccr) (receiveTick r sccr scsr received high) (receiving r scsr received)
-    (λ _. hear-in r sccr scsr received high (in-receiver r e)) (λ _. in-receiver r e))
+at-rise-in : (r : Receiver) (high : Bool) → InReceiver r → InReceiver (shiftedAtRise r high)
+unfolding shiftedAtRise put
+at-rise-in r high i =
+    let l : cond (eqb (r .left) 0) 8 (r .left) ≤ 11 = cond-both (λ (n : ℕ). n ≤ 11) (eqb (r .left) 0) 8 (r .left) (λ _. omega arith) (λ _. i .left) in
+    let g = i .register in let d = digit-le high in
+    record { subinterval = i .subinterval; left = omega arith; register = omega arith }
 
-pub receiver-under-fits : (sccr : ℕ) (r : Receiver) → receiverFits r ≡ true → receiverFits (receiverWithSccr sccr r) ≡ true
+rise-in : (r : Receiver) (scsr received : ℕ) (high : Bool) → InReceiver r → ReceivingIn (receiveRise r scsr received high)
+unfolding receiveRise byteEnded keptWith
+rise-in r scsr received high i =
+    let next = shiftedAtRise r high in
+    cond-both ReceivingIn (eqb (next .left) 0) (byteEnded next scsr received) (receiving next scsr received)
+    (λ _. at-rise-in r high i) (λ _. at-rise-in r high i)
+
+pub receiver-clock-fits : (r : Receiver) (ticks : Ticks) (rise : Bool) (sccr scsr received : ℕ) (high : Bool) → receiverFits r ≡ true
+    → receiverFits (receiverClock r ticks rise sccr scsr received high .receiver) ≡ true
+unfolding receiverClock
+receiver-clock-fits r ticks rise sccr scsr received high e =
+    fits-receiver _ (cond-both ReceivingIn (not (eqb (ticks .0) 0) && receiverAsynchronous sccr) (receiveTick r sccr scsr received high) _
+    (λ _. hear-in r sccr scsr received high (in-receiver r e))
+    (λ _. cond-both ReceivingIn (rise && receiverShifting sccr) (receiveRise r scsr received high) (receiving r scsr received)
+    (λ _. rise-in r scsr received high (in-receiver r e)) (λ _. in-receiver r e)))
+
+pub receiver-under-fits : (old sccr : ℕ) (r : Receiver) → receiverFits r ≡ true → receiverFits (receiverWithSccr old sccr r) ≡ true
 unfolding receiverWithSccr
-receiver-under-fits sccr r e = cond-both (λ (u : Receiver). receiverFits u ≡ true) (receiverMoves sccr) r idleReceiver (λ _. e) (λ _. refl)
+receiver-under-fits old sccr r e =
+    cond-both (λ (u : Receiver). receiverFits u ≡ true) (keepsReceiver old sccr) r idleReceiver (λ _. e) (λ _. refl)

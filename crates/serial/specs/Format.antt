@@ -12,16 +12,28 @@ transmitterShifts sccr = bit 5 sccr
 abbrev pub receiverShifts : ℕ → Bool
 receiverShifts sccr = not (bit 5 sccr) && bit 4 sccr
 
--- "Transmitter (SCCR7)", "Receiver (SCCR6)"; "A half in shift-register mode idles."
-unfoldable pub transmitterMoves : ℕ → Bool
-transmitterMoves sccr = bit 7 sccr && not (transmitterShifts sccr)
+-- "Transmitter (SCCR7)", "Receiver (SCCR6)": on and asynchronous
+unfoldable pub transmitterAsynchronous : ℕ → Bool
+transmitterAsynchronous sccr = bit 7 sccr && not (transmitterShifts sccr)
 
-unfoldable pub receiverMoves : ℕ → Bool
-receiverMoves sccr = bit 6 sccr && not (receiverShifts sccr)
+unfoldable pub receiverAsynchronous : ℕ → Bool
+receiverAsynchronous sccr = bit 6 sccr && not (receiverShifts sccr)
+
+-- 02, U1: a receiver that is on and in shift-register mode
+unfoldable pub receiverShifting : ℕ → Bool
+receiverShifting sccr = bit 6 sccr && receiverShifts sccr
 
 -- 01, One clock, 2: "SCCR7, or SCCR6 with an asynchronous receiver, holds A to mode 00."
 unfoldable pub holdsA : ℕ → Bool
-holdsA sccr = bit 7 sccr || receiverMoves sccr
+holdsA sccr = bit 7 sccr || receiverAsynchronous sccr
+
+-- 01, Serial channel: "Writing SCCR zeroes the progress of each half that the new value has off or in shift-register mode."
+-- 02, U1: "A write of SCCR that changes a half's mode zeroes its progress too." What is left: which progress is kept.
+unfoldable pub keepsTransmitter : ℕ → ℕ → Bool
+keepsTransmitter old sccr = transmitterAsynchronous sccr && not (transmitterShifts old)
+
+unfoldable pub keepsReceiver : ℕ → ℕ → Bool
+keepsReceiver old sccr = receiverAsynchronous sccr && not (receiverShifts old)
 
 -- "SCCR3, SCCR2 00 to 11: 8, 7, 6, 5 bits; SCCR1 parity, SCCR0 even"
 abbrev pub width : ℕ → ℕ
@@ -45,3 +57,11 @@ ending sccr bits = cond (hasParity sccr) (parityBit sccr bits ∷ true ∷ []) (
 -- "a frame: start 0, data lowest bit first, parity, stops, bit 0 first"
 unfoldable pub frameBits : ℕ → ℕ → List Bool
 frameBits sccr byte = false ∷ dataBits sccr byte ++ ending sccr (dataBits sccr byte)
+
+-- what the transmitter sends of a byte; 02, U1, in shift-register mode: "its frame the byte alone"
+unfoldable pub sentBits : ℕ → ℕ → List Bool
+sentBits sccr byte = cond (transmitterShifts sccr) (bitsOf 8 byte) (frameBits sccr byte)
+
+-- the ticks that a bit lasts: of a frame 16; 02, U1, in shift-register mode: "shifted at each tick that makes the phase even"
+unfoldable pub pace : ℕ → ℕ
+pace sccr = cond (transmitterShifts sccr) 2 16

@@ -1,4 +1,4 @@
--- 01, Serial channel: the receiver.
+-- 01, Serial channel: the receiver; 02, U1: in shift-register mode.
 use mathlib.Core.Bool.{Bool, true, false, _&&_, _||_, not, cond, Bool·beq}
 use Prim.Native.Nat.{ℕ, _+_, _-_, _*_, _/_, _%_, _^_}
 use lib.Dec.{leb, ltb, eqb}
@@ -7,7 +7,7 @@ use Rattle.counters.specs.declared.time.Ticks.{Ticks}
 use Rattle.serial.specs.declared.receiver.Receiver.{Receiver}
 use Rattle.serial.specs.declared.receiver.Receiving.{Receiving}
 use Rattle.serial.specs.Status.{receiverFull, overrun, parityError, framingError}
-use Rattle.serial.specs.Format.{receiverMoves, width, hasParity, parityBit, dataBits}
+use Rattle.serial.specs.Format.{receiverAsynchronous, receiverShifting, keepsReceiver, width, hasParity, parityBit, dataBits}
 
 abbrev pub receiving : Receiver → ℕ → ℕ → Receiving
 receiving r scsr received = record { receiver = r; scsr = scsr; received = received }
@@ -30,9 +30,13 @@ started r sccr = record { subinterval = 0; half = r .half; left = frameSize sccr
 unfoldable pub startDetected : Receiver → ℕ → Bool → Receiver
 startDetected r sccr high = cond high (atSub r 0) (cond (ltb (r .subinterval) 3) (atSub r (r .subinterval + 1)) (started r sccr))
 
--- "shifts the level into bit 10, one bit fewer left"
+-- "shifts the level into bit 10": in either mode
+unfoldable pub put : ℕ → Bool → ℕ
+put register high = register / 2 + digit high * 1024
+
+-- ", one bit fewer left"
 abbrev pub shiftedIn : Receiver → Bool → Receiver
-shiftedIn r high = record { subinterval = 0; half = r .half; left = r .left - 1; register = r .register / 2 + digit high * 1024 }
+shiftedIn r high = record { subinterval = 0; half = r .half; left = r .left - 1; register = put (r .register) high }
 
 -- "bit 10 is the stop, parity and data below it", "the byte (high bits 0)"
 unfoldable pub receivedByte : ℕ → ℕ → ℕ
@@ -53,11 +57,15 @@ statusAfter scsr wrong low =
     setWhere framingError low (setWhere parityError wrong
     (cond (bit receiverFull scsr) (setWhere overrun true scsr) (setWhere receiverFull (not (wrong || low)) scsr)))
 
--- "At the last, by SCCR then": "if SCSR0 is clear the byte .. is kept"
+-- "if SCSR0 is clear the byte .. is kept"
+unfoldable pub keptWith : ℕ → Receiver → ℕ → ℕ → ℕ → Receiving
+keptWith byte r status scsr received = receiving r status (cond (bit receiverFull scsr) received byte)
+
+-- "At the last, by SCCR then"
 unfoldable pub frameEnded : Receiver → ℕ → ℕ → ℕ → Receiving
 frameEnded r sccr scsr received =
-    receiving r (statusAfter scsr (wrongParity sccr (r .register)) (lowStop (r .register)))
-    (cond (bit receiverFull scsr) received (receivedByte sccr (r .register)))
+    keptWith (receivedByte sccr (r .register)) r
+    (statusAfter scsr (wrongParity sccr (r .register)) (lowStop (r .register))) scsr received
 
 -- "Then each eighth look, from 7 to 0"
 unfoldable pub lookTaken : Receiver → ℕ → ℕ → ℕ → Bool → Receiving
@@ -78,14 +86,36 @@ unfoldable pub receiveTick : Receiver → ℕ → ℕ → ℕ → Bool → Recei
 receiveTick r sccr scsr received high =
     cond (r .half) (looked (atHalf r false) sccr scsr received high) (receiving (atHalf r true) scsr received)
 
--- 01, One clock, 3, for the receiver: the ticks of a clock are none or one
-unfoldable pub receiverClock : Receiver → Ticks → ℕ → ℕ → ℕ → Bool → Receiving
-receiverClock r ticks sccr scsr received high =
-    cond (not (eqb (ticks .0) 0) && receiverMoves sccr) (receiveTick r sccr scsr received high) (receiving r scsr received)
+-- 02, U1: "shifts PA7 into bit 10 at each rise of PA4, a rise with no bits left first making them 8"
+unfoldable pub shiftedAtRise : Receiver → Bool → Receiver
+shiftedAtRise r high = record {
+  subinterval = r .subinterval;
+  half = r .half;
+  left = cond (eqb (r .left) 0) 8 (r .left) - 1;
+  register = put (r .register) high;
+}
 
--- "Writing SCCR zeroes the progress of each half that the new value has off or in shift-register mode."
-unfoldable pub receiverWithSccr : ℕ → Receiver → Receiver
-receiverWithSccr sccr r = cond (receiverMoves sccr) r idleReceiver
+-- "at the last the byte is bits 3 to 10, with SCSR0 or SCSR1 as in 01": without an error
+unfoldable pub byteEnded : Receiver → ℕ → ℕ → Receiving
+byteEnded r scsr received = keptWith (r .register / 8 % 256) r (statusAfter scsr false false) scsr received
+
+abbrev pub endedAtLast : Receiver → ℕ → ℕ → Receiving
+endedAtLast r scsr received = cond (eqb (r .left) 0) (byteEnded r scsr received) (receiving r scsr received)
+
+-- a rise of PA4
+unfoldable pub receiveRise : Receiver → ℕ → ℕ → Bool → Receiving
+receiveRise r scsr received high = endedAtLast (shiftedAtRise r high) scsr received
+
+-- 01, One clock, 3, for the receiver: asynchronous it goes by ticks, which are none or one in a clock; 02, U1: in shift-register mode
+-- by a rise of PA4
+unfoldable pub receiverClock : Receiver → Ticks → Bool → ℕ → ℕ → ℕ → Bool → Receiving
+receiverClock r ticks rise sccr scsr received high =
+    cond (not (eqb (ticks .0) 0) && receiverAsynchronous sccr) (receiveTick r sccr scsr received high)
+    (cond (rise && receiverShifting sccr) (receiveRise r scsr received high) (receiving r scsr received))
+
+-- its progress after a write of SCCR over an old value
+unfoldable pub receiverWithSccr : ℕ → ℕ → Receiver → Receiver
+receiverWithSccr old sccr r = cond (keepsReceiver old sccr) r idleReceiver
 
 -- 01, Machine state: "receiver sub-interval (0 to 7), half (0 or 1), bits left (0 to 11), register (11 bits)"; half is a flag
 abbrev pub receiverFits : Receiver → Bool

@@ -1,4 +1,4 @@
--- 01, Serial channel: the transmitter.
+-- 01, Serial channel: the transmitter; 02, U1: in shift-register mode.
 use mathlib.Core.Bool.{Bool, true, false, _&&_, _||_, not, cond}
 use Prim.Native.Nat.{ℕ, _+_, _-_, _/_, _%_}
 use lib.Dec.{leb, ltb, eqb}
@@ -9,7 +9,7 @@ use Rattle.counters.specs.declared.time.Ticks.{Ticks}
 use Rattle.serial.specs.declared.transmitter.Transmitter.{Transmitter}
 use Rattle.serial.specs.declared.transmitter.Sending.{Sending}
 use Rattle.serial.specs.Status.{transmitterEmpty, underrun}
-use Rattle.serial.specs.Format.{transmitterMoves, frameBits}
+use Rattle.serial.specs.Format.{keepsTransmitter, sentBits, pace}
 
 abbrev pub sending : Transmitter → ℕ → Sending
 sending t scsr = record { transmitter = t; scsr = scsr }
@@ -20,7 +20,7 @@ idleTransmitter = record { left = 0; phase = 0; register = 0 }
 
 -- "phase 0, register and bits left to a frame"
 unfoldable pub framed : ℕ → ℕ → Transmitter
-framed sccr byte = record { left = length (frameBits sccr byte); phase = 0; register = number (frameBits sccr byte) }
+framed sccr byte = record { left = length (sentBits sccr byte); phase = 0; register = number (sentBits sccr byte) }
 
 -- "it takes the data, sets SCSR6"; 001, 5.3, SCSR 7: "Cleared by a transfer of new data into the Transmitter Shift Register"
 unfoldable pub taken : ℕ → ℕ → ℕ → Sending
@@ -34,18 +34,27 @@ idleTick t sccr scsr byte = cond (bit transmitterEmpty scsr) (sending t scsr) (t
 unfoldable pub frameEnd : Transmitter → ℕ → ℕ → ℕ → Sending
 frameEnd t sccr scsr byte = cond (bit transmitterEmpty scsr) (sending t (withBit underrun true scsr)) (taken sccr scsr byte)
 
--- "from 15 to 0 shifts the register down, one bit fewer left"
-abbrev pub shiftedDown : Transmitter → Transmitter
-shiftedDown t = record { left = t .left - 1; phase = 0; register = t .register / 2 }
+-- "each later tick raises the phase", "from 15 to 0"
+unfoldable pub nextPhase : ℕ → ℕ
+nextPhase phase = cond (ltb phase 15) (phase + 1) 0
 
--- "each later tick raises the phase"
 abbrev pub raised : Transmitter → Transmitter
-raised t = record { left = t .left; phase = t .phase + 1; register = t .register }
+raised t = record { left = t .left; phase = nextPhase (t .phase); register = t .register }
+
+-- "shifts the register down, one bit fewer left"
+abbrev pub shiftedDown : Transmitter → Transmitter
+shiftedDown t = record { left = t .left - 1; phase = t .phase; register = t .register / 2 }
+
+-- a tick of bits taken in turn, each for as many ticks as the pace says: 16 are "from 15 to 0", 2 "makes the phase even"
+unfoldable pub ticked : ℕ → Transmitter → Transmitter
+ticked ticks t = cond (eqb (nextPhase (t .phase) % ticks) 0) (shiftedDown (raised t)) (raised t)
+
+-- "None left" ends the frame
+abbrev pub endedWhereNoneLeft : Transmitter → ℕ → ℕ → ℕ → Sending
+endedWhereNoneLeft t sccr scsr byte = cond (eqb (t .left) 0) (frameEnd t sccr scsr byte) (sending t scsr)
 
 unfoldable pub bitTick : Transmitter → ℕ → ℕ → ℕ → Sending
-bitTick t sccr scsr byte =
-    cond (ltb (t .phase) 15) (sending (raised t) scsr)
-    (cond (eqb (t .left - 1) 0) (frameEnd (shiftedDown t) sccr scsr byte) (sending (shiftedDown t) scsr))
+bitTick t sccr scsr byte = endedWhereNoneLeft (ticked (pace sccr) t) sccr scsr byte
 
 -- one tick of a transmitter that is on
 unfoldable pub sendTick : Transmitter → ℕ → ℕ → ℕ → Sending
@@ -53,15 +62,19 @@ sendTick t sccr scsr byte = cond (eqb (t .left) 0) (idleTick t sccr scsr byte) (
 
 -- 01, One clock, 3, for the transmitter: the ticks of a clock are none or one
 unfoldable pub transmitterClock : Transmitter → Ticks → ℕ → ℕ → ℕ → Sending
-transmitterClock t ticks sccr scsr byte = cond (not (eqb (ticks .0) 0) && transmitterMoves sccr) (sendTick t sccr scsr byte) (sending t scsr)
+transmitterClock t ticks sccr scsr byte = cond (not (eqb (ticks .0) 0) && bit 7 sccr) (sendTick t sccr scsr byte) (sending t scsr)
 
--- 01, Pin lists, "the transmitter's line (high when idle)": "While bits are left, bit 0 is the line"; "A half in shift-register mode idles."
-unfoldable pub line : ℕ → Transmitter → Bool
-line sccr t = not (transmitterMoves sccr) || eqb (t .left) 0 || bit 0 (t .register)
+-- "While bits are left, bit 0 is the line"; 01, Pin lists: "high when idle"
+unfoldable pub line : Transmitter → Bool
+line t = eqb (t .left) 0 || bit 0 (t .register)
 
--- "Writing SCCR zeroes the progress of each half that the new value has off or in shift-register mode."
-unfoldable pub transmitterWithSccr : ℕ → Transmitter → Transmitter
-transmitterWithSccr sccr t = cond (transmitterMoves sccr) t idleTransmitter
+-- 02, U1: "PA4's drive is its clock, low at even phases while bits are left, else high"
+unfoldable pub shiftClock : Transmitter → Bool
+shiftClock t = eqb (t .left) 0 || eqb (t .phase % 2) 1
+
+-- its progress after a write of SCCR over an old value
+unfoldable pub transmitterWithSccr : ℕ → ℕ → Transmitter → Transmitter
+transmitterWithSccr old sccr t = cond (keepsTransmitter old sccr) t idleTransmitter
 
 -- 01, Machine state: "transmitter bits left (0 to 12), phase (0 to 15), register (12 bits)"
 abbrev pub transmitterFits : Transmitter → Bool

@@ -1,10 +1,11 @@
-// What the serial control register (SCCR) says, and the frame that a byte is sent in.
+// What the serial control register (SCCR) says, and what is sent of a byte.
 ghost use mathlib.Core.Path.{_≡_};
 ghost use Prim.Native.Nat.{ℕ, _^_, _%_, _-_};
+ghost use lib.Dec.{eqb};
 ghost use lib.ListN.{length};
 ghost use Rattle.bits.specs.Bits.{bit, digit};
 ghost use Rattle.bits.specs.Lists.{bitsOf, oddOnes, number};
-ghost use Rattle.serial.specs.Format.{transmitterMoves, receiverMoves, holdsA, width, hasParity, parityBit, ending, frameBits};
+ghost use Rattle.serial.specs.Format.{transmitterShifts, receiverAsynchronous, receiverShifting, holdsA, keepsTransmitter, keepsReceiver, width, hasParity, parityBit, ending, frameBits, pace};
 
 // The bits of SCCR, by weight.
 const TRANSMITTER_ON: u8 = 128;
@@ -19,33 +20,56 @@ const PARITY: u8 = 2;
 
 const EVEN: u8 = 1;
 
-// Whether the transmitter moves: on, and not in shift-register mode.
-pub fn transmitter_moves(sccr: u8) -> bool
-    ensures { λ r. ⌜ r ≡ transmitterMoves sccr ⌝ }
-{
-    (sccr / TRANSMITTER_ON % 2 == 1) & (sccr / TRANSMITTER_SHIFTS % 2 != 1)
-}
-
-// Whether the receiver moves: on, and not in shift-register mode.
-pub fn receiver_moves(sccr: u8) -> bool
-    ensures { λ r. ⌜ r ≡ receiverMoves sccr ⌝ }
-{
-    (sccr / RECEIVER_ON % 2 == 1)
-        & !((sccr / TRANSMITTER_SHIFTS % 2 != 1) & (sccr / RECEIVER_SHIFTS % 2 == 1))
-}
-
-// Whether SCCR7 is set, while which PA6 is the transmitter's line.
+// Whether SCCR7 is set: the transmitter is on, and PA6 is its line.
 pub fn transmitter_on(sccr: u8) -> bool
     ensures { λ r. ⌜ r ≡ bit 7 sccr ⌝ }
 {
     sccr / TRANSMITTER_ON % 2 == 1
 }
 
+// Whether the transmitter, on or off, is in shift-register mode.
+pub fn transmitter_shifts(sccr: u8) -> bool
+    ensures { λ r. ⌜ r ≡ transmitterShifts sccr ⌝ }
+{
+    sccr / TRANSMITTER_SHIFTS % 2 == 1
+}
+
+// Whether the receiver is on and asynchronous.
+pub fn receiver_asynchronous(sccr: u8) -> bool
+    ensures { λ r. ⌜ r ≡ receiverAsynchronous sccr ⌝ }
+{
+    (sccr / RECEIVER_ON % 2 == 1)
+        & !((sccr / TRANSMITTER_SHIFTS % 2 != 1) & (sccr / RECEIVER_SHIFTS % 2 == 1))
+}
+
+// Whether the receiver is on and in shift-register mode.
+pub fn receiver_shifting(sccr: u8) -> bool
+    ensures { λ r. ⌜ r ≡ receiverShifting sccr ⌝ }
+{
+    (sccr / RECEIVER_ON % 2 == 1)
+        & ((sccr / TRANSMITTER_SHIFTS % 2 != 1) & (sccr / RECEIVER_SHIFTS % 2 == 1))
+}
+
+// Whether a write of SCCR over an old value keeps the transmitter's progress.
+pub fn keeps_transmitter(old: u8, sccr: u8) -> bool
+    ensures { λ r. ⌜ r ≡ keepsTransmitter old sccr ⌝ }
+{
+    transmitter_on(sccr) & !transmitter_shifts(sccr) & !transmitter_shifts(old)
+}
+
+// Whether a write of SCCR over an old value keeps the receiver's progress.
+pub fn keeps_receiver(old: u8, sccr: u8) -> bool
+    ensures { λ r. ⌜ r ≡ keepsReceiver old sccr ⌝ }
+{
+    receiver_asynchronous(sccr)
+        & !((old / TRANSMITTER_SHIFTS % 2 != 1) & (old / RECEIVER_SHIFTS % 2 == 1))
+}
+
 // Whether counter A is held to mode 00.
 pub fn holds_counter(sccr: u8) -> bool
     ensures { λ r. ⌜ r ≡ holdsA sccr ⌝ }
 {
-    transmitter_on(sccr) | receiver_moves(sccr)
+    transmitter_on(sccr) | receiver_asynchronous(sccr)
 }
 
 // The number of data bits.
@@ -128,4 +152,14 @@ pub fn frame_length(sccr: u8, byte: u8) -> u8
     ensures { λ r. ⌜ r ≡ length (frameBits sccr byte) ⌝ }
 {
     data_width(sccr) + 3
+}
+
+// Whether a tick that makes this phase is the last of a bit.
+pub fn ends_bit(sccr: u8, phase: u8) -> bool
+    ensures { λ r. ⌜ r ≡ eqb (phase % pace sccr) 0 ⌝ }
+{
+    if transmitter_shifts(sccr) {
+        return phase % 2 == 0;
+    }
+    phase % 16 == 0
 }

@@ -1,15 +1,17 @@
-// The asynchronous receiver.
+// The receiver.
 ghost use mathlib.Core.Path.{_≡_};
-ghost use Prim.Native.Nat.{_-_, _+_, _*_, _/_};
+ghost use Prim.Native.Nat.{_-_};
 ghost use Rattle.bits.specs.Bits.{digit};
 ghost use Rattle.serial.specs.Format.{width, hasParity};
-ghost use Rattle.serial.specs.Receiver.{idleReceiver, frameSize, startDetected, receivedByte, wrongParity, statusAfter, frameEnded, lookTaken, looked, receiveTick, receiverClock, receiverWithSccr};
+ghost use Rattle.serial.specs.Receiver.{idleReceiver, frameSize, startDetected, receivedByte, wrongParity, statusAfter, put, keptWith, frameEnded, lookTaken, looked, receiveTick, shiftedAtRise, byteEnded, receiveRise, receiverClock, receiverWithSccr};
 use crate::format::data_span;
 use crate::format::data_width;
 use crate::format::has_parity;
+use crate::format::keeps_receiver;
 use crate::format::parity_bit;
 use crate::format::parity_size;
-use crate::format::receiver_moves;
+use crate::format::receiver_asynchronous;
+use crate::format::receiver_shifting;
 use crate::status::FRAMING_ERROR;
 use crate::status::OVERRUN;
 use crate::status::PARITY_ERROR;
@@ -23,7 +25,10 @@ const STOP: u16 = 1024;
 
 const PARITY: u16 = 512;
 
-// The sub-interval, whether the next tick makes a look, the bits left of a frame, and the bits, the last one in bit 10.
+// The place of the lowest bit of a byte that came at rises of PA4, by weight.
+const BYTE: u16 = 8;
+
+// The sub-interval, whether the next tick makes a look, the bits left to come, and the bits, the last one in bit 10.
 #[repr(C)]
 pub struct Receiver {
     pub subinterval: u8,
@@ -105,7 +110,7 @@ fn status_after(scsr: u8, wrong: bool, low: bool) -> u8
 
 // The register with a level shifted into bit 10.
 fn shifted_in(register: u16, high: bool) -> u16
-    ensures { λ r. ⌜ r ≡ register / 2 + digit high * 1024 ⌝ }
+    ensures { λ r. ⌜ r ≡ put register high ⌝ }
 {
     if high {
         register / 2 + STOP
@@ -132,12 +137,10 @@ impl Receiver {
         self
     }
 
-    // The last bit of a frame is in.
-    fn end_frame(mut self, sccr: u8, scsr: u8, received: u8) -> Receiving
-        ensures { λ r. ⌜ r ≡ frameEnded self sccr scsr received ⌝ }
+    // A byte kept where the last one was read.
+    fn keep(mut self, byte: u8, status: u8, scsr: u8, received: u8) -> Receiving
+        ensures { λ r. ⌜ r ≡ keptWith byte self status scsr received ⌝ }
     {
-        let wrong = parity_is_wrong(sccr, self.register);
-        let status = status_after(scsr, wrong, self.register / STOP % 2 != 1);
         if scsr / RECEIVER_FULL_WEIGHT % 2 == 1 {
             return Receiving {
                 receiver: self,
@@ -145,12 +148,21 @@ impl Receiver {
                 received: received,
             };
         }
-        let byte = byte_of(sccr, self.register);
         Receiving {
             receiver: self,
             scsr: status,
             received: byte,
         }
+    }
+
+    // The last bit of a frame is in.
+    fn end_frame(mut self, sccr: u8, scsr: u8, received: u8) -> Receiving
+        ensures { λ r. ⌜ r ≡ frameEnded self sccr scsr received ⌝ }
+    {
+        let wrong = parity_is_wrong(sccr, self.register);
+        let status = status_after(scsr, wrong, self.register / STOP % 2 != 1);
+        let byte = byte_of(sccr, self.register);
+        self.keep(byte, status, scsr, received)
     }
 
     // A look with bits left.
@@ -208,13 +220,68 @@ impl Receiver {
         }
     }
 
-    // The receiver after a clock with these ticks and this level of PA7.
-    pub fn clock(mut self, ticks: Ticks, sccr: u8, scsr: u8, received: u8, high: bool) -> Receiving
-        ensures { λ r. ⌜ r ≡ receiverClock self ticks sccr scsr received high ⌝ }
+    // A level shifted in at a rise of PA4, the first of a byte making eight bits left.
+    fn shift_at_rise(mut self, high: bool) -> Receiver
+        ensures { λ r. ⌜ r ≡ shiftedAtRise self high ⌝ }
     {
-        let moves = (ticks.0 != 0) & receiver_moves(sccr);
-        if moves {
+        let register = shifted_in(self.register, high);
+        if self.left == 0 {
+            return Receiver {
+                subinterval: self.subinterval,
+                half: self.half,
+                left: 7,
+                register: register,
+            };
+        }
+        self.left = one_less(self.left);
+        self.register = register;
+        self
+    }
+
+    // The last bit of a byte is in.
+    fn end_byte(mut self, scsr: u8, received: u8) -> Receiving
+        ensures { λ r. ⌜ r ≡ byteEnded self scsr received ⌝ }
+    {
+        let status = status_after(scsr, false, false);
+        let byte = (self.register / BYTE % 256) as u8;
+        self.keep(byte, status, scsr, received)
+    }
+
+    // A rise of PA4, in shift-register mode.
+    fn rise(mut self, scsr: u8, received: u8, high: bool) -> Receiving
+        ensures { λ r. ⌜ r ≡ receiveRise self scsr received high ⌝ }
+    {
+        let next = self.shift_at_rise(high);
+        if next.left == 0 {
+            return next.end_byte(scsr, received);
+        }
+        Receiving {
+            receiver: next,
+            scsr: scsr,
+            received: received,
+        }
+    }
+
+    // The receiver after a clock with these ticks, with a rise of PA4 or none, and this level of PA7.
+    pub fn clock(
+        mut self,
+        ticks: Ticks,
+        rise: bool,
+        sccr: u8,
+        scsr: u8,
+        received: u8,
+        high: bool,
+    ) -> Receiving
+        ensures { λ r. ⌜ r ≡ receiverClock self ticks rise sccr scsr received high ⌝ }
+    {
+        let ticked = ticks.0 != 0;
+        let asynchronous = ticked & receiver_asynchronous(sccr);
+        if asynchronous {
             return self.tick(sccr, scsr, received, high);
+        }
+        let shifting = rise & receiver_shifting(sccr);
+        if shifting {
+            return self.rise(scsr, received, high);
         }
         Receiving {
             receiver: self,
@@ -223,11 +290,11 @@ impl Receiver {
         }
     }
 
-    // Its progress after a write of SCCR.
-    pub fn with_sccr(mut self, sccr: u8) -> Receiver
-        ensures { λ r. ⌜ r ≡ receiverWithSccr sccr self ⌝ }
+    // Its progress after a write of SCCR over an old value.
+    pub fn with_sccr(mut self, old: u8, sccr: u8) -> Receiver
+        ensures { λ r. ⌜ r ≡ receiverWithSccr old sccr self ⌝ }
     {
-        if receiver_moves(sccr) {
+        if keeps_receiver(old, sccr) {
             return self;
         }
         idle_receiver()

@@ -1,9 +1,13 @@
-// The asynchronous transmitter.
+// The transmitter.
 ghost use mathlib.Core.Path.{_≡_};
-ghost use Rattle.serial.specs.Transmitter.{idleTransmitter, framed, taken, idleTick, frameEnd, bitTick, sendTick, transmitterClock, line, transmitterWithSccr};
+ghost use Rattle.serial.specs.Transmitter.{idleTransmitter, framed, taken, idleTick, frameEnd, nextPhase, ticked, bitTick, sendTick, transmitterClock, line, shiftClock, transmitterWithSccr};
+ghost use Rattle.serial.specs.Format.{pace};
+use crate::format::ends_bit;
 use crate::format::frame;
 use crate::format::frame_length;
-use crate::format::transmitter_moves;
+use crate::format::keeps_transmitter;
+use crate::format::transmitter_on;
+use crate::format::transmitter_shifts;
 use crate::status::TRANSMITTER_EMPTY;
 use crate::status::TRANSMITTER_EMPTY_WEIGHT;
 use crate::status::UNDERRUN;
@@ -13,7 +17,7 @@ use counters::time::Ticks;
 // The place of the line's bit, by weight.
 const LINE: u16 = 1;
 
-// The bits left of a frame, the phase within a bit, and the bits themselves, the present one lowest.
+// The bits left to send, the phase, and the bits themselves, the present one lowest.
 #[repr(C)]
 pub struct Transmitter {
     pub left: u8,
@@ -38,10 +42,17 @@ pub fn idle_transmitter() -> Transmitter
     }
 }
 
-// A frame begun.
+// A frame begun: in shift-register mode the byte alone.
 fn framed(sccr: u8, byte: u8) -> Transmitter
     ensures { λ r. ⌜ r ≡ framed sccr byte ⌝ }
 {
+    if transmitter_shifts(sccr) {
+        return Transmitter {
+            left: 8,
+            phase: 0,
+            register: byte as u16,
+        };
+    }
     Transmitter {
         left: frame_length(sccr, byte),
         phase: 0,
@@ -62,6 +73,16 @@ fn take(sccr: u8, scsr: u8, byte: u8) -> Sending
         transmitter: framed(sccr, byte),
         scsr: status,
     }
+}
+
+// The phase that a tick makes.
+fn next_phase(phase: u8) -> u8
+    ensures { λ r. ⌜ r ≡ nextPhase phase ⌝ }
+{
+    if phase < 15 {
+        return phase + 1;
+    }
+    0
 }
 
 impl Transmitter {
@@ -92,25 +113,30 @@ impl Transmitter {
         take(sccr, scsr, byte)
     }
 
+    // The phase raised, and at the end of a bit the next one on the line.
+    fn advance(mut self, sccr: u8) -> Transmitter
+        ensures { λ r. ⌜ r ≡ ticked (pace sccr) self ⌝ }
+    {
+        let phase = next_phase(self.phase);
+        self.phase = phase;
+        if ends_bit(sccr, phase) {
+            self.register = self.register / 2;
+            self.left = one_less(self.left);
+            return self;
+        }
+        self
+    }
+
     // A tick with bits left.
     fn bit_tick(mut self, sccr: u8, scsr: u8, byte: u8) -> Sending
         ensures { λ r. ⌜ r ≡ bitTick self sccr scsr byte ⌝ }
     {
-        if self.phase < 15 {
-            self.phase += 1;
-            return Sending {
-                transmitter: self,
-                scsr: scsr,
-            };
-        }
-        self.phase = 0;
-        self.register = self.register / 2;
-        self.left = one_less(self.left);
-        if self.left == 0 {
-            return self.frame_end(sccr, scsr, byte);
+        let next = self.advance(sccr);
+        if next.left == 0 {
+            return next.frame_end(sccr, scsr, byte);
         }
         Sending {
-            transmitter: self,
+            transmitter: next,
             scsr: scsr,
         }
     }
@@ -129,7 +155,7 @@ impl Transmitter {
     pub fn clock(mut self, ticks: Ticks, sccr: u8, scsr: u8, byte: u8) -> Sending
         ensures { λ r. ⌜ r ≡ transmitterClock self ticks sccr scsr byte ⌝ }
     {
-        let moves = (ticks.0 != 0) & transmitter_moves(sccr);
+        let moves = (ticks.0 != 0) & transmitter_on(sccr);
         if moves {
             return self.tick(sccr, scsr, byte);
         }
@@ -140,17 +166,24 @@ impl Transmitter {
     }
 
     // The level of its line, high when idle.
-    pub fn line_level(self, sccr: u8) -> bool
-        ensures { λ r. ⌜ r ≡ line sccr self ⌝ }
+    pub fn line_level(self) -> bool
+        ensures { λ r. ⌜ r ≡ line self ⌝ }
     {
-        !transmitter_moves(sccr) | (self.left == 0) | (self.register / LINE % 2 == 1)
+        (self.left == 0) | (self.register / LINE % 2 == 1)
     }
 
-    // Its progress after a write of SCCR.
-    pub fn with_sccr(mut self, sccr: u8) -> Transmitter
-        ensures { λ r. ⌜ r ≡ transmitterWithSccr sccr self ⌝ }
+    // The level of its shift clock, high when idle.
+    pub fn shift_clock(self) -> bool
+        ensures { λ r. ⌜ r ≡ shiftClock self ⌝ }
     {
-        if transmitter_moves(sccr) {
+        (self.left == 0) | (self.phase % 2 == 1)
+    }
+
+    // Its progress after a write of SCCR over an old value.
+    pub fn with_sccr(mut self, old: u8, sccr: u8) -> Transmitter
+        ensures { λ r. ⌜ r ≡ transmitterWithSccr old sccr self ⌝ }
+    {
+        if keeps_transmitter(old, sccr) {
             return self;
         }
         idle_transmitter()

@@ -1,3 +1,5 @@
+use mathlib.Core.Path.{refl}
+use Rattle.serial.specs.Receiver.{put}
 use native.Mathlib.Omega.{arith}
 use borrow.Author.Needs.{needs}
 use Rattle.serial.proofs.receiver.shifted_in.Statement.{statement}
@@ -11,10 +13,12 @@ add-result c = search needs
 
 -- src/receiver.rt:89:1
 returns : tie.Need-returns
-returns c = rw (c .if1 .taken)
+unfolding put
+returns c = rw (c .if1 .taken) refl
 
 -- src/receiver.rt:89:1
 returns-2 : tie.Need-returns-2
+unfolding put
 returns-2 c = rw (c .if1 .left) (omega arith)
 
 pub shifted-in-spec : {M : Type 1} → statement M

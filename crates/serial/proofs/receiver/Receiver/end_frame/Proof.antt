@@ -1,37 +1,41 @@
 use Rattle.serial.specs.Receiver.{frameEnded}
-use borrow.Author.Tests.{lt-ltb, le-ltb, le-leb, lt-leb, eq-eqb, ne-eqb}
 use borrow.Author.Needs.{needs}
 use Rattle.serial.proofs.receiver.Receiver.end_frame.Statement.{statement}
 use Rattle.serial.proofs.receiver.Receiver.end_frame.Tie as tie
 use Rattle.serial.proofs.receiver.Receiver.end_frame.Reads as reads
 use Rattle.serial.proofs.receiver.Receiver.end_frame.Lts as lts
+use Rattle.serial.proofs.receiver.Receiver.keep.Reads as keep-reads
 use Rattle.serial.proofs.receiver.byte_of.Reads as byte-of-reads
 use Rattle.serial.proofs.receiver.parity_is_wrong.Reads as parity-is-wrong-reads
 use Rattle.serial.proofs.receiver.status_after.Reads as status-after-reads
 
--- src/receiver.rt:117:13
+-- src/receiver.rt:162:13
 parity-is-wrong-requires : tie.Need-parity-is-wrong-requires
 parity-is-wrong-requires c κs = search needs
 
--- src/receiver.rt:118:13
+-- src/receiver.rt:163:13
 status-after-requires : tie.Need-status-after-requires
 status-after-requires c κs = search needs
 
--- src/receiver.rt:120:13
-returns : tie.Need-returns
-unfolding frameEnded
-returns c = rw (← (c .before .before .before .parity-is-wrong .ensures), ← (c .before .status-after .ensures), eq-eqb _ _ (c .if1 .taken))
-
--- src/receiver.rt:122:13
+-- src/receiver.rt:164:13
 byte-of-requires : tie.Need-byte-of-requires
 byte-of-requires c κs = search needs
 
--- src/receiver.rt:114:5
-returns-2 : tie.Need-returns-2
+-- src/receiver.rt:165:9
+keep-requires : tie.Need-keep-requires
+keep-requires c κs = search needs
+
+-- src/receiver.rt:159:5
+returns : tie.Need-returns
 unfolding frameEnded
-returns-2 c = rw (← (c .before .before .before .before .parity-is-wrong .ensures), ← (c .before .before .status-after .ensures), ← (c .byte-of .ensures), ne-eqb _ _ (c .before .if1 .left))
+returns c = rw (← (c .before .before .before .before .parity-is-wrong .ensures), ← (c .before .before .status-after .ensures), ← (c .before .byte-of .ensures), ← (c .keep .ensures))
 
 pub end-frame-spec : {M : Type 1} → statement M
 end-frame-spec =
     tie.close
-    (tie.spec parity-is-wrong-requires status-after-requires returns byte-of-requires returns-2)
+    (tie.spec
+    parity-is-wrong-requires
+    status-after-requires
+    byte-of-requires
+    keep-requires
+    returns)

@@ -1,0 +1,19 @@
+use Rattle.serial.specs.Receiver.{keptWith}
+use borrow.Author.Tests.{lt-ltb, le-ltb, le-leb, lt-leb, eq-eqb, ne-eqb}
+use Rattle.serial.proofs.receiver.Receiver.keep.Statement.{statement}
+use Rattle.serial.proofs.receiver.Receiver.keep.Tie as tie
+use Rattle.serial.proofs.receiver.Receiver.keep.Reads as reads
+use Rattle.serial.proofs.receiver.Receiver.keep.Lts as lts
+
+-- src/receiver.rt:145:13
+returns : tie.Need-returns
+unfolding keptWith
+returns c = rw (eq-eqb _ _ (c .if1 .taken))
+
+-- src/receiver.rt:141:5
+returns-2 : tie.Need-returns-2
+unfolding keptWith
+returns-2 c = rw (ne-eqb _ _ (c .if1 .left))
+
+pub keep-spec : {M : Type 1} → statement M
+keep-spec = tie.close (tie.spec returns returns-2)
