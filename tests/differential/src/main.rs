@@ -96,10 +96,13 @@ fn run(scenarios: u64, seed: u64, threads: u64) -> bool {
     }
     let rare = print_coverage(&coverage);
     println!(
-        "seed {seed}: {} scenarios, {} calls, {} clocks in {} seconds: no difference{}",
+        "seed {seed}: {} scenarios, {} calls, {} clocks, in shift-register mode {} bytes sent and {} received, in {} \
+         seconds: no difference{}",
         coverage.scenarios,
         coverage.calls,
         coverage.clocks,
+        coverage.shifted.sent,
+        coverage.shifted.received,
         begun.elapsed().as_secs(),
         if rare { ", but a kind is rare" } else { "" }
     );

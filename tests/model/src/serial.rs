@@ -79,8 +79,8 @@ fn data_mask(sccr: u8) -> u8 {
     0xFF >> (8 - data_bits(sccr))
 }
 
-/// "While bits are left, bit 0 is the line"; high when idle. It is so in both modes: "lines high on under-run" (document
-/// 02, U1; source document 001, 5.1: "the SO output and shift clock are held in a high state").
+/// "While bits are left, bit 0 is the line"; high when idle. It is so in both modes: "lines high on under-run"
+/// (document 02, U1; source document 001, 5.1: "the SO output and shift clock are held in a high state").
 pub fn transmitter_line(state: &State) -> bool {
     state.transmitter.bits_left == 0 || state.transmitter.register & 1 == 1
 }
@@ -237,8 +237,8 @@ fn end_character(state: &mut State) {
     receive(state, data, faults);
 }
 
-/// Document 02, U1: "at each rise of PA4, a rise with no bits left first making them 8; at the last the byte is bits 3 to
-/// 10". SCSR2 and SCSR3 are of the asynchronous mode alone (source document 001, 5.3).
+/// Document 02, U1: "at each rise of PA4, a rise with no bits left first making them 8; at the last the byte is bits 3
+/// to 10". SCSR2 and SCSR3 are of the asynchronous mode alone (source document 001, 5.3).
 fn receiver_rise(state: &mut State, line: bool) {
     if state.receiver.bits_left == 0 {
         state.receiver.bits_left = SHIFTED_BITS;
@@ -250,8 +250,8 @@ fn receiver_rise(state: &mut State, line: bool) {
 }
 
 /// "if SCSR0 is clear the byte (high bits 0) is kept and SCSR0 set; else SCSR1 is set. Wrong parity sets SCSR2, a low
-/// stop SCSR3." SCSR0 is not set where the character has a fault (001, 5.3, SCSR 0); the byte is still kept (DECISIONS).
-/// Document 02, U1: "with SCSR0 or SCSR1 as in 01".
+/// stop SCSR3." SCSR0 is not set where the character has a fault (001, 5.3, SCSR 0); the byte is still kept
+/// (DECISIONS). Document 02, U1: "with SCSR0 or SCSR1 as in 01".
 fn receive(state: &mut State, data: u8, faults: u8) {
     if state.scsr & SCSR_FULL != 0 {
         state.scsr |= SCSR_OVERRUN;
