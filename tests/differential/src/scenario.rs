@@ -387,7 +387,7 @@ fn fill_outputs(random: &Random, scenario: &mut Scenario) {
         0..=1 => 0,
         2..=4 => random.between(1, 4),
         5..=7 => random.between(5, 20),
-        // a byte in shift-register mode takes up to 18
+        // a byte in shift-register mode takes up to 17
         8..=13 if !shifts(scenario.theme) => 64,
         _ => 500,
     };
