@@ -34,7 +34,7 @@ const RAREST: u64 = 10_000;
 
 const USAGE: &str =
     "usage: differential run scenarios seed [threads] | serial | tapes number seed | replay seed index; \
-                     counts from 1 up";
+     counts from 1 up";
 
 fn main() -> ExitCode {
     let arguments: Vec<String> = std::env::args().skip(1).collect();
