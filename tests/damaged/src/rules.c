@@ -147,10 +147,15 @@ uint32_t driven_word(const r6501q_state *s)
     uint32_t a = p->ports.a;
     const uint32_t d = p->control.mcr & 0x20 ? p->ports.d : 0xFF;
     if (p->control.sccr & 0x80) {
-        /* The transmitter's line: high when idle, and it idles in shift-register mode (SCCR5). */
-        const int sends = p->transmitter.left > 0 && (p->control.sccr & 0x20) == 0;
+        /* The transmitter's line, high when idle, in either mode. */
+        const int sends = p->transmitter.left > 0;
         const uint32_t line = sends ? p->transmitter.register_ & 1 : 1;
         a = (a & ~UINT32_C(0x40)) | line << 6;
+        if (p->control.sccr & 0x20) {
+            /* Document 02, U1: "PA4's drive is its clock, low at even phases while bits are left, else high". */
+            const uint32_t clock = sends ? p->transmitter.phase & 1 : 1;
+            a = (a & ~UINT32_C(0x10)) | clock << 4;
+        }
     }
     return a | (uint32_t)p->ports.b << 8 | (uint32_t)p->ports.c << 16 | d << 24;
 }

@@ -33,7 +33,7 @@ size_t entries_up_to(const given *g, uint32_t clock);
 /* The external levels once the first so many inputs are read. */
 r6501q_levels levels_after(const given *g, size_t entries);
 
-/* Document 01, "Pin lists": the driven word. */
+/* Document 01, "Pin lists", and document 02, U1: the driven word. */
 uint32_t driven_word(const r6501q_state *s);
 
 /* Document 01, "Instructions". */

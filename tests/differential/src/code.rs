@@ -2,7 +2,7 @@
 //! of pages.
 
 use crate::random::Random;
-use crate::states::{interrupt_enables, latch, serial_control};
+use crate::states::{interrupt_enables, latch, serial_control, shift_control};
 use plain_clock::opcodes::{defined, Addressing, Operation, TABLE};
 
 /// The registers that do something, the ports more than once.
@@ -325,4 +325,114 @@ pub fn receiving_loop(random: &Random, memory: &mut [u8], start: u16) {
     } else {
         block(random, memory, start.wrapping_add(11), Style::Quiet, 6);
     }
+}
+
+/// Clocks that pass without an access: none, or some instructions.
+fn delay(random: &Random, writer: &mut Writer) {
+    if random.percent(15) {
+        // LDX, DEX, BNE
+        writer.bytes(&[0xA2, random.between(1, 12) as u8, 0xCA, 0xD0, 0xFD]);
+    } else {
+        for _ in 0..random.pick(&[0, 0, 1, 2, 4, 8]) {
+            writer.byte(0xEA);
+        }
+    }
+}
+
+/// Bits for a receiver in shift-register mode, PA4 and PA7 being driven by port A's latches: RMB4, SMB4; RMB7, SMB7.
+fn clocked_bits(random: &Random, writer: &mut Writer, bits: u32) {
+    for _ in 0..bits {
+        if random.percent(60) {
+            writer.bytes(&[random.pick(&[0x77, 0xF7]), 0x00]);
+        }
+        writer.bytes(&[0x47, 0x00]);
+        if random.percent(20) {
+            delay(random, writer);
+        }
+        writer.bytes(&[0xC7, 0x00]);
+    }
+}
+
+/// A loop that clocks the receiver by port A's latches, and mostly reads what it received.
+pub fn clocking_loop(random: &Random, memory: &mut [u8], start: u16) {
+    let mut writer = Writer { memory, at: start };
+    clocked_bits(random, &mut writer, random.pick(&[1, 3, 4, 8]));
+    if random.percent(50) {
+        writer.bytes(&[0xA5, 0x17, 0x85, 0x02]);
+    }
+    writer.byte(0x4C);
+    writer.word(start);
+}
+
+/// A loop that turns from the sender to the receiver in shift-register mode while a byte is being sent, so that PA4
+/// goes back from clock to latch, mostly with a rise; the other bits of a byte follow by port A or from outside.
+pub fn turning_loop(random: &Random, memory: &mut [u8], start: u16) {
+    let mut writer = Writer { memory, at: start };
+    let sender = random.pick(&[0xA0, 0xB0, 0xE0, 0xF0]) | random.below(16) as u8;
+    writer.bytes(&[0xA9, sender, 0x85, 0x15, 0xA9, random.byte(), 0x85, 0x17]);
+    delay(random, &mut writer);
+    let receiver = random.pick(&[0x50, 0x50, 0xD0]) | random.below(16) as u8;
+    writer.bytes(&[0xA9, receiver, 0x85, 0x15]);
+    if random.percent(60) {
+        clocked_bits(random, &mut writer, random.pick(&[6, 7, 8]));
+    } else {
+        // LDX, DEX, BNE
+        writer.bytes(&[0xA2, random.between(1, 20) as u8, 0xCA, 0xD0, 0xFD]);
+    }
+    if random.percent(40) {
+        writer.bytes(&[0xA5, 0x17]);
+    }
+    writer.byte(0x4C);
+    writer.word(start);
+}
+
+/// A loop that writes SCCR again and again, with either half in either mode, on and off, or the same value once more.
+pub fn switching_loop(random: &Random, memory: &mut [u8], start: u16) {
+    let mut writer = Writer { memory, at: start };
+    let mut control = shift_control(random);
+    for _ in 0..random.between(2, 6) {
+        let form = random.below(16) as u8;
+        control = match random.below(20) {
+            0..=4 => control,
+            5..=6 => control ^ random.pick(&[0x10, 0x20, 0x30, 0x40, 0x80]),
+            7..=8 => random.pick(&[0x00, 0x10, 0x20, 0x40, 0x80, 0xC0]) | form,
+            9 => random.byte(),
+            _ => shift_control(random),
+        };
+        writer.bytes(&[0xA9, control, 0x85, 0x15]);
+        if random.percent(60) {
+            store(random, &mut writer, 0x17);
+        }
+        delay(random, &mut writer);
+        match random.below(10) {
+            0..=1 => clocked_bits(random, &mut writer, random.pick(&[1, 2, 8])),
+            2 => store(random, &mut writer, 0x00),
+            3 => store(random, &mut writer, 0x14),
+            4 => writer.bytes(&[0xA5, random.pick(&[0x00, 0x16, 0x17])]),
+            5 => writer.bytes(&[0xA9, 0x00, 0x85, 0x1A]),
+            6 => writer.bytes(&[random.pick(&[0xE6, 0xC6, 0x06, 0x47, 0xC7]), 0x00]),
+            _ => {}
+        }
+        delay(random, &mut writer);
+    }
+    writer.byte(0x4C);
+    writer.word(start);
+}
+
+/// Stores for the shift-register mode with a small latch of counter A, in any order; gives the address behind them.
+/// Counter A is mostly in mode 01 where it may clock the receiver.
+pub fn shift_setting(random: &Random, memory: &mut [u8], start: u16) -> u16 {
+    let mut writer = Writer { memory, at: start };
+    let control = shift_control(random);
+    let mode = if control & 0xA0 == 0 { random.pick(&[0x01, 0x01, 0x02, 0x00]) } else { random.below(4) as u8 };
+    let stores = [
+        [0xA9, random.pick(&[0, 1, 2, 3]), 0x85, 0x18, 0xA9, 0x00, 0x85, 0x1A],
+        [0xA9, control, 0x85, 0x15, 0xA9, random.byte(), 0x85, 0x17],
+        [0xA9, mode, 0x85, 0x14, 0xA9, random.pick(&[0x00, 0x40, 0x80]), 0x85, 0x12],
+    ];
+    let first = random.below(3) as usize;
+    for i in 0..3 {
+        writer.bytes(&stores[(first + i) % 3]);
+    }
+    writer.at
 }

@@ -9,9 +9,11 @@ use plain_clock::opcodes::{defined, Addressing, Operation, TABLE};
 use plain_clock::pins::{driven_word, falls, level, rises, PIN_NMI, PIN_PA4, PIN_PA5, PIN_PA7, PIN_RES};
 use plain_clock::registers::interrupt_flags;
 use plain_clock::serial::{
-    data_bits, judge_character, parity_enabled, receiver_active, transmitter_active, SCSR_EMPTY, SCSR_END,
+    asynchronous_receiver_on, asynchronous_transmitter_on, data_bits, judge_character, parity_enabled, receiver_on,
+    receiver_shifts, shift_receiver_on, shift_sender_on, transmitter_on, transmitter_shifts, SCSR_EMPTY, SCSR_END,
     SCSR_FRAMING, SCSR_FULL, SCSR_PARITY,
 };
+use plain_clock::shifted::{receiver_shift, sender_tick, ShiftedBytes};
 use plain_clock::state::FLAG_D;
 use plain_clock::{ClockReport, Outcome, State, Turn, World};
 
@@ -69,8 +71,45 @@ kinds! {
     SccrStopsTransmitter: "serial: SCCR written, frame cut off",
     SccrStopsReceiver: "serial: SCCR written, character cut off",
     SccrKeepsFrame: "serial: SCCR written, frame kept, another format",
+    SccrFrameToShift: "serial: SCCR written, transmitter shifts, frame cut off",
+    SccrCharacterToShift: "serial: SCCR written, receiver shifts, character cut off",
     EndCleared: "serial: 17h written with SCSR5 set",
     StatusCleared: "serial: 17h read with a receiver status set",
+    ShiftTaken: "shift: byte taken from idle",
+    ShiftTakenAtEnd: "shift: byte taken at a byte's end",
+    ShiftEnded: "shift: byte ended with none waiting, SCSR7 set",
+    ShiftBeyond: "shift: bit sent with more than 8 left",
+    ShiftSentListening: "shift: byte ended, an asynchronous receiver on",
+    CharacterInShift: "shift: character received while a byte is being sent",
+    ClockUnlikeLatch: "shift: PA4's drive unlike its latch",
+    ClockHeld: "shift: PA4's drive high, held low from outside",
+    ClockPortWritten: "shift: port A written while PA4 is the clock",
+    ShiftByInput: "shift: bit received at a rise by an input",
+    ShiftByPulse: "shift: bit received at a rise by A's underflow in mode 01",
+    ShiftByLoad: "shift: bit received at a rise by 1Ah written in mode 01",
+    ShiftByPort: "shift: bit received at a rise by a write of port A",
+    ShiftBySccr: "shift: bit received at a rise by SCCR, PA4 from clock to latch",
+    ShiftByMode: "shift: bit received at a rise by mode 01 entered",
+    ShiftCounted: "shift: bit received at a rise that A counts",
+    ShiftAndTick: "shift: bit received on the clock of a tick",
+    ShiftBeyondReceived: "shift: bit received with more than 8 left",
+    ShiftReceived: "shift: byte received, SCSR0 set",
+    ShiftOverrun: "shift: byte received over a full data register",
+    ShiftReceivedSending: "shift: byte received while a frame is being sent",
+    SccrStopsSent: "shift: SCCR written, byte being sent cut off",
+    SccrStopsSentSame: "shift: SCCR written as it was, byte being sent cut off",
+    SccrSentToFrames: "shift: SCCR written, asynchronous, byte being sent cut off",
+    SccrStopsReceived: "shift: SCCR written, byte being received cut off",
+    SccrStopsReceivedSame: "shift: SCCR written as it was, byte being received cut off",
+    SccrReceivedToCharacters: "shift: SCCR written, asynchronous, byte being received cut off",
+    Sccr5BesideSccr4: "shift: SCCR5 set beside SCCR4, byte being received cut off",
+    ResetStopsSent: "shift: RES low, byte being sent cut off",
+    ResetStopsReceived: "shift: RES low, byte being received cut off",
+    RiseUnderReset: "shift: RES low, rise of PA4 shifts nothing",
+    CutSent: "shift: call ended within a byte being sent",
+    CutReceived: "shift: call ended within a byte being received",
+    GapSent: "shift: leap with a gap above 0 within a byte being sent",
+    GapReceived: "shift: leap with a gap above 0 within a byte being received",
     ResetEntry: "entry: reset",
     NmiEntry: "entry: NMI",
     NmiOverIrq: "entry: NMI while an IRQ is due",
@@ -124,12 +163,16 @@ kinds! {
     Stop6Full: "stop 6: no entry free and PA4 or PA5 inverted on that clock",
     Stop7Underflow: "stop 7: for an underflow's inversion",
     Stop7Reset: "stop 7: under RES low",
+    Stop7Shift: "stop 7: for the clock of a sender",
 }
 
 const KINDS: usize = TEXTS.len();
 
 /// Data bits 5 to 8, without parity, odd, even.
 const FORMATS: usize = 12;
+
+/// SCCR0 to SCCR3, which the shift-register mode ignores.
+const FORMS: usize = 16;
 
 #[derive(Clone)]
 pub struct Coverage {
@@ -141,6 +184,11 @@ pub struct Coverage {
     registers: [[u64; 64]; 3],
     sent: [u64; FORMATS],
     received: [u64; FORMATS],
+    shift_sent: [u64; FORMS],
+    shift_received: [u64; FORMS],
+    pub shifted: ShiftedBytes,
+    /// What made PA4's drive rise on the last clock.
+    pa4_risen: Option<Kind>,
     pub scenarios: u64,
     pub calls: u64,
     pub clocks: u64,
@@ -158,6 +206,10 @@ impl Coverage {
             registers: [[0; 64]; 3],
             sent: [0; FORMATS],
             received: [0; FORMATS],
+            shift_sent: [0; FORMS],
+            shift_received: [0; FORMS],
+            shifted: ShiftedBytes::default(),
+            pa4_risen: None,
             scenarios: 0,
             calls: 0,
             clocks: 0,
@@ -178,6 +230,8 @@ impl Coverage {
     pub fn scenario(&mut self, scenario: &Scenario) {
         self.scenarios += 1;
         self.refused_before = false;
+        self.shifted.start();
+        self.pa4_risen = None;
         self.met(match scenario.state_kind() {
             StateKind::Fresh => Kind::StartFresh,
             StateKind::Even => Kind::StartEven,
@@ -205,6 +259,8 @@ impl Coverage {
         self.met_if(n > 1_000_000, Kind::RunHuge);
         self.met_if(outcome.number == 0 && outcome.leaps < u64::from(n), Kind::Leaps);
         self.met_if(self.gap > 0, Kind::CutGap);
+        self.met_if(n > 0 && byte_being_sent(&world.state), Kind::CutSent);
+        self.met_if(n > 0 && byte_being_received(&world.state), Kind::CutReceived);
         if outcome.number > 5 {
             self.stop(world);
         }
@@ -220,6 +276,8 @@ impl Coverage {
         self.met_if(world.stop == 6 && inverts && full, Kind::Stop6Full);
         self.met_if(world.stop == 7 && inverts && !reset_low, Kind::Stop7Underflow);
         self.met_if(world.stop == 7 && falls_next(world), Kind::Stop7Reset);
+        let ticks = state.counter_a == 0 && shift_sender_on(state.sccr);
+        self.met_if(world.stop == 7 && ticks && state.wait > 0 && !falls_next(world), Kind::Stop7Shift);
     }
 
     /// A done clock.
@@ -231,6 +289,8 @@ impl Coverage {
         }
         self.met_if(self.gap > 0, Kind::Gap);
         self.met_if(self.gap > 1_000, Kind::LongGap);
+        self.met_if(self.gap > 0 && byte_being_sent(before), Kind::GapSent);
+        self.met_if(self.gap > 0 && byte_being_received(before), Kind::GapReceived);
         self.longest_gap = self.longest_gap.max(self.gap);
         self.gap = 0;
         self.pins(before, after, report);
@@ -238,6 +298,7 @@ impl Coverage {
         if report.met.underflow_a && level(after.last, PIN_RES) {
             self.serial(before, after);
         }
+        self.shift_register(before, after, report);
         match report.start {
             Some(Start::Instruction) => self.instruction(before, after, report),
             Some(start) => self.entry(after, report, start),
@@ -302,11 +363,11 @@ impl Coverage {
     /// A tick with RES high.
     fn serial(&mut self, before: &State, after: &State) {
         let sccr = before.sccr;
-        self.met_if(transmitter_active(sccr) || receiver_active(sccr), Kind::Tick);
-        if transmitter_active(sccr) {
+        self.met_if(transmitter_on(sccr) || receiver_on(sccr), Kind::Tick);
+        if asynchronous_transmitter_on(sccr) {
             self.transmitter(before);
         }
-        if receiver_active(sccr) && before.receiver.half == 1 {
+        if asynchronous_receiver_on(sccr) && before.receiver.half == 1 {
             self.receiver(before, level(after.last, PIN_PA7));
         }
     }
@@ -343,7 +404,58 @@ impl Coverage {
             (false, true) => Kind::CharacterFraming,
             (true, true) => Kind::CharacterBoth,
         });
+        self.met_if(byte_being_sent(before), Kind::CharacterInShift);
         self.received[format(before.sccr)] += 1;
+    }
+
+    /// Either half in shift-register mode: a tick, a rise of PA4, RES low.
+    fn shift_register(&mut self, before: &State, after: &State, report: &ClockReport) {
+        self.shifted.clock(before, after, report);
+        self.shift_sender(before, after, report);
+        if receiver_shift(before, after) {
+            self.shift_receiver(before, after, report);
+        }
+        if !level(after.last, PIN_RES) {
+            let rise = level(rises(before.last, after.last), PIN_PA4);
+            self.met_if(byte_being_sent(before), Kind::ResetStopsSent);
+            self.met_if(byte_being_received(before), Kind::ResetStopsReceived);
+            self.met_if(rise && shift_receiver_on(before.sccr), Kind::RiseUnderReset);
+        }
+        let rose = !driven_word(before) & driven_word(after) & PA4 != 0;
+        self.pa4_risen = if rose { rise_of_drive(before, after, report) } else { None };
+    }
+
+    fn shift_sender(&mut self, before: &State, after: &State, report: &ClockReport) {
+        let Some(tick) = sender_tick(before, after, report) else { return };
+        let waiting = before.scsr & SCSR_EMPTY == 0;
+        let drive = driven_word(before) & PA4;
+        self.met_if(tick.take && !tick.end, Kind::ShiftTaken);
+        self.met_if(tick.take && tick.end, Kind::ShiftTakenAtEnd);
+        self.met_if(tick.end && !waiting, Kind::ShiftEnded);
+        self.met_if(tick.end && receiver_on(before.sccr), Kind::ShiftSentListening);
+        self.met_if(tick.shift && before.transmitter.bits_left > 8, Kind::ShiftBeyond);
+        self.met_if(drive != u32::from(before.ports[0]) & PA4, Kind::ClockUnlikeLatch);
+        self.met_if(drive != 0 && !level(after.external, PIN_PA4), Kind::ClockHeld);
+        self.shift_sent[form(before.sccr)] += u64::from(tick.end);
+    }
+
+    /// A bit received.
+    fn shift_receiver(&mut self, before: &State, after: &State, report: &ClockReport) {
+        let by_input = level(rises(before.external, after.external), PIN_PA4);
+        let cause = if by_input { Some(Kind::ShiftByInput) } else { self.pa4_risen };
+        if let Some(kind) = cause {
+            self.met(kind);
+        }
+        self.met_if(report.met.modes.0 == Mode::Event, Kind::ShiftCounted);
+        self.met_if(report.met.underflow_a, Kind::ShiftAndTick);
+        self.met_if(before.receiver.bits_left > 8, Kind::ShiftBeyondReceived);
+        if before.receiver.bits_left == 1 {
+            let full = before.scsr & SCSR_FULL != 0;
+            let sending = asynchronous_transmitter_on(before.sccr) && before.transmitter.bits_left > 0;
+            self.met(if full { Kind::ShiftOverrun } else { Kind::ShiftReceived });
+            self.met_if(sending, Kind::ShiftReceivedSending);
+            self.shift_received[form(before.sccr)] += 1;
+        }
     }
 
     fn entry(&mut self, after: &State, report: &ClockReport, start: Start) {
@@ -448,17 +560,40 @@ impl Coverage {
                 let after = State { sccr: value, ..before.clone() };
                 let entered = mode_before != Mode::Pulse && mode_a(&after) == Mode::Pulse;
                 self.met_if(entered && latch_low, Kind::EnterPulseSccr);
-                let sending = transmitter_active(before.sccr) && before.transmitter.bits_left > 0;
-                let receiving = receiver_active(before.sccr) && before.receiver.bits_left > 0;
-                self.met_if(sending && !transmitter_active(value), Kind::SccrStopsTransmitter);
-                self.met_if(receiving && !receiver_active(value), Kind::SccrStopsReceiver);
-                let other = format(before.sccr) != format(value);
-                self.met_if(sending && transmitter_active(value) && other, Kind::SccrKeepsFrame);
+                self.control_written(before, value);
             }
+            0x00 => self.met_if(shift_sender_on(before.sccr), Kind::ClockPortWritten),
             0x17 => self.met_if(before.scsr & SCSR_END != 0, Kind::EndCleared),
             0x1A => self.met_if(mode_before == Mode::Pulse, Kind::LoadAPulse),
             0x1E => self.met_if(before.mcr >> 2 & 3 == 1, Kind::LoadBPulse),
             _ => {}
+        }
+    }
+
+    /// A write of SCCR while a frame, a character or a byte is under way.
+    fn control_written(&mut self, before: &State, value: u8) {
+        let same = before.sccr == value;
+        let (sending, receiving) = (before.transmitter.bits_left > 0, before.receiver.bits_left > 0);
+        if asynchronous_transmitter_on(before.sccr) && sending {
+            let other = format(before.sccr) != format(value);
+            self.met_if(!asynchronous_transmitter_on(value), Kind::SccrStopsTransmitter);
+            self.met_if(asynchronous_transmitter_on(value) && other, Kind::SccrKeepsFrame);
+            self.met_if(transmitter_on(value) && transmitter_shifts(value), Kind::SccrFrameToShift);
+        }
+        if asynchronous_receiver_on(before.sccr) && receiving {
+            self.met_if(!asynchronous_receiver_on(value), Kind::SccrStopsReceiver);
+            self.met_if(receiver_on(value) && receiver_shifts(value), Kind::SccrCharacterToShift);
+        }
+        if byte_being_sent(before) {
+            self.met(Kind::SccrStopsSent);
+            self.met_if(same, Kind::SccrStopsSentSame);
+            self.met_if(asynchronous_transmitter_on(value), Kind::SccrSentToFrames);
+        }
+        if byte_being_received(before) {
+            self.met(Kind::SccrStopsReceived);
+            self.met_if(same, Kind::SccrStopsReceivedSame);
+            self.met_if(asynchronous_receiver_on(value), Kind::SccrReceivedToCharacters);
+            self.met_if(asynchronous_receiver_on(value) && value & 0x10 != 0, Kind::Sccr5BesideSccr4);
         }
     }
 
@@ -487,6 +622,9 @@ impl Coverage {
         }
         add_all(&mut self.sent, &other.sent);
         add_all(&mut self.received, &other.received);
+        add_all(&mut self.shift_sent, &other.shift_sent);
+        add_all(&mut self.shift_received, &other.shift_received);
+        self.shifted.add(&other.shifted);
         self.scenarios += other.scenarios;
         self.calls += other.calls;
         self.clocks += other.clocks;
@@ -509,6 +647,10 @@ impl Coverage {
         }
         rows.push(least("least sent of the 12 formats", formats(&self.sent)));
         rows.push(least("least received of the 12 formats", formats(&self.received)));
+        rows.push(least("shift: least sent by SCCR0 to SCCR3", forms(&self.shift_sent)));
+        rows.push(least("shift: least received by SCCR0 to SCCR3", forms(&self.shift_received)));
+        rows.push(("shift: bytes sent whole".to_string(), self.shifted.sent));
+        rows.push(("shift: bytes received whole".to_string(), self.shifted.received));
         rows
     }
 
@@ -525,6 +667,38 @@ fn falls_next(world: &World) -> bool {
     named || !level(world.state.external, PIN_RES)
 }
 
+const PA4: u32 = 1 << PIN_PA4;
+
+/// Whether a sender in shift-register mode has bits left.
+fn byte_being_sent(state: &State) -> bool {
+    shift_sender_on(state.sccr) && state.transmitter.bits_left > 0
+}
+
+/// Whether a receiver in shift-register mode has bits left.
+fn byte_being_received(state: &State) -> bool {
+    shift_receiver_on(state.sccr) && state.receiver.bits_left > 0
+}
+
+/// What makes PA4's drive rise on a clock, so that PA4 may rise on the next.
+fn rise_of_drive(before: &State, after: &State, report: &ClockReport) -> Option<Kind> {
+    let accesses = report.accesses.list();
+    let written = |register: u16| accesses.iter().any(|access| written_at(access, register, register + 1));
+    let (clock_before, clock_after) = (shift_sender_on(before.sccr), shift_sender_on(after.sccr));
+    if written(0x00) && !clock_after {
+        Some(Kind::ShiftByPort)
+    } else if written(0x15) && clock_before && !clock_after {
+        Some(Kind::ShiftBySccr)
+    } else if written(0x14) || written(0x15) {
+        Some(Kind::ShiftByMode)
+    } else if report.met.modes.0 == Mode::Pulse && written(0x1A) {
+        Some(Kind::ShiftByLoad)
+    } else if report.met.modes.0 == Mode::Pulse && report.met.underflow_a {
+        Some(Kind::ShiftByPulse)
+    } else {
+        None
+    }
+}
+
 fn written_at(access: &plain_clock::accesses::Access, from: u16, to: u16) -> bool {
     access.kind == AccessKind::Write && (from..to).contains(&access.address)
 }
@@ -532,6 +706,14 @@ fn written_at(access: &plain_clock::accesses::Access, from: u16, to: u16) -> boo
 fn format(sccr: u8) -> usize {
     let parity = if !parity_enabled(sccr) { 0 } else { 1 + usize::from(sccr & 1) };
     usize::from(data_bits(sccr) - 5) * 3 + parity
+}
+
+fn form(sccr: u8) -> usize {
+    usize::from(sccr & 0x0F)
+}
+
+fn forms(counts: &[u64; FORMS]) -> impl Iterator<Item = (String, u64)> + '_ {
+    counts.iter().enumerate().map(|(form, &count)| (format!("{form:X}h"), count))
 }
 
 fn formats(counts: &[u64; FORMATS]) -> impl Iterator<Item = (String, u64)> + '_ {

@@ -1,9 +1,10 @@
-//! Input lists: edges, NMI, RES and characters on PA7.
+//! Input lists: edges, NMI, RES, characters on PA7, and shift clocks on PA4 with their data on PA7.
 
 use crate::random::Random;
 use plain_clock::serial::{data_bits, parity_bit, parity_enabled};
 
 const HIGH: u8 = 0x40;
+const PA4: u8 = 4;
 const PA7: u8 = 7;
 const NMI: u8 = 32;
 const RES: u8 = 33;
@@ -123,6 +124,35 @@ impl Inputs {
             self.add(at, PA7, true);
         }
         at
+    }
+
+    /// A shift clock on PA4 from outside with bits on PA7, each put there between a fall and the next rise, sometimes
+    /// on the clock of the rise; now and then it pauses.
+    pub fn shifted_bits(&mut self, random: &Random, span: u32) {
+        let low = random.pick(&[1, 1, 2, 4, random.between(1, 8)]);
+        let high = random.pick(&[1, 1, 2, 4, random.between(1, 8)]);
+        let jitter = random.pick(&[0, 0, 1, 3]);
+        let mut distance = random.between(1, 12);
+        while distance < span {
+            let rise = distance + low + random.below(jitter + 1);
+            self.add(distance, PA4, false);
+            self.add(random.pick(&[distance, rise, random.between(distance, rise)]), PA7, random.flag());
+            self.add(rise, PA4, true);
+            distance = rise + high + random.below(jitter + 1);
+            if random.percent(4) {
+                distance += random.between(1, 60);
+            }
+        }
+    }
+
+    /// Levels of PA7 for bits that the chip itself clocks.
+    pub fn line(&mut self, random: &Random, span: u32) {
+        let step = random.pick(&[1, 2, 3, 5, 10]);
+        let mut distance = random.between(1, 6);
+        while distance < span {
+            self.add(distance, PA7, random.flag());
+            distance += random.between(1, 2 * step);
+        }
     }
 
     /// The list by absolute clocks: clocks never fall, and within one clock pins rise strictly. Inputs that have no

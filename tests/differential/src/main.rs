@@ -1,7 +1,7 @@
 //! The library's calls against the plain-clock model, over lists of calls.
 //!
-//! `differential run scenarios seed [threads]`, `differential tapes number seed`, `differential replay seed index`. It
-//! ends with 1 at a difference, with 2 where an argument is wrong.
+//! `differential run scenarios seed [threads]`, `differential serial`, `differential tapes number seed`, `differential
+//! replay seed index`. It ends with 1 at a difference, with 2 where an argument is wrong.
 
 mod code;
 mod compare;
@@ -11,6 +11,7 @@ mod inputs;
 mod memories;
 mod replay;
 mod scenario;
+mod serial;
 mod states;
 mod tapes;
 
@@ -32,7 +33,8 @@ const COUNTED: u64 = 100_000;
 const RAREST: u64 = 10_000;
 
 const USAGE: &str =
-    "usage: differential run scenarios seed [threads] | tapes number seed | replay seed index; counts from 1 up";
+    "usage: differential run scenarios seed [threads] | serial | tapes number seed | replay seed index; \
+     counts from 1 up";
 
 fn main() -> ExitCode {
     let arguments: Vec<String> = std::env::args().skip(1).collect();
@@ -53,6 +55,7 @@ fn right(arguments: &[String]) -> Option<bool> {
     match (what.as_str(), &numbers[..]) {
         ("run", &[scenarios @ (1..), seed]) => Some(run(scenarios, seed, 1)),
         ("run", &[scenarios @ (1..), seed, threads @ (1..)]) => Some(run(scenarios, seed, threads)),
+        ("serial", &[]) => Some(run_serial()),
         ("tapes", &[tapes @ (1..), seed]) => Some(run_tapes(tapes, seed)),
         ("replay", &[seed, index]) => Some(replay::replay(seed, index)),
         _ => None,
@@ -96,10 +99,13 @@ fn run(scenarios: u64, seed: u64, threads: u64) -> bool {
     }
     let rare = print_coverage(&coverage);
     println!(
-        "seed {seed}: {} scenarios, {} calls, {} clocks in {} seconds: no difference{}",
+        "seed {seed}: {} scenarios, {} calls, {} clocks, in shift-register mode {} bytes sent and {} received, in {} \
+         seconds: no difference{}",
         coverage.scenarios,
         coverage.calls,
         coverage.clocks,
+        coverage.shifted.sent,
+        coverage.shifted.received,
         begun.elapsed().as_secs(),
         if rare { ", but a kind is rare" } else { "" }
     );
@@ -151,6 +157,22 @@ fn print_coverage(coverage: &Coverage) -> bool {
     }
     println!("{:>12}  clocks in the longest gap", coverage.longest_gap());
     rare
+}
+
+fn run_serial() -> bool {
+    match serial::check_serial() {
+        Ok(counts) => {
+            println!(
+                "serial channel: {} writes of SCCR, {} states of the transmitter, {} of the receiver: no difference",
+                counts.writes, counts.transmitter, counts.receiver
+            );
+            true
+        }
+        Err(text) => {
+            println!("serial channel: {text}");
+            false
+        }
+    }
 }
 
 fn run_tapes(tapes: u64, seed: u64) -> bool {

@@ -1,11 +1,13 @@
 //! One scenario: a start state, a memory, an input list, free output entries and a list of calls.
 
-use crate::code::{block, receiving_loop, sending_loop, Style};
+use crate::code::{
+    block, clocking_loop, receiving_loop, sending_loop, shift_setting, switching_loop, turning_loop, Style,
+};
 use crate::damage::{damage, FlagDamage};
 use crate::inputs::Inputs;
 use crate::memories::{page_zero, vectors, Backgrounds, LENGTH, UNDEFINED};
 use crate::random::Random;
-use crate::states::{settle_levels, state, StateKind};
+use crate::states::{settle_levels, shift_control, state, StateKind};
 use plain_clock::state::FLAG_I;
 use plain_clock::{fresh, State};
 
@@ -37,6 +39,12 @@ pub enum Theme {
     Counters,
     Sending,
     Receiving,
+    /// Bytes sent in shift-register mode.
+    ShiftSending,
+    /// Bytes received in shift-register mode, PA4 clocked from outside, by counter A or by port A's latch.
+    ShiftReceiving,
+    /// SCCR rewritten, either half in either mode.
+    Switching,
     /// RES low now and then.
     Resets,
     /// PC, stack or both in the registers.
@@ -134,7 +142,7 @@ impl Maker {
         }
         self.backgrounds.copy(self.backgrounds.any(random), memory);
         let code = code_start(random, theme);
-        let quiet = matches!(theme, Theme::Sending | Theme::Receiving | Theme::Counters) && random.percent(75);
+        let quiet = (theme == Theme::Counters || serial(theme)) && random.percent(75);
         let style = if quiet || random.percent(20) { Style::Quiet } else { Style::Wild };
         if random.percent(80) {
             page_zero(random, memory, code);
@@ -143,6 +151,12 @@ impl Maker {
         match theme {
             Theme::Sending if random.percent(70) => sending_loop(random, memory, code),
             Theme::Receiving if random.percent(70) => receiving_loop(random, memory, code),
+            _ if shifts(theme) && random.percent(80) => shift_loop(random, theme, memory, code),
+            Theme::Program if random.percent(30) => {
+                let behind = shift_setting(random, memory, code);
+                let theme = random.pick(&[Theme::ShiftSending, Theme::ShiftReceiving, Theme::Switching]);
+                shift_loop(random, theme, memory, behind);
+            }
             _ => {
                 let instructions = random.pick(&[2, 4, 8, 16, 30]);
                 block(random, memory, code, style, instructions);
@@ -166,6 +180,15 @@ impl Maker {
         match theme {
             Theme::HugeCount => {}
             Theme::Receiving => self.inputs.characters(random, state.sccr, state.latch_a, span),
+            Theme::ShiftSending if state.sccr & 0x40 != 0 => {
+                self.inputs.characters(random, state.sccr, state.latch_a, span);
+            }
+            Theme::ShiftReceiving | Theme::Switching => match random.below(10) {
+                0..=5 => self.inputs.shifted_bits(random, span),
+                6..=8 => self.inputs.line(random, span),
+                _ => {}
+            },
+            Theme::Program if random.percent(20) => self.inputs.shifted_bits(random, span),
             Theme::Counters => {
                 let pulses = random.pick(&[4, 10, 20]);
                 self.inputs.pulses(random, 4, pulses);
@@ -186,7 +209,7 @@ impl Maker {
             if random.percent(8) {
                 self.inputs.nmi(random, span);
             }
-            if random.percent(5) {
+            if random.percent(if serial(theme) { 8 } else { 5 }) {
                 self.inputs.reset(random, span);
             }
         }
@@ -196,24 +219,38 @@ impl Maker {
 
 fn theme(random: &Random) -> Theme {
     match random.below(1000) {
-        0..=99 => Theme::Program,
-        100..=249 => Theme::Even,
-        250..=499 => Theme::NearEvents,
-        500..=599 => Theme::Counters,
-        600..=699 => Theme::Sending,
-        700..=799 => Theme::Receiving,
-        800..=869 => Theme::Resets,
-        870..=929 => Theme::InRegisters,
-        930..=988 => Theme::InPageZero,
+        0..=89 => Theme::Program,
+        90..=179 => Theme::Even,
+        180..=329 => Theme::NearEvents,
+        330..=419 => Theme::Counters,
+        420..=499 => Theme::Sending,
+        500..=589 => Theme::Receiving,
+        590..=674 => Theme::ShiftSending,
+        675..=779 => Theme::ShiftReceiving,
+        780..=834 => Theme::Switching,
+        835..=889 => Theme::Resets,
+        890..=939 => Theme::InRegisters,
+        940..=988 => Theme::InPageZero,
         989 => Theme::LongGaps,
         _ => Theme::HugeCount,
     }
+}
+
+/// Whether a theme is about the serial channel.
+fn serial(theme: Theme) -> bool {
+    shifts(theme) || matches!(theme, Theme::Sending | Theme::Receiving)
+}
+
+/// Whether a theme is about the shift-register mode.
+fn shifts(theme: Theme) -> bool {
+    matches!(theme, Theme::ShiftSending | Theme::ShiftReceiving | Theme::Switching)
 }
 
 /// About how many clocks the calls ask for.
 fn budget(random: &Random, theme: Theme) -> u32 {
     match theme {
         Theme::Sending | Theme::Receiving => random.pick(&[200, 300, 400, 600]),
+        _ if shifts(theme) => random.pick(&[60, 120, 200, 300, 400]),
         Theme::LongGaps => random.pick(&[10_000, 70_000, 140_000]),
         _ if random.percent(1) => random.between(1_000, 5_000),
         _ => random.pick(&[20, 50, 100, 100, 200, 200, 300]),
@@ -225,6 +262,12 @@ fn start_state(random: &Random, theme: Theme) -> State {
     match theme {
         Theme::Sending => set_up_serial(random, &mut start, &[0x80, 0x80, 0xC0, 0xA0]),
         Theme::Receiving => set_up_serial(random, &mut start, &[0x40, 0x40, 0xC0, 0x60]),
+        Theme::ShiftSending => set_up_serial(random, &mut start, &[0xA0, 0xA0, 0xB0, 0xE0, 0xF0]),
+        Theme::ShiftReceiving => set_up_shift_receiver(random, &mut start),
+        Theme::Switching => {
+            let control = shift_control(random);
+            set_up_serial(random, &mut start, &[control]);
+        }
         Theme::Counters => start.sccr = random.pick(&[0, 0, 0, start.sccr]),
         Theme::InRegisters => set_up_registers_as_code(random, &mut start),
         Theme::InPageZero => start.sp = random.between(0x40, 0xFF) as u8,
@@ -252,6 +295,29 @@ fn set_up_serial(random: &Random, state: &mut State, halves: &[u8]) {
         state.receiver.sub_interval = 0;
     }
     settle_levels(random, state);
+}
+
+/// A receiver in shift-register mode, counter A in any mode; PA4 is high but for what clocks it.
+fn set_up_shift_receiver(random: &Random, state: &mut State) {
+    set_up_serial(random, state, &[0x50, 0x50, 0x50, 0xD0]);
+    state.ports[0] |= 0x10;
+    state.external |= 0x10;
+    state.mcr = state.mcr & 0xFC | random.pick(&[0x00, 0x01, 0x01, 0x02, 0x03]);
+    if random.flag() {
+        state.latch_a = random.pick(&[0, 1, 2, 3, 5, 8]);
+    }
+    settle_levels(random, state);
+}
+
+/// What a loop of these themes does.
+fn shift_loop(random: &Random, theme: Theme, memory: &mut [u8], start: u16) {
+    match (theme, random.below(10)) {
+        (Theme::ShiftSending, 0..=6) => sending_loop(random, memory, start),
+        (Theme::ShiftReceiving, 0..=3) => receiving_loop(random, memory, start),
+        (Theme::ShiftReceiving, 4..=6) => clocking_loop(random, memory, start),
+        (Theme::ShiftReceiving, _) | (_, 0..=1) => turning_loop(random, memory, start),
+        _ => switching_loop(random, memory, start),
+    }
 }
 
 /// Registers that read as opcodes and operands, and the stack near them.
@@ -321,7 +387,8 @@ fn fill_outputs(random: &Random, scenario: &mut Scenario) {
         0..=1 => 0,
         2..=4 => random.between(1, 4),
         5..=7 => random.between(5, 20),
-        8..=13 => 64,
+        // a byte in shift-register mode takes up to 17
+        8..=13 if !shifts(scenario.theme) => 64,
         _ => 500,
     };
     let salt = random.long();

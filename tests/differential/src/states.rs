@@ -27,13 +27,19 @@ pub fn latch(random: &Random) -> u16 {
     }
 }
 
-/// A serial control byte: mostly a half or both on and asynchronous, in any format.
+/// A serial control byte: mostly a half or both on, in either mode and any format.
 pub fn serial_control(random: &Random) -> u8 {
-    match random.below(10) {
-        0..=3 => 0,
-        4..=7 => random.pick(&[0x40, 0x80, 0xC0]) | random.below(16) as u8,
+    match random.below(20) {
+        0..=6 => 0,
+        7..=12 => random.pick(&[0x40, 0x80, 0xC0]) | random.below(16) as u8,
+        13..=16 => shift_control(random),
         _ => random.byte(),
     }
+}
+
+/// A serial control byte with the transmitter or the receiver in shift-register mode, the other half on or off.
+pub fn shift_control(random: &Random) -> u8 {
+    random.pick(&[0xA0, 0xA0, 0xB0, 0xE0, 0xF0, 0x50, 0x50, 0x50, 0xD0, 0xD0]) | random.below(16) as u8
 }
 
 pub fn interrupt_enables(random: &Random) -> u8 {

@@ -5,7 +5,7 @@ use crate::counters::{mode_a, mode_b, step_counter_a, step_counter_b, Mode};
 use crate::cpu::{opcode_started, start_on, starts_undefined, step_cpu, undefined_at_pc, Start};
 use crate::pins::{apply_reset, detect_edges, driven_word, level, pin_levels, rises, set_external, PIN_RES};
 use crate::registers::REGISTERS_END;
-use crate::serial::tick;
+use crate::serial::step_serial;
 use crate::state::State;
 
 /// State, memory and the lent lists, with how far they are read and written.
@@ -114,9 +114,7 @@ fn steps_1_to_3(state: &mut State, clocks: &[u32], codes: &[u8]) -> Met {
     let underflow_a = step_counter_a(state, risen, levels);
     let underflow_b = step_counter_b(state, risen);
     // Step 3. "Serial, at each underflow of A; that is a tick."
-    if underflow_a {
-        tick(state, levels);
-    }
+    step_serial(state, underflow_a, risen, levels);
     Met { inputs, levels_differ, reset_changes, modes, underflow_a, underflow_b }
 }
 

@@ -1,7 +1,7 @@
 //! 01, One clock, 2: counters A and B.
 
 use crate::pins::{level, PIN_PA4, PIN_PA5};
-use crate::serial::receiver_asynchronous;
+use crate::serial::{asynchronous_receiver_on, transmitter_on};
 use crate::state::{State, Turn, PORT_A};
 
 pub const IFR_COUNTER_A: u8 = 0x10;
@@ -32,10 +32,10 @@ fn mode_of_bits(bits: u8) -> Mode {
 }
 
 /// 01, One clock, 2: "MCR1, MCR0 choose A's mode"; "SCCR7, or SCCR6 with an asynchronous receiver, holds A to mode 00".
+/// A sender in shift-register mode holds it (SCCR7), a receiver in that mode does not (source document 001, 6.1.5:
+/// "Counter A is not required for the RCVR S/R mode").
 pub fn mode_a(state: &State) -> Mode {
-    let transmitter_on = state.sccr & 0x80 != 0;
-    let receiver_on = state.sccr & 0x40 != 0;
-    if transmitter_on || (receiver_on && receiver_asynchronous(state.sccr)) {
+    if transmitter_on(state.sccr) || asynchronous_receiver_on(state.sccr) {
         Mode::Interval
     } else {
         mode_of_bits(state.mcr)

@@ -12,6 +12,7 @@ pub mod registers;
 pub mod run;
 pub mod scenario;
 pub mod serial;
+pub mod shifted;
 pub mod state;
 pub mod tape;
 

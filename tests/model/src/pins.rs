@@ -1,6 +1,7 @@
 //! 01, Pin lists, and 01, One clock, 1 (levels, edges, RES).
 
-use crate::serial::transmitter_line;
+use crate::counters::PA4_BIT;
+use crate::serial::{shift_clock, shift_sender_on, transmitter_line, transmitter_on};
 use crate::state::{fresh, fresh_receiver, fresh_transmitter, State, PORT_A, PORT_D};
 
 pub const PIN_PA4: u32 = 4;
@@ -8,6 +9,8 @@ pub const PIN_PA5: u32 = 5;
 pub const PIN_PA7: u32 = 7;
 pub const PIN_NMI: u32 = 32;
 pub const PIN_RES: u32 = 33;
+
+const PA6_BIT: u8 = 0x40;
 
 /// Level of one pin in a set of levels.
 pub fn level(levels: u64, pin: u32) -> bool {
@@ -25,16 +28,23 @@ pub fn falls(before: u64, now: u64) -> u64 {
 }
 
 /// 01, Pin lists: "A pin's drive ... is its port latch; but PA6 is the transmitter's line (high when idle) while SCCR7
-/// is set".
+/// is set"; document 02, U1: "PA4's drive is its clock", while the transmitter is on and shifts.
 fn drive_port_a(state: &State) -> u8 {
-    let latch = state.ports[PORT_A];
-    if state.sccr & 0x80 == 0 {
-        return latch;
+    let mut drive = state.ports[PORT_A];
+    if transmitter_on(state.sccr) {
+        drive = with_bit(drive, PA6_BIT, transmitter_line(state));
     }
-    if transmitter_line(state) {
-        latch | 0x40
+    if shift_sender_on(state.sccr) {
+        drive = with_bit(drive, PA4_BIT, shift_clock(state));
+    }
+    drive
+}
+
+fn with_bit(byte: u8, bit: u8, high: bool) -> u8 {
+    if high {
+        byte | bit
     } else {
-        latch & !0x40
+        byte & !bit
     }
 }
 

@@ -1,7 +1,7 @@
 //! 01, Registers: reads and writes at 00h to 3Fh.
 
 use crate::counters::{mode_a, mode_b, Mode, IFR_COUNTER_A, IFR_COUNTER_B, PA4_BIT, PA5_BIT};
-use crate::serial::{receiver_active, transmitter_active};
+use crate::serial::{receiver_on, receiver_shifts, transmitter_on, transmitter_shifts};
 use crate::serial::{SCSR_EMPTY, SCSR_END, SCSR_UNDERRUN};
 use crate::state::{fresh_receiver, fresh_transmitter, State, Turn, PORT_A};
 
@@ -114,17 +114,17 @@ fn write_mcr(state: &mut State, value: u8) {
 }
 
 /// 01, Serial channel: "Writing SCCR zeroes the progress of each half that the new value has off or in shift-register
-/// mode."
+/// mode."; document 02, U1: "A write of SCCR that changes a half's mode zeroes its progress too."
 fn write_sccr(state: &mut State, value: u8) {
-    let before = mode_a(state);
+    let (mode_before, before) = (mode_a(state), state.sccr);
     state.sccr = value;
-    if !transmitter_active(value) {
+    if !transmitter_on(value) || transmitter_shifts(value) || transmitter_shifts(value) != transmitter_shifts(before) {
         state.transmitter = fresh_transmitter();
     }
-    if !receiver_active(value) {
+    if !receiver_on(value) || receiver_shifts(value) || receiver_shifts(value) != receiver_shifts(before) {
         state.receiver = fresh_receiver();
     }
-    enter_pulse_mode_a(state, before);
+    enter_pulse_mode_a(state, mode_before);
 }
 
 /// "Data 17h: ... writing clears SCSR6, SCSR7"; SCSR5 too (001, 5.3).

@@ -1,6 +1,6 @@
-//! 01, Serial channel, and 01, One clock, 3.
+//! 01, Serial channel, and 01, One clock, 3. The shift-register mode is document 02, U1, and source document 001, 5.
 
-use crate::pins::{level, PIN_PA7};
+use crate::pins::{level, PIN_PA4, PIN_PA7};
 use crate::state::State;
 
 pub const SCSR_FULL: u8 = 0x01;
@@ -11,24 +11,48 @@ pub const SCSR_END: u8 = 0x20;
 pub const SCSR_EMPTY: u8 = 0x40;
 pub const SCSR_UNDERRUN: u8 = 0x80;
 
-/// 01, Registers: "SCCR5: transmitter shifts".
-pub fn transmitter_asynchronous(sccr: u8) -> bool {
-    sccr & 0x20 == 0
+/// Source document 001, 5.1: "In the S/R mode, eight data bits are always shifted out."; 5.2: "8 bits of serial data".
+const SHIFTED_BITS: u8 = 8;
+
+/// 01, Serial channel: "Transmitter (SCCR7)".
+pub fn transmitter_on(sccr: u8) -> bool {
+    sccr & 0x80 != 0
 }
 
-/// 01, Registers: "SCCR5: transmitter shifts; else SCCR4: receiver shifts".
-pub fn receiver_asynchronous(sccr: u8) -> bool {
-    sccr & 0x20 != 0 || sccr & 0x10 == 0
+/// 01, Serial channel: "Receiver (SCCR6)".
+pub fn receiver_on(sccr: u8) -> bool {
+    sccr & 0x40 != 0
 }
 
-/// SCCR7 set and not in shift-register mode ("A half in shift-register mode idles").
-pub fn transmitter_active(sccr: u8) -> bool {
-    sccr & 0x80 != 0 && transmitter_asynchronous(sccr)
+/// The transmitter's mode, on or off. 01, Registers: "SCCR5: transmitter shifts".
+pub fn transmitter_shifts(sccr: u8) -> bool {
+    sccr & 0x20 != 0
 }
 
-/// SCCR6 set and not in shift-register mode.
-pub fn receiver_active(sccr: u8) -> bool {
-    sccr & 0x40 != 0 && receiver_asynchronous(sccr)
+/// The receiver's mode, on or off. 01, Registers: "SCCR5: transmitter shifts; else SCCR4: receiver shifts". So the two
+/// never shift at once.
+pub fn receiver_shifts(sccr: u8) -> bool {
+    !transmitter_shifts(sccr) && sccr & 0x10 != 0
+}
+
+/// Document 02, U1: "a sender".
+pub fn shift_sender_on(sccr: u8) -> bool {
+    transmitter_on(sccr) && transmitter_shifts(sccr)
+}
+
+/// Document 02, U1: "A receiver".
+pub fn shift_receiver_on(sccr: u8) -> bool {
+    receiver_on(sccr) && receiver_shifts(sccr)
+}
+
+/// On and not in shift-register mode.
+pub fn asynchronous_transmitter_on(sccr: u8) -> bool {
+    transmitter_on(sccr) && !transmitter_shifts(sccr)
+}
+
+/// On and not in shift-register mode. 01, One clock, 2: "SCCR6 with an asynchronous receiver".
+pub fn asynchronous_receiver_on(sccr: u8) -> bool {
+    receiver_on(sccr) && !receiver_shifts(sccr)
 }
 
 /// 01, Registers: "SCCR3, SCCR2 00 to 11: 8, 7, 6, 5 bits".
@@ -55,27 +79,43 @@ fn data_mask(sccr: u8) -> u8 {
     0xFF >> (8 - data_bits(sccr))
 }
 
-/// "While bits are left, bit 0 is the line"; high when idle. An idle half's line is high whatever its progress
-/// (DECISIONS).
+/// "While bits are left, bit 0 is the line"; high when idle. It is so in both modes: "lines high on under-run"
+/// (document 02, U1; source document 001, 5.1: "the SO output and shift clock are held in a high state").
 pub fn transmitter_line(state: &State) -> bool {
-    if transmitter_active(state.sccr) && state.transmitter.bits_left > 0 {
-        state.transmitter.register & 1 == 1
-    } else {
-        true
-    }
+    state.transmitter.bits_left == 0 || state.transmitter.register & 1 == 1
 }
 
-/// 01, One clock, 3: "Serial, at each underflow of A; that is a tick." `levels` are those of step 1.
-pub fn tick(state: &mut State, levels: u64) {
-    if transmitter_active(state.sccr) {
+/// Document 02, U1: "PA4's drive is its clock, low at even phases while bits are left, else high".
+pub fn shift_clock(state: &State) -> bool {
+    state.transmitter.bits_left == 0 || state.transmitter.phase % 2 == 1
+}
+
+/// 01, One clock, 3: "Serial, at each underflow of A; that is a tick."; document 02, U1: "A receiver in step 3 shifts
+/// PA7 into bit 10 at each rise of PA4", tick or not. `risen` and `levels` are those of step 1.
+pub fn step_serial(state: &mut State, tick: bool, risen: u64, levels: u64) {
+    let line = level(levels, PIN_PA7);
+    if tick && transmitter_on(state.sccr) {
         transmitter_tick(state);
     }
-    if receiver_active(state.sccr) {
-        receiver_tick(state, level(levels, PIN_PA7));
+    if tick && asynchronous_receiver_on(state.sccr) {
+        receiver_tick(state, line);
+    }
+    if level(risen, PIN_PA4) && shift_receiver_on(state.sccr) {
+        receiver_rise(state, line);
     }
 }
 
-/// 01, Serial channel, "Transmitter (SCCR7): ...".
+/// Asynchronous: "from 15 to 0 shifts the register down"; document 02, U1: "shifted at each tick that makes the phase
+/// even".
+fn ticks_per_bit(sccr: u8) -> u8 {
+    if transmitter_shifts(sccr) {
+        2
+    } else {
+        16
+    }
+}
+
+/// 01, Serial channel, "Transmitter (SCCR7): ..."; document 02, U1: "a sender goes by 01's transmitter rule".
 fn transmitter_tick(state: &mut State) {
     if state.transmitter.bits_left == 0 {
         if state.scsr & SCSR_EMPTY == 0 {
@@ -83,17 +123,14 @@ fn transmitter_tick(state: &mut State) {
         }
         return;
     }
-    if state.transmitter.phase < 15 {
-        state.transmitter.phase += 1;
-        return;
+    state.transmitter.phase = (state.transmitter.phase + 1) % 16;
+    if state.transmitter.phase % ticks_per_bit(state.sccr) == 0 {
+        end_transmitted_bit(state);
     }
-    end_transmitted_bit(state);
 }
 
-/// "from 15 to 0 shifts the register down, one bit fewer left"; "None left: it takes the next data that tick, or sets
-/// SCSR7."
+/// "shifts the register down, one bit fewer left"; "None left: it takes the next data that tick, or sets SCSR7."
 fn end_transmitted_bit(state: &mut State) {
-    state.transmitter.phase = 0;
     state.transmitter.register >>= 1;
     state.transmitter.bits_left -= 1;
     if state.transmitter.bits_left > 0 {
@@ -108,12 +145,22 @@ fn end_transmitted_bit(state: &mut State) {
 
 /// "it takes the data, sets SCSR6, phase 0, register and bits left to a frame". A take clears SCSR7 (001, 5.3).
 fn take_data(state: &mut State) {
-    let (register, bits_left) = frame(state.sccr, state.data_sent);
+    let (register, bits_left) = taken_bits(state.sccr, state.data_sent);
     state.scsr |= SCSR_EMPTY;
     state.scsr &= !SCSR_UNDERRUN;
     state.transmitter.phase = 0;
     state.transmitter.register = register;
     state.transmitter.bits_left = bits_left;
+}
+
+/// A frame, or in shift-register mode "its frame the byte alone" (document 02, U1), whatever SCCR0 to SCCR3 are (source
+/// document 001, 5.1: "Bits/character and parity control bits are ignored").
+fn taken_bits(sccr: u8, data: u8) -> (u16, u8) {
+    if transmitter_shifts(sccr) {
+        (u16::from(data), SHIFTED_BITS)
+    } else {
+        frame(sccr, data)
+    }
 }
 
 /// "a frame: start 0, data lowest bit first, parity, stops, bit 0 first"; "Two stops without parity; with it ... one".
@@ -172,18 +219,40 @@ fn look_in_character(state: &mut State, line: bool) {
         return;
     }
     state.receiver.sub_interval = 0;
-    state.receiver.register = state.receiver.register >> 1 | u16::from(line) << 10;
-    state.receiver.bits_left -= 1;
+    shift_in(state, line);
     if state.receiver.bits_left == 0 {
         end_character(state);
     }
 }
 
-/// "At the last, by SCCR then, bit 10 is the stop, parity and data below it: if SCSR0 is clear the byte (high bits 0)
-/// is kept and SCSR0 set; else SCSR1 is set. Wrong parity sets SCSR2, a low stop SCSR3." SCSR0 is not set where the
-/// character has a fault (001, 5.3, SCSR 0); the byte is still kept (DECISIONS).
+/// "shifts the level into bit 10, one bit fewer left", in both modes.
+fn shift_in(state: &mut State, line: bool) {
+    state.receiver.register = state.receiver.register >> 1 | u16::from(line) << 10;
+    state.receiver.bits_left -= 1;
+}
+
+/// "At the last, by SCCR then, bit 10 is the stop, parity and data below it".
 fn end_character(state: &mut State) {
     let (data, faults) = judge_character(state.sccr, state.receiver.register);
+    receive(state, data, faults);
+}
+
+/// Document 02, U1: "at each rise of PA4, a rise with no bits left first making them 8; at the last the byte is bits 3
+/// to 10". SCSR2 and SCSR3 are of the asynchronous mode alone (source document 001, 5.3).
+fn receiver_rise(state: &mut State, line: bool) {
+    if state.receiver.bits_left == 0 {
+        state.receiver.bits_left = SHIFTED_BITS;
+    }
+    shift_in(state, line);
+    if state.receiver.bits_left == 0 {
+        receive(state, (state.receiver.register >> 3) as u8, 0);
+    }
+}
+
+/// "if SCSR0 is clear the byte (high bits 0) is kept and SCSR0 set; else SCSR1 is set. Wrong parity sets SCSR2, a low
+/// stop SCSR3." SCSR0 is not set where the character has a fault (001, 5.3, SCSR 0); the byte is still kept
+/// (DECISIONS). Document 02, U1: "with SCSR0 or SCSR1 as in 01".
+fn receive(state: &mut State, data: u8, faults: u8) {
     if state.scsr & SCSR_FULL != 0 {
         state.scsr |= SCSR_OVERRUN;
     } else {

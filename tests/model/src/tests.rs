@@ -1,8 +1,10 @@
 //! P1 to P8 of 01, and other cases worked out by hand.
 
+mod shift;
+
 use crate::counters::{mode_a, Mode};
 use crate::opcodes::{defined, TABLE};
-use crate::pins::driven_word;
+use crate::pins::{driven_word, pin_levels};
 use crate::registers::{interrupt_flags, register_value, write_register};
 use crate::serial::frame;
 use crate::state::{FLAG_C, FLAG_D, FLAG_I, FLAG_N, FLAG_V, FLAG_Z};

@@ -18,6 +18,8 @@ BRANCHES = {o for n, m in T.items() for k, o in m.items() if k == 'rel'}
 REGISTERS = [0, 1, 2, 3, 0x10, 0x11, 0x12, 0x14, 0x15, 0x16, 0x17, 0x18, 0x19, 0x1A, 0x1C, 0x1D, 0x1E, 0x04, 0x1F]
 WRITERS = {'STA', 'STX', 'STY', 'ASL', 'DEC', 'INC', 'LSR', 'RMB', 'ROL', 'ROR', 'SMB'}
 RARE = {0x00, 0x40, 0x60, 0x6C, 0x4C, 0x20}
+ASYNCHRONOUS = [0x00, 0x40, 0x80, 0xC0]
+SHIFTING = [0xA0, 0xA0, 0xB0, 0xE0, 0xF0, 0x50, 0x50, 0x50, 0xD0]
 
 
 def zero_page(r, written=False):
@@ -72,10 +74,22 @@ def store(value, register):
     return [0xA9, value, 0x85, register]
 
 
+def serial_control(r):
+    """SCCR: each half in each mode, in any form; mostly in shift-register mode where the scenario is about it."""
+    mode = r.choice(SHIFTING if r.random() < (0.8 if r.shifts else 0.3) else ASYNCHRONOUS)
+    return mode | r.randrange(16)
+
+
 def setup(r):
     """Random settings of counters, serial channel and interrupts, in random order."""
     parts = []
     small = lambda: r.choice([0, 0, 1, 2, 3, 5, 9] if not r.quiet else [0, 1, 2, 5, 30])
+    if r.shifts:
+        parts.append(store(r.choice([0, 1, 2]), 0x18) + store(0, 0x1A))
+        parts.append(store(serial_control(r), 0x15) + store(r.randrange(256), 0x17))
+        parts.append(store(r.choice([0, 1, 1, 2, 3]), 0x14))
+        r.shuffle(parts)
+        return [b for part in parts for b in part]
     if r.random() < 0.8:
         parts.append(store(small(), 0x18) + store(0, 0x1A))
     if r.random() < 0.8:
@@ -83,8 +97,7 @@ def setup(r):
     if r.random() < 0.9:
         parts.append(store(r.choice([r.randrange(16), r.randrange(64), 1, 4, 5]), 0x14))
     if r.random() < 0.7:
-        mode = r.choice([0x00, 0x40, 0x80, 0xC0, 0xC0, 0x80, 0xD0, 0xE0])
-        parts.append(store(mode | r.randrange(16), 0x15))
+        parts.append(store(serial_control(r), 0x15))
         if r.random() < 0.7:
             parts.append(store(r.randrange(256), 0x17))
     if r.random() < 0.6:
@@ -96,11 +109,32 @@ def setup(r):
     return code
 
 
+def clocked_bits(r, number):
+    """Rises of PA4 by its latch, with bits on PA7 by its own: RMB4, SMB4, and RMB7 or SMB7."""
+    return [b for _ in range(number) for b in [r.choice([0x77, 0xF7]), 0, 0x47, 0, 0xC7, 0]]
+
+
+def shift_part(r):
+    """What bears on the shift-register mode: bytes to send, bytes read, rises of PA4, SCCR written once more."""
+    k = r.random()
+    if k < 0.35:
+        return store(r.randrange(256), 0x17)
+    if k < 0.5:
+        return [0xA5, 0x17, 0x85, 2]
+    if k < 0.65:
+        return clocked_bits(r, r.choice([1, 2, 8]))
+    if k < 0.75:
+        return store(serial_control(r), 0x15)
+    return [0xEA] * r.randrange(1, 12)
+
+
 def body(r, length):
     code = []
     while len(code) < length:
         k = r.random()
-        if k < 0.08:
+        if r.shifts and k < 0.7:
+            code += shift_part(r)
+        elif k < 0.08:
             code += [0x85, r.choice([1, 2])]
         elif k < 0.11:
             code += [0x08, 0x68, 0x85, r.choice([1, 2])]
@@ -150,11 +184,28 @@ def serial_inputs(r, pins):
         clock += step
 
 
+def shift_inputs(r, pins):
+    """A shift clock on PA4 with bits on PA7, somewhat more than a byte."""
+    low, high = r.choice([1, 2, 4]), r.choice([1, 2, 4])
+    clock = r.randrange(30, 60)
+    level = None
+    for _ in range(r.choice([8, 9, 10])):
+        pins.append((clock, 4))
+        bit = r.randrange(2)
+        if bit != level:
+            pins.append((clock + r.choice([0, low]), 7 | bit << 6))
+        level = bit
+        pins.append((clock + low, 0x44))
+        clock += low + high
+
+
 def inputs(r, clocks):
     pins = []
-    if r.random() < 0.4:
+    if r.shifts and r.random() < 0.6:
+        shift_inputs(r, pins)
+    elif r.random() < 0.4:
         serial_inputs(r, pins)
-    count = r.choice([0, 2, 5, 10, 20])
+    count = r.choice([0, 2, 5, 10, 20] if not r.shifts else [0, 0, 2])
     for _ in range(count):
         pin = r.choice([0, 1, 2, 3, 4, 4, 4, 5, 5, 5, 7, r.randrange(32), 32, 32] + ([33] if r.random() < 0.3 else []))
         clock = r.randrange(1, clocks + 20)
@@ -175,7 +226,8 @@ def inputs(r, clocks):
 
 
 def scenario(r, title):
-    r.quiet = r.random() < 0.5
+    r.shifts = r.random() < 0.4
+    r.quiet = r.random() < (0.8 if r.shifts else 0.5)
     clocks = r.choice([100, 200, 400, 800])
     free = r.choice([0x40, 0x40, 0x40, 0x20, 8, 1])
     text = '#%s\n' % title + tape(program(r))
