@@ -14,7 +14,7 @@ use Rattle.bits.specs.Bits.{low, high, word}
 use Rattle.counters.specs.declared.b.CounterB.{CounterB}
 use Rattle.counters.specs.Counters.{lowerA, upperA, loadCounterA, clockB, downB, reloadB, loadCounterB}
 use Rattle.r6501q_state.specs.declared.state.Peripherals.{Peripherals}
-use Rattle.r6501q_registers.specs.Write.{writeOf, writeCounterA, startA}
+use Rattle.r6501q_registers.specs.Write.{writeOf, startA}
 use Rattle.counters.proofs.Examples as counters
 use Rattle.serial.specs.declared.receiver.Receiver.{Receiver}
 use Rattle.serial.specs.Transmitter.{sending, idleTransmitter}
@@ -45,7 +45,7 @@ sixth-clock-b m c turn = refl
 
 -- 05h written at 18h and 00h at 1Ah load counter A with 5
 loaded : (p : Peripherals) → writeOf (writeOf p 0x18 5) 0x1A 0 .countera ≡ loadCounterA (counters.counterA 0 5)
-unfolding writeOf writeCounterA startA lowerA upperA loadCounterA
+unfolding writeOf startA lowerA upperA loadCounterA
 loaded p =
     let five : low (word (high (p .countera .latch)) 5) ≡ 5 = omega arith in
     rw five

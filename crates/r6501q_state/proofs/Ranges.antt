@@ -13,7 +13,8 @@ use Rattle.serial.specs.Receiver.{receiverFits}
 use Rattle.r6501q_state.specs.declared.state.Peripherals.{Peripherals}
 use Rattle.r6501q_state.specs.declared.state.Levels.{Levels}
 use Rattle.r6501q_state.specs.declared.state.State.{State}
-use Rattle.r6501q_state.specs.State.{fresh, cpuFits, peripheralsFit, wellFormed, flagged}
+use Rattle.r6501q_state.specs.State.{fresh, cpuFits, peripheralsFit, wellFormed}
+use Rattle.r6501q_state.specs.Copies.{flagged}
 use Rattle.r6501q_state.specs.Pins.{rose, fell, edges, withEdges, resetOf, sensedAt, sensed, levelsOf}
 use Rattle.r6501q_state.specs.Inputs.{withInput}
 

@@ -5,12 +5,13 @@ use lib.Bits.{bitAnd}
 use Rattle.bits.specs.Bits.{bit, withBit, setWhere}
 use Rattle.serial.specs.Transmitter.{line, idleTransmitter}
 use Rattle.serial.specs.Receiver.{idleReceiver}
-use Rattle.r6501q_state.specs.declared.state.Cpu.{Cpu}
 use Rattle.r6501q_state.specs.declared.state.Due.{Due}
 use Rattle.r6501q_state.specs.declared.state.Peripherals.{Peripherals}
 use Rattle.r6501q_state.specs.declared.state.Levels.{Levels}
 use Rattle.r6501q_state.specs.declared.state.State.{State}
-use Rattle.r6501q_state.specs.State.{freshPorts, freshControl, flagged}
+use Rattle.r6501q_state.specs.State.{freshPorts, freshControl}
+use Rattle.r6501q_state.specs.Copies.{flagged}
+pub use Rattle.r6501q_state.specs.Copies.{atWait}
 
 -- "A pin's drive .. is its port latch; but PA6 is the transmitter's line .. while SCCR7 is set"
 unfoldable pub driveA : Peripherals → ℕ
@@ -59,9 +60,6 @@ withEdges s now = record {
   last = now;
   clock = s .clock;
 }
-
-abbrev pub atWait : Cpu → ℕ → Cpu
-atWait c w = record { a = c .a; x = c .x; y = c .y; sp = c .sp; p = c .p; pc = c .pc; wait = w }
 
 -- "the fresh values of port latches, MCR, SCCR, SCSR, IER, IFR and serial progress"
 abbrev pub resetPeripherals : Peripherals → Peripherals
