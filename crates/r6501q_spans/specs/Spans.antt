@@ -32,12 +32,14 @@ onlyCpu s =
     && eqb (packed (unpacked (s .cpu .p))) (s .cpu .p)
 
 -- the clocks before the next event clock that is one by anything but the CPU's start: the least over the other kinds of event, n
--- clocks being left; none where more than the CPU may act. With RES high, RES low changes nothing.
+-- clocks being left. With RES high, RES low changes nothing.
+unfoldable pub nearestEvent : ℕ → State → List ℕ → ℕ
+nearestEvent n s clocks =
+    min n (min (toInput n (s .clock) clocks) (min (toChange n s) (min (toUnderflowA n s) (toUnderflowB n s))))
+
+-- none where more than the CPU may act
 unfoldable pub spanOf : ℕ → State → List ℕ → Clocks
-spanOf n s clocks =
-    cond (onlyCpu s)
-    (clocksOf (min n (min (toInput n (s .clock) clocks) (min (toChange n s) (min (toUnderflowA n s) (toUnderflowB n s))))))
-    (clocksOf 0)
+spanOf n s clocks = cond (onlyCpu s) (clocksOf (nearestEvent n s clocks)) (clocksOf 0)
 
 abbrev pub beginWork : State → Work
 beginWork s = record { registers = registersOf (s .cpu); wait = s .cpu .wait; gone = clocksOf 0; leaps = 0 }

@@ -1,4 +1,6 @@
 use Rattle.serial.specs.Receiver.{frameEnded}
+use Prim.Native.Nat.{_/_, _%_}
+use mathlib.Core.Path.{refl}
 use borrow.Author.Tests.{lt-ltb, le-ltb, le-leb, lt-leb, eq-eqb, ne-eqb}
 use borrow.Author.Needs.{needs}
 use Rattle.serial.proofs.receiver.Receiver.end_frame.Statement.{statement}
@@ -20,7 +22,12 @@ status-after-requires c κs = search needs
 -- src/receiver.rt:120:13
 returns : tie.Need-returns
 unfolding frameEnded
-returns c = rw (← (c .before .before .before .parity-is-wrong .ensures), ← (c .before .status-after .ensures), eq-eqb _ _ (c .if1 .taken))
+returns c =
+    rw (
+      c .before .status-after .ensures,
+      c .before .before .before .parity-is-wrong .ensures,
+      eq-eqb (c .before .before .before .before .args .scsr / 1 % 2) 1 (c .if1 .taken),
+    ) refl
 
 -- src/receiver.rt:122:13
 byte-of-requires : tie.Need-byte-of-requires

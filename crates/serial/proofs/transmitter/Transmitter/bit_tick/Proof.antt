@@ -30,7 +30,13 @@ frame-end-requires c κs = search needs
 -- src/transmitter.rt:85:13
 returns-2 : tie.Need-returns-2
 unfolding bitTick
-returns-2 c = rw (← (c .before .before .before .one-less .ensures), ← (c .frame-end .ensures), eq-eqb _ _ (c .before .if2 .taken), le-ltb (c .before .before .before .before .before .before .before .args .self .phase) 15 (omega arith))
+returns-2 c =
+    rw (
+      c .frame-end .ensures,
+      le-ltb (c .before .before .before .before .before .before .before .args .self .phase) 15 (omega arith),
+      ← (c .before .before .before .one-less .ensures),
+      eq-eqb _ _ (c .before .if2 .taken),
+    ) refl
 
 -- src/transmitter.rt:74:5
 returns-3 : tie.Need-returns-3
