@@ -1,3 +1,4 @@
+use mathlib.Core.Path.{refl}
 use borrow.Author.Needs.{needs}
 use Rattle.r6501q_registers.proofs.read.received_read.Statement.{statement}
 use Rattle.r6501q_registers.proofs.read.received_read.Tie as tie
@@ -23,7 +24,13 @@ with-bit-requires-4 c κs = search needs
 
 -- src/read.rt:63:1
 returns : tie.Need-returns
-returns c = rw (← (c .before .before .before .with-bit .ensures), ← (c .before .before .with-bit2 .ensures), ← (c .before .with-bit3 .ensures), ← (c .with-bit4 .ensures))
+returns c =
+    rw (
+      c .with-bit4 .ensures,
+      c .before .with-bit3 .ensures,
+      c .before .before .with-bit2 .ensures,
+      c .before .before .before .with-bit .ensures,
+    ) refl
 
 pub received-read-spec : {M : Type 1} → statement M
 received-read-spec =

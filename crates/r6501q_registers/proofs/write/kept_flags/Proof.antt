@@ -1,3 +1,4 @@
+use mathlib.Core.Path.{refl}
 use Rattle.r6501q_registers.specs.Write.{keptFlags}
 use borrow.Author.Needs.{needs}
 use Rattle.r6501q_registers.proofs.write.kept_flags.Statement.{statement}
@@ -25,7 +26,13 @@ kept-flag-requires-4 c κs = search needs
 -- src/write.rt:125:1
 returns : tie.Need-returns
 unfolding keptFlags
-returns c = rw (← (c .before .before .before .kept-flag .ensures), ← (c .before .before .kept-flag2 .ensures), ← (c .before .kept-flag3 .ensures), ← (c .kept-flag4 .ensures))
+returns c =
+    rw (
+      c .kept-flag4 .ensures,
+      c .before .kept-flag3 .ensures,
+      c .before .before .kept-flag2 .ensures,
+      c .before .before .before .kept-flag .ensures,
+    ) refl
 
 pub kept-flags-spec : {M : Type 1} → statement M
 kept-flags-spec =
