@@ -58,15 +58,18 @@ afterB p mode b =
     (flipWhere 5 (toggles mode (b .underflow)) (p .ports .a))
 
 unfoldable pub countB : Peripherals → ℕ → ℕ → Peripherals
-countB p before now = afterB p (modeB (p .control .mcr)) (clockB (p .counterb) (modeB (p .control .mcr)) (rose 5 before now))
+countB p before now =
+    afterB p (modeB (p .control .mcr)) (clockB (p .counterb) (modeB (p .control .mcr)) (rose 5 before now))
 
 -- step 3: the transmitter, then the receiver, which looks at PA7's level of step 1
 unfoldable pub sentBy : Peripherals → Ticks → Peripherals
-sentBy p ticks = afterSending p (transmitterClock (p .transmitter) ticks (p .control .sccr) (p .control .scsr) (p .serial .sent))
+sentBy p ticks =
+    afterSending p (transmitterClock (p .transmitter) ticks (p .control .sccr) (p .control .scsr) (p .serial .sent))
 
 unfoldable pub heardBy : Peripherals → Ticks → ℕ → Peripherals
 heardBy p ticks now =
-    afterReceiving p (receiverClock (p .receiver) ticks (p .control .sccr) (p .control .scsr) (p .serial .received) (bit 7 now))
+    afterReceiving p (receiverClock (p .receiver) ticks (p .control .sccr) (p .control .scsr) (p .serial .received)
+    (bit 7 now))
 
 -- "Counter A, then B."; "Serial, at each underflow of A; that is a tick."
 abbrev pub afterCountA : Counted → ℕ → ℕ → Peripherals
@@ -83,7 +86,8 @@ workedState before s = withPeripherals s (worked (s .peripherals) before (s .las
 unfoldable pub readyOf : State → List ℕ → State
 readyOf s codes = workedState (s .last .ports) (sensed (inputsSet s codes))
 
--- 01, What is handed back: "6 | the next clock would start an undefined opcode", "7 | the next clock needs a record, none free"
+-- 01, What is handed back: "6 | the next clock would start an undefined opcode", "7 | the next clock needs a record,
+-- none free"
 abbrev pub undefinedStop : ℕ
 undefinedStop = 6
 

@@ -8,8 +8,8 @@ use Rattle.r6501q_state.specs.Copies.{flagged, statused}
 use Rattle.r6501q_state.specs.Control.{flagsOf}
 use Rattle.r6501q_registers.specs.Addresses.{portAAddress, portBAddress, portCAddress, portDAddress, flagClearAddress, interruptFlagsAddress, interruptEnableAddress, modeControlAddress, serialControlAddress, serialStatusAddress, serialDataAddress, lowerAAddress, upperAAddress, startAAddress, lowerBAddress, upperBAddress, startBAddress}
 
--- "Ports 00h to 03h: read step 1's levels"; 001, 4.1: "During the Read cycle of a Read/Modify/Write instruction the Port I/O
--- register is read. For all other read instructions the port input lines are read."
+-- "Ports 00h to 03h: read step 1's levels"; 001, 4.1: "During the Read cycle of a Read/Modify/Write instruction the
+-- Port I/O register is read. For all other read instructions the port input lines are read."
 unfoldable pub portValue : Bool → ℕ → ℕ → ℕ
 portValue latch written levels = cond latch written (levels % 256)
 

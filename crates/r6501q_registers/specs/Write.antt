@@ -21,7 +21,8 @@ loadedB p v = flagged (withCounterB p (loadCounterB (upperB (p .counterb) v))) (
 unfoldable pub startB : Peripherals → ℕ → Peripherals
 startB p v =
     cond (eqb (modeB (p .control .mcr)) 1)
-    (latchedA (withCounterB (loadedB p v) (turnToC (loadCounterB (upperB (p .counterb) v)))) (withBit 5 false (p .ports .a)))
+    (latchedA (withCounterB (loadedB p v) (turnToC (loadCounterB (upperB (p .counterb) v))))
+    (withBit 5 false (p .ports .a)))
     (loadedB p v)
 
 -- 1Ah, "writing 1Ah .. sets the upper latch, loads the counter, clears the flag"; "in mode 01, 1Ah inverts PA4's latch"
@@ -30,7 +31,8 @@ startA p v =
     latchedA (flagged (withCounterA p (loadCounterA (upperA (p .countera) v))) (withBit 4 false (p .control .ifr)))
     (flipWhere 4 (eqb (modeInForce (p .control)) 1) (p .ports .a))
 
--- 17h, "writing clears SCSR6, SCSR7"; 001, 5.3, SCSR 5: cleared "upon writing a new data word into the Transmitter Data Register"
+-- 17h, "writing clears SCSR6, SCSR7"; 001, 5.3, SCSR 5: cleared "upon writing a new data word into the Transmitter
+-- Data Register"
 abbrev pub writeData : Peripherals → ℕ → Peripherals
 writeData p v = withSent (statused p (withBit 7 false (withBit 6 false (withBit 5 false (p .control .scsr))))) v
 
@@ -40,9 +42,12 @@ writeScsr p v = statused p (withBit 5 (bit 5 v) (withBit 4 (bit 4 v) (p .control
 
 -- 001, 6.1.2: "The CA output is initialized high when entering the mode": pulse mode is in force and was not before
 unfoldable pub entering : Peripherals → Control → Peripherals
-entering p c = latchedA (withControl p c) (setWhere 4 (eqb (modeInForce c) 1 && not (eqb (modeInForce (p .control)) 1)) (p .ports .a))
+entering p c =
+    latchedA (withControl p c)
+    (setWhere 4 (eqb (modeInForce c) 1 && not (eqb (modeInForce (p .control)) 1)) (p .ports .a))
 
--- 01, Serial channel: "Writing SCCR zeroes the progress of each half that the new value has off or in shift-register mode."
+-- 01, Serial channel: "Writing SCCR zeroes the progress of each half that the new value has off or in shift-register
+-- mode."
 abbrev pub zeroed : Peripherals → ℕ → Peripherals
 zeroed p sccr = withProgress p (transmitterWithSccr sccr (p .transmitter)) (receiverWithSccr sccr (p .receiver))
 
@@ -61,7 +66,8 @@ keptFlag k v ifr = cond (bit k v) ifr (withBit k false ifr)
 unfoldable pub keptFlags : ℕ → ℕ → ℕ
 keptFlags v ifr = keptFlag 3 v (keptFlag 2 v (keptFlag 1 v (keptFlag 0 v ifr)))
 
--- What a write of v leaves. 01: "write latches"; "1Dh copies latch B to C too"; Machine state, "unassigned registers .. ignore writes".
+-- What a write of v leaves. 01: "write latches"; "1Dh copies latch B to C too"; Machine state, "unassigned registers
+-- .. ignore writes".
 unfoldable pub writeOf : Peripherals → ℕ → ℕ → Peripherals
 writeOf p at v =
     cond (eqb at startBAddress) (startB p v)  -- 1Eh

@@ -15,7 +15,8 @@ pub use Rattle.r6501q_state.specs.Copies.{atWait}
 
 -- "A pin's drive .. is its port latch; but PA6 is the transmitter's line .. while SCCR7 is set"
 unfoldable pub driveA : Peripherals → ℕ
-driveA p = cond (bit 7 (p .control .sccr)) (withBit 6 (line (p .control .sccr) (p .transmitter)) (p .ports .a)) (p .ports .a)
+driveA p =
+    cond (bit 7 (p .control .sccr)) (withBit 6 (line (p .control .sccr) (p .transmitter)) (p .ports .a)) (p .ports .a)
 
 -- "and port D counts as FFh while MCR makes it an input"; Registers, "MCR5: port D output"
 unfoldable pub driveD : Peripherals → ℕ
@@ -31,7 +32,11 @@ drivenWord p = wordOf (driveA p) (p .ports .b) (p .ports .c) (driveD p)
 
 -- "A port pin's level is its drive AND its external level."
 unfoldable pub levelsOf : State → Levels
-levelsOf s = record { ports = bitAnd (drivenWord (s .peripherals)) (s .external .ports); nmi = s .external .nmi; res = s .external .res }
+levelsOf s = record {
+  ports = bitAnd (drivenWord (s .peripherals)) (s .external .ports);
+  nmi = s .external .nmi;
+  res = s .external .res;
+}
 
 -- a rise and a fall of a port pin between two words of levels
 unfoldable pub rose : ℕ → ℕ → ℕ → Bool

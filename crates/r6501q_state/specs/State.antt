@@ -63,7 +63,7 @@ cpuFits c = eqb (c .p / 16 % 4) 0 && leb (c .wait) 6
 abbrev pub peripheralsFit : Peripherals → Bool
 peripheralsFit p = ltb (p .control .ifr) 64 && transmitterFits (p .transmitter) && receiverFits (p .receiver)
 
--- "Well-formed: every field is within its range here." In code, fields of 8, 16 and 32 bits, flags and levels are so by their
--- types, and the theorems over states hold whatever numbers stand there; what types do not say is tested.
+-- "Well-formed: every field is within its range here." In code, fields of 8, 16 and 32 bits, flags and levels are so
+-- by their types, and the theorems over states hold whatever numbers stand there; what types do not say is tested.
 unfoldable pub wellFormed : State → Bool
 wellFormed s = cpuFits (s .cpu) && peripheralsFit (s .peripherals)
