@@ -1,7 +1,9 @@
 -- Document 01, "Machine state": the lent memory, and its first addresses, which are the registers'.
 use mathlib.Core.Bool.{Bool}
+use mathlib.Core.List.{List, _++_}
 use Prim.Native.Nat.{ℕ}
 use lib.Dec.{ltb}
+use lib.ListN.{drop}
 
 -- "Memory: a lent slice of 65,536 bytes."
 abbrev pub memorySpan : ℕ
@@ -13,3 +15,7 @@ registerEnd = 0x40
 
 abbrev pub isRegister : ℕ → Bool
 isRegister a = ltb a registerEnd
+
+-- a memory with other bytes at 0 to 3Fh, `low` being 40h bytes
+unfoldable pub withLow : List ℕ → List ℕ → List ℕ
+withLow low memory = low ++ drop registerEnd memory

@@ -68,7 +68,13 @@ hostWorld w = record {
 
 -- what the library hands back, as the host has it
 abbrev pub hostResultOf : Result → calls.ResultOf HostState
-hostResultOf r = record { number = r .number; state = hostState (r .state); leaps = r .leaps; read = r .read; written = r .written }
+hostResultOf r = record {
+  number = r .number;
+  state = hostState (r .state);
+  leaps = r .leaps;
+  read = r .read;
+  written = r .written;
+}
 
 abbrev pub hostHandedOf : Handed → HostHanded
 hostHandedOf h = record {
@@ -78,15 +84,18 @@ hostHandedOf h = record {
   outputWords = h .outputWords;
 }
 
--- the number of the refusal of an exported call for n clocks, or 0: the same table, in which the state is well-formed or not
+-- the number of the refusal of an exported call for n clocks, or 0: the same table, in which the state is well-formed
+-- or not
 abbrev pub hostRefusalOf : Bool → ℕ → HostWorld → ℕ
 hostRefusalOf formed n w =
     refusalOf r6501qLimits formed (w .state .clock) (length (w .memory)) (w .inputClocks) (w .inputCodes)
     (length (w .outputClocks)) (length (w .outputWords)) n
 
--- an exported call for n clocks: where each flag is 0 or 1, the library's; else the state is not well-formed, and the call is refused
+-- an exported call for n clocks: where each flag is 0 or 1, the library's; else the state is not well-formed, and the
+-- call is refused
 unfoldable pub hostCall : (World → Handed) → ℕ → HostWorld → HostHanded
-hostCall call n w = cond (flagsFit (w .state)) (hostHandedOf (call (worldFromHost w))) (refusedHanded (hostRefusalOf false n w) w)
+hostCall call n w =
+    cond (flagsFit (w .state)) (hostHandedOf (call (worldFromHost w))) (refusedHanded (hostRefusalOf false n w) w)
 
 -- what a load hands back, and memory after it
 pub record HostLoaded : Type 0 where

@@ -36,7 +36,12 @@ abbrev pub counterBFromHost : HostCounterB → CounterB
 counterBFromHost h = record { count = h .count; latchb = h .latchb; latchc = h .latchc; turnc = flagOf (h .turnc) }
 
 abbrev pub receiverFromHost : HostReceiver → Receiver
-receiverFromHost h = record { subinterval = h .subinterval; half = flagOf (h .half); left = h .left; register = h .register }
+receiverFromHost h = record {
+  subinterval = h .subinterval;
+  half = flagOf (h .half);
+  left = h .left;
+  register = h .register;
+}
 
 abbrev pub levelsFromHost : HostLevels → Levels
 levelsFromHost h = record { ports = h .ports; nmi = flagOf (h .nmi); res = flagOf (h .res) }
@@ -109,7 +114,13 @@ hostState s = record {
 }
 
 abbrev pub hostResult : CallResult → HostResult
-hostResult t = record { number = t .number; state = hostState (t .state); leaps = t .leaps; read = t .read; written = t .written }
+hostResult t = record {
+  number = t .number;
+  state = hostState (t .state);
+  leaps = t .leaps;
+  read = t .read;
+  written = t .written;
+}
 
 -- "1 to 5 give back the state given, everything unchanged"
 abbrev pub hostRefused : ℕ → HostState → HostResult

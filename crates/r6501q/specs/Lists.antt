@@ -40,7 +40,10 @@ hostResults (r ∷ rs) = hostResultOf r ∷ hostResults rs
 abbrev pub hostPlain : List Call → HostWorld → HostListed
 hostPlain cs w =
     let v = worldFromHost w in
-    record { world = hostWorld (plains chip (clocksAccepted machine cs v) v); results = hostResults (resultsBy machine cs v) }
+    record {
+      world = hostWorld (plains chip (clocksAccepted machine cs v) v);
+      results = hostResults (resultsBy machine cs v);
+    }
 
 -- where a flag is above 1: each call is refused and hands on what it got
 unfoldable pub refusedEach : List Call → HostWorld → List (calls.ResultOf HostState)
@@ -53,4 +56,5 @@ refusedEach (c ∷ cs) w =
 
 -- Demand 3 of the exported calls, of a list of them and any start
 abbrev pub HostFair : List Call → HostWorld → Type 0
-HostFair cs w = hostCalls cs w ≡ cond (flagsFit (w .state)) (hostPlain cs w) (record { world = w; results = refusedEach cs w })
+HostFair cs w =
+    hostCalls cs w ≡ cond (flagsFit (w .state)) (hostPlain cs w) (record { world = w; results = refusedEach cs w })

@@ -1,4 +1,5 @@
-// The state and what is handed back as the host, a program in C or Rust, holds them: each flag and level is a byte, 0 or 1.
+// The state and what is handed back as the host, a program in C or Rust, holds them: each flag and level is a byte, 0
+// or 1.
 ghost use mathlib.Core.Path.{_≡_};
 ghost use Rattle.r6501q.specs.Host.{dueFromHost, counterBFromHost, receiverFromHost, levelsFromHost, peripheralsFromHost, stateFromHost, flagsFit, hostDue, hostCounterB, hostReceiver, hostLevels, hostPeripherals, hostState, hostResult, hostLoadResult, hostLatchResult};
 use bit_rate::Found;

@@ -28,8 +28,8 @@ use refusals::refusal;
 // What crosses the interface.
 pub mod host;
 
-// What a call hands back where a flag is a byte above 1: the state as it was given, and the first check that fails of a state that is not
-// well-formed.
+// What a call hands back where a flag is a byte above 1: the state as it was given, and the first check that fails of
+// a state that is not well-formed.
 fn flag_refused(
     state: HostState,
     span: usize,
@@ -39,7 +39,8 @@ fn flag_refused(
     outputwords: usize,
     n: u32,
 ) -> HostResult
-    ensures { λ r. ⌜ r ≡ hostRefused (refusalOf r6501qLimits false (state .clock) span (now (inputclocks .entry)) (now (inputcodes .entry)) outputclocks outputwords n) state ⌝ }
+    ensures { λ r. ⌜ r ≡ hostRefused (refusalOf r6501qLimits false (state .clock) span (now (inputclocks .entry))
+        (now (inputcodes .entry)) outputclocks outputwords n) state ⌝ }
 {
     let number = refusal(
         limits(),
@@ -88,7 +89,9 @@ pub extern "C" fn r6501q_step(
     outputclocks: &mut [u32],
     outputwords: &mut [u32],
 ) -> HostResult
-    ensures { λ r. ⌜ hostHanded r (now (memory .exit)) (now (outputclocks .exit)) (now (outputwords .exit)) ≡ hostCall (stepOf machine) 1 (callStart state (now (memory .entry)) (now (inputclocks .entry)) (now (inputcodes .entry)) (now (outputclocks .entry)) (now (outputwords .entry))) ⌝ }
+    ensures { λ r. ⌜ hostHanded r (now (memory .exit)) (now (outputclocks .exit)) (now (outputwords .exit))
+        ≡ hostCall (stepOf machine) 1 (callStart state (now (memory .entry)) (now (inputclocks .entry))
+        (now (inputcodes .entry)) (now (outputclocks .entry)) (now (outputwords .entry))) ⌝ }
 {
     if !flags_fit(state) {
         return flag_refused(
@@ -123,8 +126,12 @@ pub extern "C" fn r6501q_run(
     outputwords: &mut [u32],
     n: u32,
 ) -> HostResult
-    ensures { λ r. ⌜ hostHanded r (now (memory .exit)) (now (outputclocks .exit)) (now (outputwords .exit)) ≡ hostCall (runOf machine n) n (callStart state (now (memory .entry)) (now (inputclocks .entry)) (now (inputcodes .entry)) (now (outputclocks .entry)) (now (outputwords .entry))) ⌝ }
-    ensures { λ r. ⌜ hostHanded r (now (memory .exit)) (now (outputclocks .exit)) (now (outputwords .exit)) ≡ hostCall (plainRunOf machine n) n (callStart state (now (memory .entry)) (now (inputclocks .entry)) (now (inputcodes .entry)) (now (outputclocks .entry)) (now (outputwords .entry))) ⌝ }
+    ensures { λ r. ⌜ hostHanded r (now (memory .exit)) (now (outputclocks .exit)) (now (outputwords .exit))
+        ≡ hostCall (runOf machine n) n (callStart state (now (memory .entry)) (now (inputclocks .entry))
+        (now (inputcodes .entry)) (now (outputclocks .entry)) (now (outputwords .entry))) ⌝ }
+    ensures { λ r. ⌜ hostHanded r (now (memory .exit)) (now (outputclocks .exit)) (now (outputwords .exit))
+        ≡ hostCall (plainRunOf machine n) n (callStart state (now (memory .entry)) (now (inputclocks .entry))
+        (now (inputcodes .entry)) (now (outputclocks .entry)) (now (outputwords .entry))) ⌝ }
 {
     if !flags_fit(state) {
         return flag_refused(

@@ -8,14 +8,12 @@ use Rattle.counters.specs.declared.time.Ticks.{Ticks}
 use Rattle.counters.specs.declared.a.CountedA.{CountedA}
 use Rattle.counters.specs.declared.b.CountedB.{CountedB}
 use Rattle.counters.specs.Counters.{clockA, clockB, toggles, ticksOf}
-use Rattle.serial.specs.declared.transmitter.Sending.{Sending}
-use Rattle.serial.specs.declared.receiver.Receiving.{Receiving}
 use Rattle.serial.specs.Transmitter.{transmitterClock}
 use Rattle.serial.specs.Receiver.{receiverClock}
 use Rattle.r6501q_state.specs.declared.state.Peripherals.{Peripherals}
 use Rattle.r6501q_state.specs.declared.state.Levels.{Levels}
 use Rattle.r6501q_state.specs.declared.state.State.{State}
-use Rattle.r6501q_state.specs.State.{withCounterA, withCounterB, withControl, withScsr, flagged, latchedA}
+use Rattle.r6501q_state.specs.Copies.{withCounterA, withCounterB, flagged, latchedA, withPeripherals}
 use Rattle.r6501q_state.specs.Inputs.{withInput}
 use Rattle.r6501q_state.specs.Control.{modeA, modeB}
 use Rattle.r6501q_state.specs.Pins.{drivenWord, rose, sensed}
@@ -23,6 +21,7 @@ use Rattle.r6501q_cpu.specs.declared.Next.{Next}
 use Rattle.r6501q_cpu.specs.declared.Processed.{Processed}
 use Rattle.r6501q_cpu.specs.declared.Processed.the-variants as processed
 use Rattle.r6501q_cpu.specs.Processor.{processorOf}
+use Rattle.r6501q_clock.specs.Copies.{withExternal, afterSending, afterReceiving}
 use Rattle.r6501q_clock.specs.declared.Counted.{Counted}
 use Rattle.r6501q_clock.specs.declared.Ended.{Ended}
 use Rattle.r6501q_clock.specs.declared.Clocked.{Clocked}
@@ -35,14 +34,7 @@ withInputs l (code ∷ codes) = withInputs (withInput l code) codes
 
 -- "Clock plus 1; inputs of that clock set external levels."
 abbrev pub inputsSet : State → List ℕ → State
-inputsSet s codes = record {
-  cpu = s .cpu;
-  due = s .due;
-  peripherals = s .peripherals;
-  external = withInputs (s .external) codes;
-  last = s .last;
-  clock = s .clock + 1;
-}
+inputsSet s codes = withExternal s (s .clock + 1) (withInputs (s .external) codes)
 
 -- step 2, A: an underflow sets IFR4, and in mode 01 inverts PA4's latch; it is the clock's tick
 abbrev pub afterA : Peripherals → ℕ → CountedA → Counted
@@ -66,38 +58,19 @@ afterB p mode b =
     (flipWhere 5 (toggles mode (b .underflow)) (p .ports .a))
 
 unfoldable pub countB : Peripherals → ℕ → ℕ → Peripherals
-countB p before now = afterB p (modeB (p .control .mcr)) (clockB (p .counterb) (modeB (p .control .mcr)) (rose 5 before now))
+countB p before now =
+    afterB p (modeB (p .control .mcr)) (clockB (p .counterb) (modeB (p .control .mcr)) (rose 5 before now))
 
 -- step 3: the transmitter, then the receiver, which goes by PA7's level and a rise of PA4 in step 1
-abbrev pub afterSending : Peripherals → Sending → Peripherals
-afterSending p x = record {
-  ports = p .ports;
-  countera = p .countera;
-  counterb = p .counterb;
-  control = withScsr (p .control) (x .scsr);
-  serial = p .serial;
-  transmitter = x .transmitter;
-  receiver = p .receiver;
-}
-
 unfoldable pub sentBy : Peripherals → Ticks → Peripherals
-sentBy p ticks = afterSending p (transmitterClock (p .transmitter) ticks (p .control .sccr) (p .control .scsr) (p .serial .sent))
-
-abbrev pub afterReceiving : Peripherals → Receiving → Peripherals
-afterReceiving p x = record {
-  ports = p .ports;
-  countera = p .countera;
-  counterb = p .counterb;
-  control = withScsr (p .control) (x .scsr);
-  serial = record { sent = p .serial .sent; received = x .received };
-  transmitter = p .transmitter;
-  receiver = x .receiver;
-}
+sentBy p ticks =
+    afterSending p (transmitterClock (p .transmitter) ticks (p .control .sccr) (p .control .scsr) (p .serial .sent))
 
 unfoldable pub heardBy : Peripherals → Ticks → ℕ → ℕ → Peripherals
 heardBy p ticks before now =
     afterReceiving p
-    (receiverClock (p .receiver) ticks (rose 4 before now) (p .control .sccr) (p .control .scsr) (p .serial .received) (bit 7 now))
+    (receiverClock (p .receiver) ticks (rose 4 before now) (p .control .sccr) (p .control .scsr) (p .serial .received)
+    (bit 7 now))
 
 -- "Counter A, then B."; "Serial, at each underflow of A; that is a tick."
 abbrev pub afterCountA : Counted → ℕ → ℕ → Peripherals
@@ -108,20 +81,14 @@ worked p before now = afterCountA (countA p before now) before now
 
 -- steps 2 and 3 of a state that has sensed its pins; `before` are the port levels before step 1
 abbrev pub workedState : ℕ → State → State
-workedState before s = record {
-  cpu = s .cpu;
-  due = s .due;
-  peripherals = worked (s .peripherals) before (s .last .ports);
-  external = s .external;
-  last = s .last;
-  clock = s .clock;
-}
+workedState before s = withPeripherals s (worked (s .peripherals) before (s .last .ports))
 
 -- steps 1 to 3, given the codes of this clock's inputs
 unfoldable pub readyOf : State → List ℕ → State
 readyOf s codes = workedState (s .last .ports) (sensed (inputsSet s codes))
 
--- 01, What is handed back: "6 | the next clock would start an undefined opcode", "7 | the next clock needs a record, none free"
+-- 01, What is handed back: "6 | the next clock would start an undefined opcode", "7 | the next clock needs a record,
+-- none free"
 abbrev pub undefinedStop : ℕ
 undefinedStop = 6
 

@@ -8,8 +8,7 @@ use Rattle.counters.specs.Counters.{runsA, runsB, passA, passB}
 use Rattle.r6501q_state.specs.declared.state.Control.{Control}
 use Rattle.r6501q_state.specs.declared.state.Peripherals.{Peripherals}
 use Rattle.r6501q_state.specs.declared.state.State.{State}
-use Rattle.r6501q_state.specs.State.{withCounterA, withCounterB}
-use Rattle.r6501q_state.specs.Pins.{atWait}
+use Rattle.r6501q_state.specs.Copies.{atWait, withCounterA, withCounterB}
 use Rattle.r6501q_state.specs.Control.{modeA, modeB}
 use Rattle.r6501q_gaps.specs.Events.{levelsChange, resetChanges}
 

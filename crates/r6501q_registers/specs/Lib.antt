@@ -1,3 +1,4 @@
 pub mod Addresses
+pub mod Copies
 pub mod Read
 pub mod Write

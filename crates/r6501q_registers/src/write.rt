@@ -1,6 +1,7 @@
 // Writes of the registers at 00h to 3Fh.
 ghost use mathlib.Core.Path.{_≡_};
-ghost use Rattle.r6501q_registers.specs.Write.{writePort, entering, writeMcr, zeroed, writeSccr, writeScsr, writeData, writeControl, startA, writeCounterA, startB, writeCounterB, writeOf};
+ghost use Prim.Native.Nat.{_<_};
+ghost use Rattle.r6501q_registers.specs.Write.{startB, startA, writeData, writeScsr, entering, zeroed, writeSccr, writeMcr, keptFlag, keptFlags, writeOf};
 use crate::addresses::FLAG_CLEAR;
 use crate::addresses::INTERRUPT_ENABLE;
 use crate::addresses::LOWER_A;
@@ -9,6 +10,7 @@ use crate::addresses::MODE_CONTROL;
 use crate::addresses::PORT_A;
 use crate::addresses::PORT_B;
 use crate::addresses::PORT_C;
+use crate::addresses::PORT_D;
 use crate::addresses::SERIAL_CONTROL;
 use crate::addresses::SERIAL_DATA;
 use crate::addresses::SERIAL_STATUS;
@@ -18,26 +20,57 @@ use crate::addresses::UPPER_A;
 use crate::addresses::UPPER_B;
 use r6501q_state::state::Control;
 use r6501q_state::state::Peripherals;
-use r6501q_state::state::Ports;
 
-// A port's latch written.
-fn write_port(mut ports: Ports, address: u16, value: u8) -> Ports
-    ensures { λ r. ⌜ r ≡ writePort ports address value ⌝ }
+// 1Eh: the upper latch, and counter B started.
+fn start_b(mut p: Peripherals, value: u8) -> Peripherals
+    ensures { λ r. ⌜ r ≡ startB p value ⌝ }
 {
-    if address == PORT_A {
-        ports.a = value;
-        return ports;
+    let counter = p.counterb.with_upper(value).load();
+    let mode = p.control.mode_b();
+    let flags = bits::with_bit(p.control.ifr, 5, false);
+    p.control.ifr = flags;
+    if mode == 1 {
+        let turned = counter.turn_to_c();
+        let latch = bits::with_bit(p.ports.a, 5, false);
+        p.counterb = turned;
+        p.ports.a = latch;
+        return p;
     }
-    if address == PORT_B {
-        ports.b = value;
-        return ports;
-    }
-    if address == PORT_C {
-        ports.c = value;
-        return ports;
-    }
-    ports.d = value;
-    ports
+    p.counterb = counter;
+    p
+}
+
+// 1Ah: the upper latch, and counter A started.
+fn start_a(mut p: Peripherals, value: u8) -> Peripherals
+    ensures { λ r. ⌜ r ≡ startA p value ⌝ }
+{
+    let counter = p.countera.with_upper(value).load();
+    let mode = p.control.mode_a();
+    p.countera = counter;
+    let flags = bits::with_bit(p.control.ifr, 4, false);
+    let latch = bits::flip_where(p.ports.a, 4, mode == 1);
+    p.control.ifr = flags;
+    p.ports.a = latch;
+    p
+}
+
+fn write_data(mut p: Peripherals, value: u8) -> Peripherals
+    ensures { λ r. ⌜ r ≡ writeData p value ⌝ }
+{
+    let waiting = bits::with_bit(bits::with_bit(p.control.scsr, 5, false), 6, false);
+    let status = bits::with_bit(waiting, 7, false);
+    p.control.scsr = status;
+    p.serial.sent = value;
+    p
+}
+
+fn write_scsr(mut p: Peripherals, value: u8) -> Peripherals
+    ensures { λ r. ⌜ r ≡ writeScsr p value ⌝ }
+{
+    let woken = bits::with_bit(p.control.scsr, 4, bits::bit8(value, 4));
+    let status = bits::with_bit(woken, 5, bits::bit8(value, 5));
+    p.control.scsr = status;
+    p
 }
 
 // Control registers that may make counter A enter pulse mode, which sets PA4's latch.
@@ -51,14 +84,6 @@ fn entering_mode(mut p: Peripherals, control: Control) -> Peripherals
     p.ports.a = latch;
     p.control = control;
     p
-}
-
-fn write_mcr(p: Peripherals, value: u8) -> Peripherals
-    ensures { λ r. ⌜ r ≡ writeMcr p value ⌝ }
-{
-    let mut control = p.control;
-    control.mcr = value;
-    entering_mode(p, control)
 }
 
 // Progress zeroed in each half that SCCR has off or in shift-register mode, or had in it.
@@ -81,140 +106,89 @@ fn write_sccr(p: Peripherals, value: u8) -> Peripherals
     zero_progress(entered, p.control.sccr, value)
 }
 
-fn write_scsr(mut p: Peripherals, value: u8) -> Peripherals
-    ensures { λ r. ⌜ r ≡ writeScsr p value ⌝ }
+fn write_mcr(p: Peripherals, value: u8) -> Peripherals
+    ensures { λ r. ⌜ r ≡ writeMcr p value ⌝ }
 {
-    let scsr = p.control.scsr;
-    let status = scsr / 64 * 64 + value / 16 % 4 * 16 + scsr % 16;
-    p.control.scsr = status;
-    p
+    let mut control = p.control;
+    control.mcr = value;
+    entering_mode(p, control)
 }
 
-fn write_data(mut p: Peripherals, value: u8) -> Peripherals
-    ensures { λ r. ⌜ r ≡ writeData p value ⌝ }
+// A flag of the IFR, cleared where a zero is written.
+fn kept_flag(k: u8, value: u8, ifr: u8) -> u8
+    requires { ⌜ k < 8 ⌝ }
+    ensures { λ r. ⌜ r ≡ keptFlag k value ifr ⌝ }
 {
-    let waiting = bits::with_bit(bits::with_bit(p.control.scsr, 5, false), 6, false);
-    let status = bits::with_bit(waiting, 7, false);
-    p.control.scsr = status;
-    p.serial.sent = value;
-    p
+    if bits::bit8(value, k) {
+        ifr
+    } else {
+        bits::with_bit(ifr, k, false)
+    }
 }
 
-// The control and serial registers, 10h to 17h.
-fn write_control(mut p: Peripherals, address: u16, value: u8) -> Peripherals
-    ensures { λ r. ⌜ r ≡ writeControl p address value ⌝ }
+fn kept_flags(value: u8, ifr: u8) -> u8
+    ensures { λ r. ⌜ r ≡ keptFlags value ifr ⌝ }
 {
-    if address == FLAG_CLEAR {
-        let flags = p.control.ifr & (0xF0 + value % 16);
-        p.control.ifr = flags;
-        return p;
-    }
-    if address == INTERRUPT_ENABLE {
-        p.control.ier = value;
-        return p;
-    }
-    if address == MODE_CONTROL {
-        return write_mcr(p, value);
-    }
-    if address == SERIAL_CONTROL {
-        return write_sccr(p, value);
-    }
-    if address == SERIAL_STATUS {
-        return write_scsr(p, value);
-    }
-    if address == SERIAL_DATA {
-        return write_data(p, value);
-    }
-    p
-}
-
-// 1Ah: the upper latch, and counter A started.
-fn start_a(mut p: Peripherals, value: u8) -> Peripherals
-    ensures { λ r. ⌜ r ≡ startA p value ⌝ }
-{
-    let counter = p.countera.with_upper(value).load();
-    let mode = p.control.mode_a();
-    p.countera = counter;
-    let flags = bits::with_bit(p.control.ifr, 4, false);
-    let latch = bits::flip_where(p.ports.a, 4, mode == 1);
-    p.control.ifr = flags;
-    p.ports.a = latch;
-    p
-}
-
-// Counter A, 18h to 1Ah.
-fn write_counter_a(mut p: Peripherals, address: u16, value: u8) -> Peripherals
-    ensures { λ r. ⌜ r ≡ writeCounterA p address value ⌝ }
-{
-    if address == LOWER_A {
-        let counter = p.countera.with_lower(value);
-        p.countera = counter;
-        return p;
-    }
-    if address == UPPER_A {
-        let counter = p.countera.with_upper(value);
-        p.countera = counter;
-        return p;
-    }
-    if address == START_A {
-        return start_a(p, value);
-    }
-    p
-}
-
-// 1Eh: the upper latch, and counter B started.
-fn start_b(mut p: Peripherals, value: u8) -> Peripherals
-    ensures { λ r. ⌜ r ≡ startB p value ⌝ }
-{
-    let counter = p.counterb.with_upper(value).load();
-    let mode = p.control.mode_b();
-    let flags = bits::with_bit(p.control.ifr, 5, false);
-    p.control.ifr = flags;
-    if mode == 1 {
-        let turned = counter.turn_to_c();
-        let latch = bits::with_bit(p.ports.a, 5, false);
-        p.counterb = turned;
-        p.ports.a = latch;
-        return p;
-    }
-    p.counterb = counter;
-    p
-}
-
-// Counter B, 1Ch to 1Eh.
-fn write_counter_b(mut p: Peripherals, address: u16, value: u8) -> Peripherals
-    ensures { λ r. ⌜ r ≡ writeCounterB p address value ⌝ }
-{
-    if address == LOWER_B {
-        let counter = p.counterb.with_lower(value);
-        p.counterb = counter;
-        return p;
-    }
-    if address == UPPER_B {
-        let counter = p.counterb.with_upper(value).copy_latch();
-        p.counterb = counter;
-        return p;
-    }
-    if address == START_B {
-        return start_b(p, value);
-    }
-    p
+    let lower = kept_flag(1, value, kept_flag(0, value, ifr));
+    kept_flag(3, value, kept_flag(2, value, lower))
 }
 
 // A write of a register.
 pub fn write(mut p: Peripherals, address: u16, value: u8) -> Peripherals
     ensures { λ r. ⌜ r ≡ writeOf p address value ⌝ }
 {
-    if address < 0x04 {
-        let ports = write_port(p.ports, address, value);
-        p.ports = ports;
-        return p;
+    match address {
+        START_B => start_b(p, value),
+        UPPER_B => {
+            let counter = p.counterb.with_upper(value).copy_latch();
+            p.counterb = counter;
+            p
+        }
+        LOWER_B => {
+            let counter = p.counterb.with_lower(value);
+            p.counterb = counter;
+            p
+        }
+        START_A => start_a(p, value),
+        UPPER_A => {
+            let counter = p.countera.with_upper(value);
+            p.countera = counter;
+            p
+        }
+        LOWER_A => {
+            let counter = p.countera.with_lower(value);
+            p.countera = counter;
+            p
+        }
+        SERIAL_DATA => write_data(p, value),
+        SERIAL_STATUS => write_scsr(p, value),
+        SERIAL_CONTROL => write_sccr(p, value),
+        MODE_CONTROL => write_mcr(p, value),
+        INTERRUPT_ENABLE => {
+            p.control.ier = value;
+            p
+        }
+        FLAG_CLEAR => {
+            let flags = kept_flags(value, p.control.ifr);
+            p.control.ifr = flags;
+            p
+        }
+        PORT_D => {
+            p.ports.d = value;
+            p
+        }
+        PORT_C => {
+            p.ports.c = value;
+            p
+        }
+        PORT_B => {
+            p.ports.b = value;
+            p
+        }
+        PORT_A => {
+            p.ports.a = value;
+            p
+        }
+        _ => p,
     }
-    if address < LOWER_A {
-        return write_control(p, address, value);
-    }
-    if address < LOWER_B {
-        return write_counter_a(p, address, value);
-    }
-    write_counter_b(p, address, value)
 }

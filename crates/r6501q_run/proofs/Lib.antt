@@ -3,3 +3,4 @@ pub mod Runs
 pub mod Spanned
 pub mod Fair
 pub mod Table
+pub mod LowMemory

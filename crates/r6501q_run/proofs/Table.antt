@@ -1,78 +1,58 @@
 -- P1 to P8 of document 01, "Joints, edges and proved examples", and two worked examples of document 02, U1, in one table under one theorem:
 -- each row cites its crate's definitions.
-use mathlib.Core.Path.{_≡_, refl, ap}
+use mathlib.Core.Path.{_≡_}
 use mathlib.Core.Bool.{Bool, true, false}
 use mathlib.Core.List.{List, [], _∷_}
-use Prim.Native.Nat.{ℕ, zero, suc, _≤_, _<_}
-use native.Mathlib.Omega.{arith}
-use lib.ListN.{length, getD, replicate}
+use Prim.Native.Nat.{ℕ, _+_, _≤_, _<_}
+use lib.ListN.{length, getD}
 use Rattle.bits.specs.Lists.{tabulate}
 use Rattle.cpu_opcodes.specs.Decode.{decodeOf, countDefined}
 use Rattle.cpu_opcodes.proofs.Laws as opcodes
 use Rattle.cpu_alu.specs.Arithmetic.{adcOf}
 use Rattle.cpu_alu.proofs.Examples as alu
-use Rattle.bits.specs.Bits.{low, high, word}
-use Rattle.counters.specs.declared.b.CounterB.{CounterB}
-use Rattle.counters.specs.Counters.{lowerA, upperA, loadCounterA, clockB, downB, reloadB, loadCounterB}
-use Rattle.r6501q_state.specs.declared.state.Peripherals.{Peripherals}
-use Rattle.r6501q_registers.specs.Write.{writeOf, writeCounterA, startA}
-use Rattle.counters.proofs.Examples as counters
-use Rattle.serial.specs.declared.receiver.Receiver.{Receiver}
+use Rattle.bits.specs.Bits.{bit}
 use Rattle.serial.specs.Transmitter.{sending, idleTransmitter}
 use Rattle.serial.specs.Receiver.{receiving, idleReceiver}
 use Rattle.serial.proofs.Examples as serial
+use Rattle.r6501q_state.specs.Pins.{sensed}
+use Rattle.r6501q_clock.specs.Clock.{inputsSet}
 use Rattle.refusals.specs.Refusals.{lastClock}
+use Rattle.leaps.specs.Leaps.{plains}
 use Rattle.leaps.specs.Lists.{runFor, calls}
 use Rattle.leaps.specs.Calls.{Fit}
-use Rattle.r6501q_step.specs.R6501q.{World, r6501q, machine}
+use Rattle.r6501q_step.specs.R6501q.{World, r6501q, chip, machine}
+use Rattle.r6501q_step.proofs.Examples as clocks
 use Rattle.r6501q_run.proofs.Fair.{first-half}
 
--- the underflows of n clocks of counter B in mode 00, first clock first
-abbrev underflowsB : ℕ → CounterB → List Bool
-underflowsB zero c = []
-underflowsB (suc n) c = clockB c 0 false .underflow ∷ underflowsB n (clockB c 0 false .counter)
-
-abbrev counterB : ℕ → ℕ → ℕ → Bool → CounterB
-counterB n b c turn = record { count = n; latchb = b; latchc = c; turnc = turn }
-
-every-clock-b : (n m c : ℕ) (turn : Bool) → underflowsB n (loadCounterB (counterB m 0 c turn)) ≡ replicate n true
-unfolding clockB downB reloadB loadCounterB
-every-clock-b zero m c turn = refl
-every-clock-b (suc n) m c turn = ap (λ l. true ∷ l) (every-clock-b n m c turn)
-
-sixth-clock-b : (m c : ℕ) (turn : Bool) → underflowsB 6 (loadCounterB (counterB m 5 c turn)) ≡ false ∷ false ∷ false ∷ false ∷ false ∷ true ∷ []
-unfolding clockB downB reloadB loadCounterB
-sixth-clock-b m c turn = refl
-
--- 05h written at 18h and 00h at 1Ah load counter A with 5
-loaded : (p : Peripherals) → writeOf (writeOf p 0x18 5) 0x1A 0 .countera ≡ loadCounterA (counters.counterA 0 5)
-unfolding writeOf writeCounterA startA lowerA upperA loadCounterA
-loaded p =
-    let five : low (word (high (p .countera .latch)) 5) ≡ 5 = omega arith in
-    rw five
-
 pub record Examples : Type 0 where
-  -- "L = 0: underflow each clock."
-  pub p1 : (n m : ℕ) → counters.underflows n (loadCounterA (counters.counterA m 0)) ≡ replicate n true
-  pub p1-b : (n m c : ℕ) (turn : Bool) → underflowsB n (loadCounterB (counterB m 0 c turn)) ≡ replicate n true
-  -- "L = 5 loaded on clock t: underflow on t + 6.": the six clocks after the writes of 18h and 1Ah in step 4 of clock t; and counter B
-  pub p2 : (p : Peripherals) → counters.underflows 6 (writeOf (writeOf p 0x18 5) 0x1A 0 .countera) ≡ false ∷ false ∷ false ∷ false ∷ false ∷ true ∷ []
-  pub p2-b : (m c : ℕ) (turn : Bool) → underflowsB 6 (loadCounterB (counterB m 5 c turn)) ≡ false ∷ false ∷ false ∷ false ∷ false ∷ true ∷ []
+  -- "L = 0: underflow each clock.": of whole clocks with RES low, of which step 1 clears the flags of both counters and step 2 sets them again
+  pub p1-cleared : (clock : ℕ) → sensed (inputsSet (clocks.heldLow 0x30 clock) []) ≡ clocks.heldLow 0 (clock + 1)
+  pub p1 : (n clock : ℕ) (memory times words : List ℕ)
+      → plains chip n (clocks.startWith (clocks.heldLow 0x30 clock) memory [] [] times words)
+      ≡ clocks.startWith (clocks.heldLow 0x30 (clock + n)) memory [] [] times words
+  -- "L = 5 loaded on clock t: underflow on t + 6.": by STA 1Ah on clock 8; IFR4 after clocks 8 to 14; IFR5 of counter B by STA 1Eh
+  pub p2-loaded : plains chip 8 (clocks.timerStart 0x18 0x1A) .state .peripherals .countera ≡ record { count = 5; latch = 5 }
+  pub p2 : tabulate (λ k. bit 4 (plains chip k (clocks.timerStart 0x18 0x1A) .state .peripherals .control .ifr)) 7 8
+      ≡ false ∷ false ∷ false ∷ false ∷ false ∷ false ∷ true ∷ []
+  pub p2-b : tabulate (λ k. bit 5 (plains chip k (clocks.timerStart 0x1C 0x1E) .state .peripherals .control .ifr)) 7 8
+      ≡ false ∷ false ∷ false ∷ false ∷ false ∷ false ∷ true ∷ []
   -- "decimal 58h + 46h + C: 05h, C."
   pub p3 : (n v i z : Bool) → adcOf 0x58 0x46 (record { n = n; v = v; d = true; i = i; z = z; c = true })
       ≡ record { value = 0x05; status = record { n = true; v = true; d = true; i = i; z = false; c = true } }
   -- "7Fh + 01h: 80h, V, N."
   pub p4 : (n v i z : Bool) → adcOf 0x7F 0x01 (record { n = n; v = v; d = false; i = i; z = z; c = false })
       ≡ record { value = 0x80; status = record { n = true; v = true; d = false; i = i; z = false; c = false } }
-  -- "41h, 8 bits, no parity, latch 0: 176 clocks from start to idle.": the start bit is on the line after clock 1, one bit is left after
-  -- clock 176, and after clock 177 it is idle, with an under-run
-  pub p5-start : (mode : ℕ) → serial.drivenFor 1 mode 0x80 0x41 serial.waiting .sender .transmitter ≡ record { left = 11; phase = 0; register = 0x682 }
-  pub p5-last-bit : (mode : ℕ) → serial.drivenFor 176 mode 0x80 0x41 serial.waiting .sender .transmitter .left ≡ 1
-  pub p5-idle : (mode : ℕ) → serial.drivenFor 177 mode 0x80 0x41 serial.waiting .sender ≡ sending idleTransmitter 0xC0
-  -- "one low sub-interval at the receiver: no start."
-  pub p6 : (register scsr received : ℕ)
-      → let r : Receiver = record { subinterval = 0; half = false; left = 0; register = register } in
-      serial.heardFor 2 0x40 true (serial.heardFor 2 0x40 false (receiving r scsr received)) ≡ receiving r scsr received
+  -- "41h, 8 bits, no parity, latch 0: 176 clocks from start to idle.": STA 17h on clock 16; the start bit is on the line after clock 17, one
+  -- bit is left after clock 192, and after clock 193 it is idle; the line's edges are the chip's records
+  pub p5-start : plains chip 17 clocks.senderStart .state .peripherals .transmitter ≡ record { left = 11; phase = 0; register = 0x682 }
+  pub p5-last-bit : plains chip 192 clocks.senderStart .state .peripherals .transmitter .left ≡ 1
+  pub p5-idle : plains chip 193 clocks.senderStart .state .peripherals .transmitter ≡ idleTransmitter
+  pub p5-edges : plains chip 193 clocks.senderStart .outputClocks ≡ 17 ∷ 33 ∷ 49 ∷ 129 ∷ 145 ∷ 161 ∷ []
+  -- "one low sub-interval at the receiver: no start.": PA7 low on clocks 1 and 2 by the pin list, a tick on each clock
+  pub p6-low : (register received : ℕ) (memory : List ℕ) → plains chip 2 (clocks.lineStart register received memory) .state .peripherals .receiver
+      ≡ record { subinterval = 1; half = false; left = 0; register = register }
+  pub p6 : (register received : ℕ) (memory : List ℕ) → plains chip 4 (clocks.lineStart register received memory) .state .peripherals .receiver
+      ≡ record { subinterval = 0; half = false; left = 0; register = register }
   -- 02, U1, 41h sent with SCCR A0h, latch 0: taken on clock 1, shifted on each second clock, PA4 low and high for each bit; after clock 17
   -- an under-run, both lines high
   pub shift-take : (mode : ℕ) → serial.shiftedFor 1 mode ≡ serial.lines true false 8
@@ -95,16 +75,19 @@ pub record Examples : Type 0 where
 
 pub examples : Examples
 examples = record {
-  p1 = counters.p1;
-  p1-b = every-clock-b;
-  p2 = λ p. rw (loaded p) (counters.p2 0);
-  p2-b = sixth-clock-b;
+  p1-cleared = clocks.p1-cleared;
+  p1 = clocks.p1-clocks;
+  p2-loaded = clocks.p2-loaded;
+  p2 = clocks.p2-clocks;
+  p2-b = clocks.p2-clocks-b;
   p3 = alu.p3;
   p4 = alu.p4;
-  p5-start = serial.p5-start;
-  p5-last-bit = serial.p5-last-bit;
-  p5-idle = serial.p5-idle;
-  p6 = serial.p6;
+  p5-start = clocks.p5-start;
+  p5-last-bit = clocks.p5-last-bit;
+  p5-idle = clocks.p5-idle;
+  p5-edges = clocks.p5-edges;
+  p6-low = clocks.p6-low;
+  p6 = clocks.p6-none;
   shift-take = serial.shift-take;
   shift-high = serial.shift-high;
   shift-second = serial.shift-second;

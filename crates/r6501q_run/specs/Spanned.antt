@@ -17,7 +17,8 @@ use Rattle.r6501q_run.specs.declared.Leaped.{Leaped}
 -- the clocks in which only the CPU acts
 unfoldable pub spanFrom : Leaped → List ℕ → Clocks
 spanFrom at inputClocks =
-    cond (eqb (at .progress .stop) 0) (spanOf (at .left .0) (at .progress .state) (drop (at .progress .read) inputClocks)) (clocksOf 0)
+    cond (eqb (at .progress .stop) 0)
+    (spanOf (at .left .0) (at .progress .state) (drop (at .progress .read) inputClocks)) (clocksOf 0)
 
 -- the run after the leaps of a span
 abbrev pub spannedTo : Leaped → Work → Leaped
@@ -32,8 +33,9 @@ spannedTo at w = record {
   leaps = at .leaps + w .leaps;
 }
 
--- `r` is reached from `at` by so many whole leaps of document 01's, each the gap, the gap passed and the event clock, and the count is raised
--- by as many. How many leaps, none at least, is left free. They are the same for any codes and output lists.
+-- `r` is reached from `at` by so many whole leaps of document 01's, each the gap, the gap passed and the event clock,
+-- and the count is raised by as many. How many leaps, none at least, is left free. They are the same for any codes
+-- and output lists.
 pub record Spanned (at : Leaped) (memory : List ℕ) (r : Leaped) (memory' inputClocks : List ℕ) : Type 0 where
   pub made : ℕ
   pub byLeaps : (inputCodes outputClocks outputWords : List ℕ)

@@ -82,7 +82,10 @@ fn leap(
     requires { ⌜ p .stop ≡ 0 ⌝ }
     requires { ⌜ gap ≡ gapOf (left .0) (p .state) (drop (p .read) (now inputclocks)) ⌝ }
     requires { ⌜ now entries ≡ opcodeTable ⌝ }
-    ensures { λ r. ⌜ worldOf r (now (memory .exit)) (now (inputclocks .entry)) (now (inputcodes .entry)) (now (outputclocks .exit)) (now (outputwords .exit)) ≡ leapOf chip (left .0) (worldOf p (now (memory .entry)) (now (inputclocks .entry)) (now (inputcodes .entry)) (now (outputclocks .entry)) (now (outputwords .entry))) ⌝ }
+    ensures { λ r. ⌜ worldOf r (now (memory .exit)) (now (inputclocks .entry)) (now (inputcodes .entry))
+        (now (outputclocks .exit)) (now (outputwords .exit))
+        ≡ leapOf chip (left .0) (worldOf p (now (memory .entry)) (now (inputclocks .entry)) (now (inputcodes .entry))
+        (now (outputclocks .entry)) (now (outputwords .entry))) ⌝ }
 {
     let passed = pass_progress(p, gap);
     if gap.0 < left.0 {
@@ -116,12 +119,18 @@ fn leap_once(
     outputwords: &mut [u32],
     entries: &[u16],
 ) -> Leaped
-    requires { ⌜ Leaping (at .progress) (at .left .0) (now inputclocks) (now inputcodes) (now outputclocks) (now outputwords) ⌝ }
+    requires { ⌜ Leaping (at .progress) (at .left .0) (now inputclocks) (now inputcodes) (now outputclocks)
+        (now outputwords) ⌝ }
     requires { ⌜ (0 < at .left .0) × (at .progress .stop ≡ 0) ⌝ }
     requires { ⌜ at .leaps + at .left .0 ≤ 4294967295 ⌝ }
     requires { ⌜ now entries ≡ opcodeTable ⌝ }
-    ensures { λ r. ⌜ worldOf (r .progress) (now (memory .exit)) (now (inputclocks .entry)) (now (inputcodes .entry)) (now (outputclocks .exit)) (now (outputwords .exit)) ≡ leapOf chip (at .left .0) (worldOf (at .progress) (now (memory .entry)) (now (inputclocks .entry)) (now (inputcodes .entry)) (now (outputclocks .entry)) (now (outputwords .entry))) ⌝ }
-    ensures { λ r. ⌜ r .left ≡ clocksOf (leftAfter chip (at .left .0) (worldOf (at .progress) (now (memory .entry)) (now (inputclocks .entry)) (now (inputcodes .entry)) (now (outputclocks .entry)) (now (outputwords .entry)))) ⌝ }
+    ensures { λ r. ⌜ worldOf (r .progress) (now (memory .exit)) (now (inputclocks .entry)) (now (inputcodes .entry))
+        (now (outputclocks .exit)) (now (outputwords .exit))
+        ≡ leapOf chip (at .left .0) (worldOf (at .progress) (now (memory .entry)) (now (inputclocks .entry))
+        (now (inputcodes .entry)) (now (outputclocks .entry)) (now (outputwords .entry))) ⌝ }
+    ensures { λ r. ⌜ r .left ≡ clocksOf (leftAfter chip (at .left .0) (worldOf (at .progress) (now (memory .entry))
+        (now (inputclocks .entry)) (now (inputcodes .entry)) (now (outputclocks .entry))
+        (now (outputwords .entry)))) ⌝ }
     ensures { λ r. ⌜ r .leaps ≡ at .leaps + leapsFrom (at .progress .state .clock) (r .progress .state .clock) ⌝ }
 {
     let p = at.progress;
@@ -160,7 +169,8 @@ fn span_from(at: Leaped, inputclocks: &[u32]) -> Clocks
 
 // A run after the leaps of a span.
 fn spanned_to(at: Leaped, w: Work) -> Leaped
-    requires { ⌜ (at .progress .state .clock + w .gone .0 ≤ 4294967295) × (at .leaps + w .leaps ≤ 4294967295) × (w .gone .0 ≤ at .left .0) ⌝ }
+    requires { ⌜ (at .progress .state .clock + w .gone .0 ≤ 4294967295) × (at .leaps + w .leaps ≤ 4294967295)
+        × (w .gone .0 ≤ at .left .0) ⌝ }
     ensures { λ r. ⌜ r ≡ spannedTo at w ⌝ }
 {
     let state = r6501q_spans::working_state(at.progress.state, w);
@@ -224,10 +234,14 @@ fn leap_on(
     outputwords: &mut [u32],
     entries: &[u16],
 ) -> Leaped
-    requires { ⌜ Leaping (start .progress) (start .left .0) (now inputclocks) (now inputcodes) (now outputclocks) (now outputwords) ⌝ }
+    requires { ⌜ Leaping (start .progress) (start .left .0) (now inputclocks) (now inputcodes) (now outputclocks)
+        (now outputwords) ⌝ }
     requires { ⌜ start .leaps + start .left .0 ≤ 4294967295 ⌝ }
     requires { ⌜ now entries ≡ opcodeTable ⌝ }
-    ensures { λ r. ⌜ runEnded r (now (memory .exit)) (now (inputclocks .entry)) (now (inputcodes .entry)) (now (outputclocks .exit)) (now (outputwords .exit)) ≡ runFrom start (now (memory .entry)) (now (inputclocks .entry)) (now (inputcodes .entry)) (now (outputclocks .entry)) (now (outputwords .entry)) ⌝ }
+    ensures { λ r. ⌜ runEnded r (now (memory .exit)) (now (inputclocks .entry)) (now (inputcodes .entry))
+        (now (outputclocks .exit)) (now (outputwords .exit))
+        ≡ runFrom start (now (memory .entry)) (now (inputclocks .entry)) (now (inputcodes .entry))
+        (now (outputclocks .entry)) (now (outputwords .entry)) ⌝ }
 {
     let mut at = start;
     while goes_on(at) {
@@ -266,8 +280,12 @@ pub fn run(
     outputwords: &mut [u32],
     n: u32,
 ) -> CallResult
-    ensures { λ r. ⌜ handed r (now (memory .exit)) (now (outputclocks .exit)) (now (outputwords .exit)) ≡ runOf machine n (callStart state (now (memory .entry)) (now (inputclocks .entry)) (now (inputcodes .entry)) (now (outputclocks .entry)) (now (outputwords .entry))) ⌝ }
-    ensures { λ r. ⌜ handed r (now (memory .exit)) (now (outputclocks .exit)) (now (outputwords .exit)) ≡ plainRunOf machine n (callStart state (now (memory .entry)) (now (inputclocks .entry)) (now (inputcodes .entry)) (now (outputclocks .entry)) (now (outputwords .entry))) ⌝ }
+    ensures { λ r. ⌜ handed r (now (memory .exit)) (now (outputclocks .exit)) (now (outputwords .exit))
+        ≡ runOf machine n (callStart state (now (memory .entry)) (now (inputclocks .entry)) (now (inputcodes .entry))
+        (now (outputclocks .entry)) (now (outputwords .entry))) ⌝ }
+    ensures { λ r. ⌜ handed r (now (memory .exit)) (now (outputclocks .exit)) (now (outputwords .exit))
+        ≡ plainRunOf machine n (callStart state (now (memory .entry)) (now (inputclocks .entry))
+        (now (inputcodes .entry)) (now (outputclocks .entry)) (now (outputwords .entry))) ⌝ }
 {
     let number = call_refusal(
         state,

@@ -4,7 +4,7 @@ use mathlib.Core.Path.{_≡_, refl, sym, ap, _∙_}
 use mathlib.Core.Bool.{Bool, true, false, _&&_, _||_, not, cond, false≢true}
 use mathlib.Core.List.{List, [], _∷_}
 use Prim.Native.Nat.{ℕ, _+_, _-_, _≤_, _<_, min}
-use native.Mathlib.Nat.{add-assoc}
+use native.Mathlib.Nat.{add-assoc, lt-of-lt-of-le}
 use native.Mathlib.Omega.{arith}
 use lib.Bits.{bitAnd}
 use lib.Dec.{ltb, eqb}
@@ -42,7 +42,7 @@ use Rattle.r6501q_gaps.proofs.Quiet.{Still, workedTo, ahead, ready-still}
 use Rattle.r6501q_gaps.proofs.Gaps.{no-event, not-due}
 use Rattle.r6501q_clock.specs.declared.Clocked.the-variants.{Done}
 use Rattle.r6501q_clock.specs.Clock.{endedWith, finished, recorded, clockOf}
-use Rattle.r6501q_spans.specs.Spans.{onlyCpu, spanOf, workingState, writesRegister}
+use Rattle.r6501q_spans.specs.Spans.{onlyCpu, nearestEvent, spanOf, workingState, writesRegister}
 
 -- what is known of a state at the start of a span
 pub record Alone (n : ℕ) (s : State) (clocks : List ℕ) (span : ℕ) : Type 0 where
@@ -61,6 +61,28 @@ up-to-count : (t : Bool) (k n span : ℕ) → span ≤ cond t k n → t ≡ true
 up-to-count true k n span h e = h
 up-to-count false k n span h e = absurd (false≢true e)
 
+-- a span ends before each kind of event
+module _ (n : ℕ) (s : State) (clocks : List ℕ) where
+  within-left : nearestEvent n s clocks ≤ n
+  unfolding nearestEvent
+  within-left = omega arith
+
+  before-input : nearestEvent n s clocks ≤ toInput n (s .clock) clocks
+  unfolding nearestEvent
+  before-input = omega arith
+
+  before-change : nearestEvent n s clocks ≤ toChange n s
+  unfolding nearestEvent
+  before-change = omega arith
+
+  before-underflow-a : nearestEvent n s clocks ≤ toUnderflowA n s
+  unfolding nearestEvent
+  before-underflow-a = omega arith
+
+  before-underflow-b : nearestEvent n s clocks ≤ toUnderflowB n s
+  unfolding nearestEvent
+  before-underflow-b = omega arith
+
 pub alone : (n : ℕ) (s : State) (clocks : List ℕ) → 0 < spanOf n s clocks .0 → Alone n s clocks (spanOf n s clocks .0)
 unfolding spanOf toChange toUnderflowA toUnderflowB onlyCpu
 alone n s clocks h = by-test (onlyCpu s) refl h
@@ -77,8 +99,8 @@ alone n s clocks h = by-test (onlyCpu s) refl h
     kept : Bool
     kept = eqb (packed (unpacked (s .cpu .p))) (s .cpu .p)
 
-    by-test : (t : Bool) → onlyCpu s ≡ t → 0 < cond t (clocksOf (min n (min (toInput n (s .clock) clocks) (min (toChange n s) (min (toUnderflowA n s) (toUnderflowB n s)))))) (clocksOf 0) .0
-        → Alone n s clocks (cond t (clocksOf (min n (min (toInput n (s .clock) clocks) (min (toChange n s) (min (toUnderflowA n s) (toUnderflowB n s)))))) (clocksOf 0) .0)
+    by-test : (t : Bool) → onlyCpu s ≡ t → 0 < cond t (clocksOf (nearestEvent n s clocks)) (clocksOf 0) .0
+        → Alone n s clocks (cond t (clocksOf (nearestEvent n s clocks)) (clocksOf 0) .0)
     by-test true e k =
         let quiet = and-left (undisturbed && none) kept e in
         let dues = and-left undisturbed none quiet in
@@ -89,11 +111,11 @@ alone n s clocks h = by-test (onlyCpu s) refl h
           nmi = not-true (s .due .nmi) (and-right (high && not (s .due .reset)) (not (s .due .nmi)) dues);
           flags = not-true (pending (s .peripherals .control)) (and-right undisturbed none quiet);
           status = eqb-true _ _ (and-right (undisturbed && none) kept e);
-          left = omega arith;
-          input = omega arith;
-          change = no-event (levelsChange s) n (omega arith);
-          count-a = up-to-count (runningA (s .peripherals .control) (s .last .ports)) _ n _ (omega arith);
-          count-b = up-to-count (runningB (s .peripherals .control)) _ n _ (omega arith);
+          left = within-left n s clocks;
+          input = before-input n s clocks;
+          change = no-event (levelsChange s) n (lt-of-lt-of-le k (before-change n s clocks));
+          count-a = up-to-count (runningA (s .peripherals .control) (s .last .ports)) _ n _ (before-underflow-a n s clocks);
+          count-b = up-to-count (runningB (s .peripherals .control)) _ n _ (before-underflow-b n s clocks);
         }
     by-test false e k = absurd (omega arith)
 

@@ -23,21 +23,23 @@ use Rattle.r6501q_cpu.specs.Processor.{registersOf, cpuOf}
 use Rattle.r6501q_gaps.specs.Gaps.{clocksOf, toInput, toChange, toUnderflowA, toUnderflowB, passCounters}
 use Rattle.r6501q_clock.specs.Commit.{committed}
 
--- RES is high, neither reset nor NMI is due, and no flag that is enabled is set; P is as the machine keeps it (01, Machine state: "Bits 4
--- and 5 of P are 0")
+-- RES is high, neither reset nor NMI is due, and no flag that is enabled is set; P is as the machine keeps it (01,
+-- Machine state: "Bits 4 and 5 of P are 0")
 unfoldable pub onlyCpu : State → Bool
 onlyCpu s =
     (s .last .res && not (s .due .reset) && not (s .due .nmi))
     && not (pending (s .peripherals .control))
     && eqb (packed (unpacked (s .cpu .p))) (s .cpu .p)
 
--- the clocks before the next event clock that is one by anything but the CPU's start: the least over the other kinds of event, n
--- clocks being left; none where more than the CPU may act. With RES high, RES low changes nothing.
+-- the clocks before the next event clock that is one by anything but the CPU's start: the least over the other kinds
+-- of event, n clocks being left. With RES high, RES low changes nothing.
+unfoldable pub nearestEvent : ℕ → State → List ℕ → ℕ
+nearestEvent n s clocks =
+    min n (min (toInput n (s .clock) clocks) (min (toChange n s) (min (toUnderflowA n s) (toUnderflowB n s))))
+
+-- none where more than the CPU may act
 unfoldable pub spanOf : ℕ → State → List ℕ → Clocks
-spanOf n s clocks =
-    cond (onlyCpu s)
-    (clocksOf (min n (min (toInput n (s .clock) clocks) (min (toChange n s) (min (toUnderflowA n s) (toUnderflowB n s))))))
-    (clocksOf 0)
+spanOf n s clocks = cond (onlyCpu s) (clocksOf (nearestEvent n s clocks)) (clocksOf 0)
 
 abbrev pub beginWork : State → Work
 beginWork s = record { registers = registersOf (s .cpu); wait = s .cpu .wait; gone = clocksOf 0; leaps = 0 }
@@ -55,7 +57,8 @@ workingState s w = record {
 
 -- one of the writes is at a register's address
 unfoldable pub writesRegister : Writes → Bool
-writesRegister w = eachWrite (λ (there : Bool) (x : Write) (before : Bool). before || (there && isRegister (x .address))) w false
+writesRegister w =
+    eachWrite (λ (there : Bool) (x : Write) (before : Bool). before || (there && isRegister (x .address))) w false
 
 unfoldable pub continuedBy : Work → Worked → Work
 continuedBy w worked = cond (writesRegister (worked .writes)) w (nextWork w worked)
@@ -79,9 +82,11 @@ unfoldable pub workAfter : ℕ → Work → List ℕ → Work
 workAfter span w memory = cond (leb (span - w .gone .0) (w .wait)) w (workBy w (instructionOf (w .registers) [] memory))
 
 unfoldable pub memoryAfter : ℕ → Work → List ℕ → List ℕ
-memoryAfter span w memory = cond (leb (span - w .gone .0) (w .wait)) memory (memoryBy memory (instructionOf (w .registers) [] memory))
+memoryAfter span w memory =
+    cond (leb (span - w .gone .0) (w .wait)) memory (memoryBy memory (instructionOf (w .registers) [] memory))
 
--- the instructions that write nothing, and the one after them
+-- the instructions that write nothing, and the one after them. How many of those there are is left free, none at least:
+-- the work may stop at once, and what is left over is done by the next leap.
 pub record WorkedOn (span : ℕ) (w : Work) (memory : List ℕ) (r : Work) (memory' : List ℕ) : Type 0 where
   pub at : Work
   pub quietly : Quietly span [] memory w at

@@ -13,7 +13,8 @@ use Rattle.serial.specs.Receiver.{receiverFits}
 use Rattle.r6501q_state.specs.declared.state.Peripherals.{Peripherals}
 use Rattle.r6501q_state.specs.declared.state.Levels.{Levels}
 use Rattle.r6501q_state.specs.declared.state.State.{State}
-use Rattle.r6501q_state.specs.State.{fresh, cpuFits, peripheralsFit, wellFormed, flagged}
+use Rattle.r6501q_state.specs.State.{fresh, cpuFits, peripheralsFit, wellFormed}
+use Rattle.r6501q_state.specs.Copies.{flagged}
 use Rattle.r6501q_state.specs.Pins.{rose, fell, edges, withEdges, resetOf, sensedAt, sensed, levelsOf}
 use Rattle.r6501q_state.specs.Inputs.{withInput}
 
@@ -94,3 +95,10 @@ unfolding sensed sensedAt
 sensed-formed s e =
     cond-both (λ (t : State). wellFormed t ≡ true) (levelsOf s .res) (withEdges s (levelsOf s)) (resetOf (withEdges s (levelsOf s)))
     (λ _. withEdges-formed s (levelsOf s) e) (λ _. reset-formed (withEdges s (levelsOf s)) (withEdges-formed s (levelsOf s) e))
+
+-- 01, One clock, 1: the levels are taken before RES low puts the latches, and so become the last levels
+pub sensed-last : (s : State) → sensed s .last ≡ levelsOf s
+unfolding sensed sensedAt withEdges resetOf
+sensed-last s =
+    let now = levelsOf s in
+    cond-both (λ (t : State). t .last ≡ now) (now .res) (withEdges s now) (resetOf (withEdges s now)) (λ _. refl) (λ _. refl)

@@ -25,7 +25,8 @@ flagsOf c = withBit 7 (transmitterFlag (c .scsr)) (withBit 6 (receiverFlag (c .s
 abbrev pub pending : Control → Bool
 pending c = not (eqb (bitAnd (flagsOf c) (c .ier)) 0)
 
--- 01, One clock, 2: "MCR1, MCR0 choose A's mode, MCR3, MCR2 B's"; "SCCR7, or SCCR6 with an asynchronous receiver, holds A to mode 00"
+-- 01, One clock, 2: "MCR1, MCR0 choose A's mode, MCR3, MCR2 B's"; "SCCR7, or SCCR6 with an asynchronous receiver,
+-- holds A to mode 00"
 unfoldable pub modeA : ℕ → ℕ → ℕ
 modeA mcr sccr = inForce (holdsA sccr) (mcr % 4)
 

@@ -13,8 +13,10 @@ lastPin = 33
 abbrev pub levelsAt : ℕ → Bool → Bool → Levels
 levelsAt ports nmi res = record { ports = ports; nmi = nmi; res = res }
 
--- 01, One clock, 1: "inputs of that clock set external levels"; a pin list has only right codes, for which this is meant
+-- 01, One clock, 1: "inputs of that clock set external levels"; a pin list has only right codes, for which this is
+-- meant
 unfoldable pub withInput : Levels → ℕ → Levels
 withInput l code =
     cond (ltb (pinOf code) 32) (levelsAt (withBit (pinOf code) (highOf code) (l .ports)) (l .nmi) (l .res))
-    (cond (eqb (pinOf code) 32) (levelsAt (l .ports) (highOf code) (l .res)) (levelsAt (l .ports) (l .nmi) (highOf code)))
+    (cond (eqb (pinOf code) 32) (levelsAt (l .ports) (highOf code) (l .res))
+    (levelsAt (l .ports) (l .nmi) (highOf code)))

@@ -1,3 +1,4 @@
+pub mod Copies
 pub mod State
 pub mod Pins
 pub mod Inputs

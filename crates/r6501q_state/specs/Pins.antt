@@ -7,12 +7,13 @@ use Rattle.serial.specs.declared.transmitter.Transmitter.{Transmitter}
 use Rattle.serial.specs.Format.{transmitterShifts}
 use Rattle.serial.specs.Transmitter.{line, shiftClock, idleTransmitter}
 use Rattle.serial.specs.Receiver.{idleReceiver}
-use Rattle.r6501q_state.specs.declared.state.Cpu.{Cpu}
 use Rattle.r6501q_state.specs.declared.state.Due.{Due}
 use Rattle.r6501q_state.specs.declared.state.Peripherals.{Peripherals}
 use Rattle.r6501q_state.specs.declared.state.Levels.{Levels}
 use Rattle.r6501q_state.specs.declared.state.State.{State}
-use Rattle.r6501q_state.specs.State.{freshPorts, freshControl, flagged}
+use Rattle.r6501q_state.specs.State.{freshPorts, freshControl}
+use Rattle.r6501q_state.specs.Copies.{flagged}
+pub use Rattle.r6501q_state.specs.Copies.{atWait}
 
 -- 02, U1, of a transmitter in shift-register mode: "PA4's drive is its clock"
 abbrev pub withShiftClock : ℕ → Transmitter → ℕ → ℕ
@@ -38,7 +39,11 @@ drivenWord p = wordOf (driveA p) (p .ports .b) (p .ports .c) (driveD p)
 
 -- "A port pin's level is its drive AND its external level."
 unfoldable pub levelsOf : State → Levels
-levelsOf s = record { ports = bitAnd (drivenWord (s .peripherals)) (s .external .ports); nmi = s .external .nmi; res = s .external .res }
+levelsOf s = record {
+  ports = bitAnd (drivenWord (s .peripherals)) (s .external .ports);
+  nmi = s .external .nmi;
+  res = s .external .res;
+}
 
 -- a rise and a fall of a port pin between two words of levels
 unfoldable pub rose : ℕ → ℕ → ℕ → Bool
@@ -67,9 +72,6 @@ withEdges s now = record {
   last = now;
   clock = s .clock;
 }
-
-abbrev pub atWait : Cpu → ℕ → Cpu
-atWait c w = record { a = c .a; x = c .x; y = c .y; sp = c .sp; p = c .p; pc = c .pc; wait = w }
 
 -- "the fresh values of port latches, MCR, SCCR, SCSR, IER, IFR and serial progress"
 abbrev pub resetPeripherals : Peripherals → Peripherals

@@ -2,17 +2,12 @@
 use mathlib.Core.Bool.{Bool, true, false, _&&_}
 use Prim.Native.Nat.{ℕ, _/_, _%_}
 use lib.Dec.{leb, ltb, eqb}
-use Rattle.counters.specs.declared.a.CounterA.{CounterA}
-use Rattle.counters.specs.declared.b.CounterB.{CounterB}
-use Rattle.serial.specs.declared.transmitter.Transmitter.{Transmitter}
-use Rattle.serial.specs.declared.receiver.Receiver.{Receiver}
 use Rattle.serial.specs.Transmitter.{idleTransmitter, transmitterFits}
 use Rattle.serial.specs.Receiver.{idleReceiver, receiverFits}
 use Rattle.r6501q_state.specs.declared.state.Cpu.{Cpu}
 use Rattle.r6501q_state.specs.declared.state.Due.{Due}
 use Rattle.r6501q_state.specs.declared.state.Ports.{Ports}
 use Rattle.r6501q_state.specs.declared.state.Control.{Control}
-use Rattle.r6501q_state.specs.declared.state.SerialData.{SerialData}
 use Rattle.r6501q_state.specs.declared.state.Peripherals.{Peripherals}
 use Rattle.r6501q_state.specs.declared.state.Levels.{Levels}
 use Rattle.r6501q_state.specs.declared.state.State.{State}
@@ -68,45 +63,7 @@ cpuFits c = eqb (c .p / 16 % 4) 0 && leb (c .wait) 6
 abbrev pub peripheralsFit : Peripherals → Bool
 peripheralsFit p = ltb (p .control .ifr) 64 && transmitterFits (p .transmitter) && receiverFits (p .receiver)
 
--- "Well-formed: every field is within its range here." In code, fields of 8, 16 and 32 bits, flags and levels are so by their
--- types, and the theorems over states hold whatever numbers stand there; what types do not say is tested.
+-- "Well-formed: every field is within its range here." In code, fields of 8, 16 and 32 bits, flags and levels are so
+-- by their types, and the theorems over states hold whatever numbers stand there; what types do not say is tested.
 unfoldable pub wellFormed : State → Bool
 wellFormed s = cpuFits (s .cpu) && peripheralsFit (s .peripherals)
-
--- one field set anew
-abbrev pub withPorts : Peripherals → Ports → Peripherals
-withPorts p x = record { ports = x; countera = p .countera; counterb = p .counterb; control = p .control; serial = p .serial; transmitter = p .transmitter; receiver = p .receiver }
-
-abbrev pub withCounterA : Peripherals → CounterA → Peripherals
-withCounterA p x = record { ports = p .ports; countera = x; counterb = p .counterb; control = p .control; serial = p .serial; transmitter = p .transmitter; receiver = p .receiver }
-
-abbrev pub withCounterB : Peripherals → CounterB → Peripherals
-withCounterB p x = record { ports = p .ports; countera = p .countera; counterb = x; control = p .control; serial = p .serial; transmitter = p .transmitter; receiver = p .receiver }
-
-abbrev pub withControl : Peripherals → Control → Peripherals
-withControl p x = record { ports = p .ports; countera = p .countera; counterb = p .counterb; control = x; serial = p .serial; transmitter = p .transmitter; receiver = p .receiver }
-
-abbrev pub withSent : Peripherals → ℕ → Peripherals
-withSent p x = record { ports = p .ports; countera = p .countera; counterb = p .counterb; control = p .control; serial = record { sent = x; received = p .serial .received }; transmitter = p .transmitter; receiver = p .receiver }
-
-abbrev pub withProgress : Peripherals → Transmitter → Receiver → Peripherals
-withProgress p t r = record { ports = p .ports; countera = p .countera; counterb = p .counterb; control = p .control; serial = p .serial; transmitter = t; receiver = r }
-
-abbrev pub withPortA : Ports → ℕ → Ports
-withPortA p v = record { a = v; b = p .b; c = p .c; d = p .d }
-
-abbrev pub withIfr : Control → ℕ → Control
-withIfr c v = record { ifr = v; ier = c .ier; mcr = c .mcr; sccr = c .sccr; scsr = c .scsr }
-
-abbrev pub withScsr : Control → ℕ → Control
-withScsr c v = record { ifr = c .ifr; ier = c .ier; mcr = c .mcr; sccr = c .sccr; scsr = v }
-
--- the interrupt flags, the status register, or port A's latch set anew
-abbrev pub flagged : Peripherals → ℕ → Peripherals
-flagged p v = withControl p (withIfr (p .control) v)
-
-abbrev pub statused : Peripherals → ℕ → Peripherals
-statused p v = withControl p (withScsr (p .control) v)
-
-abbrev pub latchedA : Peripherals → ℕ → Peripherals
-latchedA p v = withPorts p (withPortA (p .ports) v)

@@ -1,2 +1,5 @@
 pub mod Worlds
 pub mod Calls
+pub mod LowMemory
+pub mod Stops
+pub mod Examples

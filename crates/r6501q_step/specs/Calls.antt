@@ -31,9 +31,15 @@ refusalResult number s = record { number = number; state = s; leaps = 0; read = 
 
 -- "6, 7 state and lists as reached"; "Number 0: all n clocks done."
 abbrev pub progressResult : ℕ → Progress → CallResult
-progressResult leaps p = record { number = p .stop; state = p .state; leaps = leaps; read = p .read; written = p .written }
+progressResult leaps p = record {
+  number = p .stop;
+  state = p .state;
+  leaps = leaps;
+  read = p .read;
+  written = p .written;
+}
 
--- 01, Run and leaps, for one clock: "Leaps = event clocks done, plus 1 if the last clock done isn't an event clock; 0 if no clock is
--- done", so 1 where the clock moved (`single-run` of r6501q_run/proofs/Fair.antt)
+-- 01, Run and leaps, for one clock: "Leaps = event clocks done, plus 1 if the last clock done isn't an event clock; 0
+-- if no clock is done", so 1 where the clock moved (`single-run` of r6501q_run/proofs/Fair.antt)
 abbrev pub leapsFrom : ℕ → ℕ → ℕ
 leapsFrom before now = digit (ltb before now)

@@ -26,7 +26,13 @@ r6501qLimits = record { memory = memorySpan; pin = lastPin }
 
 -- a clock that is done: its writes are put into memory
 abbrev pub endOf : List ℕ → Ended → ClockEnd State
-endOf memory e = record { state = e .state; memory = committed memory (e .writes); differs = e .differs; word = e .word; stop = 0 }
+endOf memory e = record {
+  state = e .state;
+  memory = committed memory (e .writes);
+  differs = e .differs;
+  word = e .word;
+  stop = 0;
+}
 
 abbrev pub clockOutcome : List ℕ → Clocked → ClockOutcome State
 clockOutcome memory (Stopped number) = stopped number

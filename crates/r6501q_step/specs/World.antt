@@ -23,12 +23,18 @@ worldOf p memory inputClocks inputCodes outputClocks outputWords = record {
   stop = p .stop;
 }
 
--- the two ends of a clock, of what the code carries: a stop, and nothing else changes; or the clock done, of which `due` inputs were due
+-- the two ends of a clock, of what the code carries: a stop, and nothing else changes; or the clock done, of which
+-- `due` inputs were due
 abbrev pub stoppedWith : ℕ → Progress → Progress
 stoppedWith number p = record { state = p .state; read = p .read; written = p .written; stop = number }
 
 abbrev pub progressTo : Ended → ℕ → Progress → Progress
-progressTo e due p = record { state = e .state; read = p .read + due; written = p .written + digit (e .differs); stop = 0 }
+progressTo e due p = record {
+  state = e .state;
+  read = p .read + due;
+  written = p .written + digit (e .differs);
+  stop = 0;
+}
 
 -- what a clock in code starts from
 pub record Going (p : Progress) (inputClocks inputCodes outputClocks outputWords : List ℕ) : Type 0 where

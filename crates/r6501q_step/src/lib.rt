@@ -34,7 +34,8 @@ pub struct Progress {
     pub stop: u8,
 }
 
-// What a call hands back beside the lent lists: document 01's number, the state, the leaps, the inputs read and the records written.
+// What a call hands back beside the lent lists: document 01's number, the state, the leaps, the inputs read and the
+// records written.
 #[repr(C)]
 pub struct CallResult {
     pub number: u8,
@@ -82,7 +83,8 @@ fn outcome_from(
 ) -> Clocked
     requires { ⌜ (p .state .clock < lastClock) × (p .read + due ≤ length (now inputcodes)) ⌝ }
     requires { ⌜ now entries ≡ opcodeTable ⌝ }
-    ensures { λ r. ⌜ r ≡ clockOf (p .state) (take due (drop (p .read) (now (inputcodes .entry)))) (now (memory .entry)) free ⌝ }
+    ensures { λ r. ⌜ r ≡ clockOf (p .state) (take due (drop (p .read) (now (inputcodes .entry))))
+        (now (memory .entry)) free ⌝ }
 {
     let from = p.read;
     let upto = from + due;
@@ -101,8 +103,10 @@ fn complete(
     requires { ⌜ (p .read + due < 2 ^ 64) × (p .written + 1 < 2 ^ 64) ⌝ }
     ensures { λ r. ⌜ r ≡ progressTo ended due p ⌝ }
     ensures { λ _. ⌜ now (memory .exit) ≡ committed (now (memory .entry)) (ended .writes) ⌝ }
-    ensures { λ _. ⌜ now (outputclocks .exit) ≡ putRecord (ended .differs) (p .written) (ended .state .clock) (now (outputclocks .entry)) ⌝ }
-    ensures { λ _. ⌜ now (outputwords .exit) ≡ putRecord (ended .differs) (p .written) (ended .word) (now (outputwords .entry)) ⌝ }
+    ensures { λ _. ⌜ now (outputclocks .exit)
+        ≡ putRecord (ended .differs) (p .written) (ended .state .clock) (now (outputclocks .entry)) ⌝ }
+    ensures { λ _. ⌜ now (outputwords .exit)
+        ≡ putRecord (ended .differs) (p .written) (ended .word) (now (outputwords .entry)) ⌝ }
 {
     let state = ended.state;
     let written = p.written;
@@ -143,7 +147,10 @@ pub fn advance(
 ) -> Progress
     requires { ⌜ Going p (now inputclocks) (now inputcodes) (now outputclocks) (now outputwords) ⌝ }
     requires { ⌜ now entries ≡ opcodeTable ⌝ }
-    ensures { λ r. ⌜ worldOf r (now (memory .exit)) (now (inputclocks .entry)) (now (inputcodes .entry)) (now (outputclocks .exit)) (now (outputwords .exit)) ≡ plain (worldOf p (now (memory .entry)) (now (inputclocks .entry)) (now (inputcodes .entry)) (now (outputclocks .entry)) (now (outputwords .entry))) ⌝ }
+    ensures { λ r. ⌜ worldOf r (now (memory .exit)) (now (inputclocks .entry)) (now (inputcodes .entry))
+        (now (outputclocks .exit)) (now (outputwords .exit))
+        ≡ plain (worldOf p (now (memory .entry)) (now (inputclocks .entry)) (now (inputcodes .entry))
+        (now (outputclocks .entry)) (now (outputwords .entry))) ⌝ }
 {
     let due = due_from(inputclocks, p.read, p.state.clock + 1);
     let free = p.written < outputclocks.len();
@@ -174,7 +181,8 @@ pub fn call_refusal(
     outputwords: usize,
     n: u32,
 ) -> u8
-    ensures { λ r. ⌜ r ≡ refusalOf r6501qLimits (wellFormed state) (state .clock) span (now (inputclocks .entry)) (now (inputcodes .entry)) outputclocks outputwords n ⌝ }
+    ensures { λ r. ⌜ r ≡ refusalOf r6501qLimits (wellFormed state) (state .clock) span (now (inputclocks .entry))
+        (now (inputcodes .entry)) outputclocks outputwords n ⌝ }
 {
     let formed = well_formed(state);
     refusal(
@@ -245,7 +253,9 @@ pub fn step(
     outputclocks: &mut [u32],
     outputwords: &mut [u32],
 ) -> CallResult
-    ensures { λ r. ⌜ handed r (now (memory .exit)) (now (outputclocks .exit)) (now (outputwords .exit)) ≡ stepOf machine (callStart state (now (memory .entry)) (now (inputclocks .entry)) (now (inputcodes .entry)) (now (outputclocks .entry)) (now (outputwords .entry))) ⌝ }
+    ensures { λ r. ⌜ handed r (now (memory .exit)) (now (outputclocks .exit)) (now (outputwords .exit))
+        ≡ stepOf machine (callStart state (now (memory .entry)) (now (inputclocks .entry)) (now (inputcodes .entry))
+        (now (outputclocks .entry)) (now (outputwords .entry))) ⌝ }
 {
     let number = call_refusal(
         state,

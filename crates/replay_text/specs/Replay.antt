@@ -1,5 +1,6 @@
--- What the program `replay` prints of a tape: document 01, "Tape": "The program `replay` reads a tape ... into a memory of zeros and runs
--- 100 clocks from fresh, no inputs, 100 free records. A refused tape prints only the end line, with 0 clocks."
+-- What the program `replay` prints of a tape: document 01, "Tape": "The program `replay` reads a tape ... into a memory
+-- of zeros and runs 100 clocks from fresh, no inputs, 100 free records. A refused tape prints only the end line, with 0
+-- clocks."
 use mathlib.Core.Bool.{cond}
 use mathlib.Core.List.{List, []}
 use Prim.Native.Nat.{ℕ}
@@ -12,6 +13,10 @@ use Rattle.leaps.specs.Calls.{callStart}
 use Rattle.r6501q_step.specs.R6501q.{World, chip}
 use Rattle.tape.specs.Tapes.{loadOf}
 use Rattle.record_text.specs.Lines.{endLine, outcomeLines}
+
+-- "a tape, the first 16,384 characters of standard input"
+abbrev pub tapeLength : ℕ
+tapeLength = 16384
 
 -- "a memory of zeros"
 unfoldable pub zeroMemory : List ℕ
@@ -27,7 +32,9 @@ replayStart memory = callStart fresh memory [] [] freeRecords freeRecords
 
 -- what is printed of a run that ends so: the records written, the clocks done and the stop, or 0
 abbrev pub linesOf : World → List ℕ
-linesOf w = outcomeLines (take (w .written) (w .outputClocks)) (take (w .written) (w .outputWords)) (w .state .clock) (w .stop)
+linesOf w =
+    outcomeLines (take (w .written) (w .outputClocks)) (take (w .written) (w .outputWords)) (w .state .clock)
+    (w .stop)
 
 -- "runs 100 clocks", stated by plain clocks
 unfoldable pub ranOf : List ℕ → List ℕ

@@ -6,10 +6,13 @@ use record_text::put_end;
 use record_text::put_outcome;
 ghost use mathlib.Core.Path.{_≡_};
 ghost use Prim.Native.Nat.{_≤_};
-ghost use lib.ListN.{length};
+ghost use lib.ListN.{length, take};
 ghost use Rattle.memory.specs.Memory.{memorySpan};
 ghost use Rattle.record_text.specs.Lines.{written, putOf};
-ghost use Rattle.replay_text.specs.Replay.{ranOf, replayOf};
+ghost use Rattle.replay_text.specs.Replay.{tapeLength, ranOf, replayOf};
+
+// The most characters of a tape; what follows them on standard input plays no part.
+pub const TAPE_LENGTH: usize = 16384;
 
 // The clocks of a replay, and its free output records.
 const CLOCKS: u32 = 100;
@@ -19,12 +22,13 @@ const RECORDS: usize = 100;
 // The most characters that a replay prints: a line for each record, and the end line.
 pub const TEXT_LENGTH: usize = LINE_LENGTH * (RECORDS + 1);
 
-// Runs the clocks on a loaded memory, and puts the lines of what they come to into `text`. A fresh chip's clock is 0, so that
-// its clock afterwards is the number of clocks done.
+// Runs the clocks on a loaded memory, and puts the lines of what they come to into `text`. A fresh chip's clock is 0,
+// so that its clock afterwards is the number of clocks done.
 fn run_loaded(memory: &mut [u8], text: &mut [u8]) -> usize
     requires { ⌜ length (now memory) ≡ memorySpan ⌝ }
     requires { ⌜ 2020 ≤ length (now text) ⌝ }
-    ensures { λ r. ⌜ written r (now (text .exit)) ≡ putOf (ranOf (now (memory .entry))) (written 0 (now (text .entry))) ⌝ }
+    ensures { λ r. ⌜ written r (now (text .exit))
+        ≡ putOf (ranOf (now (memory .entry))) (written 0 (now (text .entry))) ⌝ }
     ensures { λ r. ⌜ r ≤ length (now (text .exit)) ⌝ }
 {
     let inputclocks = [0u32; 0];
@@ -53,7 +57,8 @@ fn run_loaded(memory: &mut [u8], text: &mut [u8]) -> usize
 // Replays a tape, and puts what is to be printed into `text`; gives how many characters it is.
 pub fn replay(tape: &[u8], text: &mut [u8]) -> usize
     requires { ⌜ 2020 ≤ length (now text) ⌝ }
-    ensures { λ r. ⌜ written r (now (text .exit)) ≡ putOf (replayOf (now (tape .entry))) (written 0 (now (text .entry))) ⌝ }
+    ensures { λ r. ⌜ written r (now (text .exit))
+        ≡ putOf (replayOf (now (tape .entry))) (written 0 (now (text .entry))) ⌝ }
     ensures { λ r. ⌜ r ≤ length (now (text .exit)) ⌝ }
 {
     let mut memory = [0u8; MEMORY_SPAN];
@@ -62,4 +67,17 @@ pub fn replay(tape: &[u8], text: &mut [u8]) -> usize
         return put_end(0, loaded.number, text, 0);
     }
     run_loaded(&mut memory, text)
+}
+
+// Replays what stands on standard input: its first characters are the tape.
+pub fn replay_input(input: &[u8], text: &mut [u8]) -> usize
+    requires { ⌜ 2020 ≤ length (now text) ⌝ }
+    ensures { λ r. ⌜ written r (now (text .exit))
+        ≡ putOf (replayOf (take tapeLength (now (input .entry)))) (written 0 (now (text .entry))) ⌝ }
+    ensures { λ r. ⌜ r ≤ length (now (text .exit)) ⌝ }
+{
+    if input.len() <= TAPE_LENGTH {
+        return replay(input, text);
+    }
+    replay(&input[..TAPE_LENGTH], text)
 }

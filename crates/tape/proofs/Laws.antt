@@ -1,21 +1,22 @@
 -- What follows from the definitions for every tape and memory: what a load leaves alone, and that a record's own digits may be
 -- passed in the search for the next record.
 use mathlib.Core.Path.{_≡_, refl, ap, _∙_}
-use mathlib.Core.Bool.{Bool, true, false, _&&_}
+use mathlib.Core.Bool.{Bool, true, false, _&&_, cond}
 use mathlib.Core.List.{List, [], _∷_}
 use Prim.Native.Nat.{ℕ, zero, suc, _+_, _≤_}
 use native.Mathlib.Omega.{arith}
 use native.Mathlib.Nat.{add-zero}
 use borrow.Author.Tests.{eq-eqb, ne-eqb, eqb-true}
-use lib.Dec.{eqb}
-use lib.ListN.{length, take, drop}
+use lib.Dec.{ltb, eqb}
+use lib.ListN.{length, take, drop, set}
 use Rattle.bits.specs.Lists.{allOf}
 use Rattle.bits.proofs.Cond.{cond-both}
 use Rattle.tape.specs.declared.LoadResult.{LoadResult}
 use Rattle.tape.specs.Digits.{isDigit, bytesOf}
 use Rattle.tape.specs.Records.{mark, recordLength, byteCountOf, addressOf, faultOf, dataOf}
-use Rattle.memory.specs.Memory.{memorySpan, registerEnd}
-use Rattle.tape.specs.Tapes.{loadResult, recordBy, checkFrom, checkOf, landed, storeFrom, Loaded, loaded, loadOf}
+use Rattle.memory.specs.Memory.{memorySpan, registerEnd, withLow}
+use Rattle.memory.proofs.Low.{low-set, low-length}
+use Rattle.tape.specs.Tapes.{loadResult, endedBy, recordBy, checkFrom, checkOf, putFrom, landed, storeFrom, Loaded, loaded, loadOf}
 use Rattle.tape.proofs.DigitLaws.{and-true}
 use Rattle.tape.proofs.RecordLaws.{good}
 use Rattle.tape.proofs.MemoryLaws.{length-puts, take-puts}
@@ -107,3 +108,89 @@ check-past place n text = by-fault (eqb (faultOf text) 0) refl
 
 pub store-past : (text memory : List ℕ) → faultOf text ≡ 0 → storeFrom text memory ≡ storeFrom (drop (recordLength (byteCountOf text)) text) memory
 store-past text memory e = let g = good text e in digits-stored (recordLength (byteCountOf text)) text (g .whole) (g .digits) memory
+
+-- ---- 0 to 3Fh are not read either
+
+module _ (low : List ℕ) (whole : length low ≡ registerEnd) where
+  puts-low : (address : ℕ) (bytes m : List ℕ) → putFrom registerEnd address bytes (withLow low m) ≡ withLow low (putFrom registerEnd address bytes m)
+  unfolding putFrom
+  puts-low address [] m = refl
+  puts-low address (b ∷ bytes) m = by-place (ltb address registerEnd) refl (puts-low (address + 1) bytes)
+    where
+      by-place : (t : Bool) → ltb address registerEnd ≡ t
+          → ((m : List ℕ) → putFrom registerEnd (address + 1) bytes (withLow low m) ≡ withLow low (putFrom registerEnd (address + 1) bytes m))
+          → putFrom registerEnd (address + 1) bytes (cond t (withLow low m) (set (withLow low m) address b))
+          ≡ withLow low (putFrom registerEnd (address + 1) bytes (cond t m (set m address b)))
+      by-place true e later = later m
+      by-place false e later = ap (putFrom registerEnd (address + 1) bytes) (low-set low m address b whole e) ∙ later (set m address b)
+
+  landed-low : (text m : List ℕ) → landed text (withLow low m) ≡ withLow low (landed text m)
+  unfolding landed
+  landed-low text m = puts-low (addressOf text) (bytesOf (dataOf text)) m
+
+  store-low : (tape m : List ℕ) → storeFrom tape (withLow low m) ≡ withLow low (storeFrom tape m)
+  unfolding storeFrom
+  store-low [] m = refl
+  store-low (c ∷ text) m = by-mark (eqb c mark) (eqb (byteCountOf text) 0) (store-low text)
+    where
+      by-mark : (t z : Bool) → ((m : List ℕ) → storeFrom text (withLow low m) ≡ withLow low (storeFrom text m))
+          → cond (t && z) (withLow low m) (storeFrom text (cond t (landed text (withLow low m)) (withLow low m)))
+          ≡ withLow low (cond (t && z) m (storeFrom text (cond t (landed text m) m)))
+      by-mark true true later = refl
+      by-mark true false later = ap (storeFrom text) (landed-low text m) ∙ later (landed text m)
+      by-mark false z later = later m
+
+  -- 01, Machine state: memory's "bytes at 0 to 3Fh, the registers, are never touched". With other bytes there a load gives the same number
+  -- and place, the same bytes from 40h on, and those bytes back.
+  pub load-low : (tape m : List ℕ) → registerEnd ≤ length m
+      → loadOf tape (withLow low m) ≡ loaded (loadOf tape m .result) (withLow low (loadOf tape m .memory))
+  unfolding loadOf
+  load-low tape m h = rw (low-length low m whole h) (by-tests (eqb (length m) memorySpan) (eqb (checkOf tape .number) 0))
+    where
+      by-tests : (t z : Bool)
+          → cond t (loaded (checkOf tape) (cond z (storeFrom tape (withLow low m)) (withLow low m))) (loaded (loadResult 1 0) (withLow low m))
+          ≡ loaded (cond t (loaded (checkOf tape) (cond z (storeFrom tape m) m)) (loaded (loadResult 1 0) m) .result)
+          (withLow low (cond t (loaded (checkOf tape) (cond z (storeFrom tape m) m)) (loaded (loadResult 1 0) m) .memory))
+      by-tests true true = ap (loaded (checkOf tape)) (store-low tape m)
+      by-tests true false = refl
+      by-tests false z = refl
+
+-- ---- 01, Tape: a tape is gone through record by record
+
+-- "Between records anything but `;` is skipped."
+module _ (c : ℕ) (text : List ℕ) (other : c ≡ mark → ⊥) where
+  pub skip-checked : (place seen : ℕ) → checkFrom place seen (c ∷ text) ≡ checkFrom (place + 1) seen text
+  unfolding checkFrom
+  skip-checked place seen = rw (ne-eqb c mark other, add-zero)
+
+  pub skip-stored : (m : List ℕ) → storeFrom (c ∷ text) m ≡ storeFrom text m
+  unfolding storeFrom
+  skip-stored m = rw (ne-eqb c mark other)
+
+-- a record at `place`, behind `seen` others: its fault ends the tape, "the record's place"
+pub faulty-record : (place seen : ℕ) (text : List ℕ) → (faultOf text ≡ 0 → ⊥) → checkFrom place seen (mark ∷ text) ≡ loadResult (faultOf text) place
+unfolding checkFrom recordBy
+faulty-record place seen text f = rw (ne-eqb (faultOf text) 0 f)
+
+module _ (text : List ℕ) (sound : faultOf text ≡ 0) where
+  -- "Count 00 ends the tape", and "what follows is ignored"
+  pub last-checked : (place seen : ℕ) → byteCountOf text ≡ 0 → checkFrom place seen (mark ∷ text) ≡ endedBy place (seen + 1) text
+  unfolding checkFrom recordBy
+  last-checked place seen z = rw (sound, z)
+
+  pub last-stored : (m : List ℕ) → byteCountOf text ≡ 0 → storeFrom (mark ∷ text) m ≡ m
+  unfolding storeFrom
+  last-stored m z = rw z
+
+  module _ (more : byteCountOf text ≡ 0 → ⊥) where
+    -- a record that is good and not the last: one record more is seen, its bytes land, and the tape goes on behind its digits
+    pub next-checked : (place seen : ℕ) → checkFrom place seen (mark ∷ text)
+        ≡ checkFrom (place + 1 + recordLength (byteCountOf text)) (seen + 1) (drop (recordLength (byteCountOf text)) text)
+    unfolding checkFrom recordBy
+    next-checked place seen =
+        let g = good text sound in
+        rw (sound, ne-eqb (byteCountOf text) 0 more) (digits-past (recordLength (byteCountOf text)) text (g .whole) (g .digits) (place + 1) (seen + 1))
+
+    pub next-stored : (m : List ℕ) → storeFrom (mark ∷ text) m ≡ storeFrom (drop (recordLength (byteCountOf text)) text) (landed text m)
+    unfolding storeFrom
+    next-stored m = rw (ne-eqb (byteCountOf text) 0 more) (store-past text (landed text m) sound)

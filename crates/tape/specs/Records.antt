@@ -1,5 +1,5 @@
--- One record: "`;`, count (2 hex digits), address (4), data, check sum (4)" (document 01, "Tape"). Its digits stand directly
--- behind its `;`, and `text` is all that stands behind the `;`, to the end of the tape.
+-- One record: "`;`, count (2 hex digits), address (4), data, check sum (4)" (document 01, "Tape"). Its digits stand
+-- directly behind its `;`, and `text` is all that stands behind the `;`, to the end of the tape.
 use mathlib.Core.Bool.{Bool, _&&_, _||_, not, cond}
 use mathlib.Core.List.{List, []}
 use Prim.Native.Nat.{ℕ, _+_, _*_, _%_}
@@ -47,8 +47,8 @@ sumOf text = totalOf (bytesOf (take (bodyLength (byteCountOf text)) text)) % 655
 unfoldable pub areDigits : ℕ → List ℕ → Bool
 areDigits n text = leb n (length text) && allOf isDigit (take n text)
 
--- "a digit missing or not of 0 to 9, A to F; count above 18h; address + count above 65,536". Whatever stands in the count's
--- place is read as the count; its two characters are among those that must be digits.
+-- "a digit missing or not of 0 to 9, A to F; count above 18h; address + count above 65,536". Whatever stands in the
+-- count's place is read as the count; its two characters are among those that must be digits.
 unfoldable pub malformed : List ℕ → Bool
 malformed text =
     not (areDigits (recordLength (byteCountOf text)) text)
@@ -63,7 +63,7 @@ faultOf text = cond (malformed text) 8 (cond (eqb (sumOf text) (checkSumOf text)
 unfoldable pub dataOf : List ℕ → List ℕ
 dataOf text = cond (eqb (faultOf text) 0) (take (2 * byteCountOf text) (drop headLength text)) []
 
--- "A record's data is given as that part of the tape's own text": of the record whose `;` stands at `place`; none where no
--- good record stands there
+-- "A record's data is given as that part of the tape's own text": of the record whose `;` stands at `place`; none
+-- where no good record stands there
 unfoldable pub dataAt : List ℕ → ℕ → List ℕ
 dataAt tape place = cond (eqb (getD tape place 0) mark) (dataOf (drop (place + 1) tape)) []

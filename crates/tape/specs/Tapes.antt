@@ -10,24 +10,27 @@ use Rattle.tape.specs.declared.LoadResult.{LoadResult}
 use Rattle.tape.specs.Digits.{bytesOf}
 use Rattle.tape.specs.Records.{mark, byteCountOf, addressOf, faultOf, dataOf}
 
--- a number of "What is handed back", and a place: the index of a record's `;`, the tape's length for a missing last record, the
--- place past the last record of an accepted tape, or 0 with number 1
+-- a number of "What is handed back", and a place: the index of a record's `;`, the tape's length for a missing last
+-- record, the place past the last record of an accepted tape, or 0 with number 1
 abbrev pub loadResult : ℕ → ℕ → LoadResult
 loadResult n p = record { number = n; place = p }
 
--- "Count 00 ends the tape, its address field being the number of records, itself included": the n-th record, which is the
--- last and stands at `place`. Its 11 characters are passed; a wrong count is 10.
+-- "Count 00 ends the tape, its address field being the number of records, itself included": the n-th record, which is
+-- the last and stands at `place`. Its 11 characters are passed; a wrong count is 10.
 unfoldable pub endedBy : ℕ → ℕ → List ℕ → LoadResult
 endedBy place n text = cond (eqb (addressOf text) n) (loadResult 0 (place + 11)) (loadResult 10 place)
 
--- the n-th record, whose `;` stands at `place`: its own fault first; where it is good and not the last, the tape goes on
+-- the n-th record, whose `;` stands at `place`: its own fault first; where it is good and not the last, the tape goes
+-- on
 unfoldable pub recordBy : ℕ → ℕ → List ℕ → LoadResult → LoadResult
 recordBy place n text goesOn =
-    cond (eqb (faultOf text) 0) (cond (eqb (byteCountOf text) 0) (endedBy place n text) goesOn) (loadResult (faultOf text) place)
+    cond (eqb (faultOf text) 0) (cond (eqb (byteCountOf text) 0) (endedBy place n text) goesOn)
+    (loadResult (faultOf text) place)
 
--- the rest of a tape from `place` on, behind `seen` records: each `;` begins a record, "between records anything but `;` is
--- skipped", and the earliest faulty record decides. A good record's digits hold no `;`, so the search for the next one may
--- start right behind its own (`check-past` of proofs/Laws.antt). A tape that is over lacks its last record.
+-- the rest of a tape from `place` on, behind `seen` records: each `;` begins a record, "between records anything but
+-- `;` is skipped", and the earliest faulty record decides. A good record's digits hold no `;`, so the search for the
+-- next one may start right behind its own (`check-past` of proofs/Laws.antt). A tape that is over lacks its last
+-- record.
 unfoldable pub checkFrom : ℕ → ℕ → List ℕ → LoadResult
 checkFrom place seen [] = loadResult 10 place
 checkFrom place seen (c ∷ text) =
@@ -41,18 +44,20 @@ checkOf tape = checkFrom 0 0 tape
 -- bytes from an address onward; those below `low` are dropped
 unfoldable pub putFrom : ℕ → ℕ → List ℕ → List ℕ → List ℕ
 putFrom low address [] memory = memory
-putFrom low address (b ∷ bytes) memory = putFrom low (address + 1) bytes (cond (ltb address low) memory (set memory address b))
+putFrom low address (b ∷ bytes) memory =
+    putFrom low (address + 1) bytes (cond (ltb address low) memory (set memory address b))
 
 -- "Bytes land from the record's address onward; those below 40h are dropped"
 unfoldable pub landed : List ℕ → List ℕ → List ℕ
 landed text memory = putFrom registerEnd (addressOf text) (bytesOf (dataOf text)) memory
 
--- the records of an accepted tape land in their order, so that later ones overwrite earlier ones; count 00 ends the tape, and
--- "what follows is ignored"
+-- the records of an accepted tape land in their order, so that later ones overwrite earlier ones; count 00 ends the
+-- tape, and "what follows is ignored"
 unfoldable pub storeFrom : List ℕ → List ℕ → List ℕ
 storeFrom [] memory = memory
 storeFrom (c ∷ text) memory =
-    cond (eqb c mark && eqb (byteCountOf text) 0) memory (storeFrom text (cond (eqb c mark) (landed text memory) memory))
+    cond (eqb c mark && eqb (byteCountOf text) 0) memory
+    (storeFrom text (cond (eqb c mark) (landed text memory) memory))
 
 -- what a load hands back, and memory after it
 pub record Loaded : Type 0 where

@@ -1,5 +1,5 @@
 use mathlib.Core.Path.{refl}
-use Rattle.r6501q_spans.specs.Spans.{spanOf}
+use Rattle.r6501q_spans.specs.Spans.{nearestEvent, spanOf}
 use borrow.Author.Needs.{needs}
 use Rattle.r6501q_spans.proofs.span.Statement.{statement}
 use Rattle.r6501q_spans.proofs.span.Tie as tie
@@ -50,7 +50,7 @@ nearer-requires-4 c κs = search needs
 
 -- src/lib.rt:49:9
 returns : tie.Need-returns
-unfolding spanOf
+unfolding spanOf nearestEvent
 returns c = rw (← (c .before .before .before .before .before .before .before .before .before .only-cpu .ensures), c .before .before .before .before .before .before .before .before .if1 .taken, c .nearer4 .ensures, c .before .nearer3 .ensures, c .before .before .to-input .ensures, c .before .before .before .nearer2 .ensures, c .before .before .before .before .to-change .ensures, c .before .before .before .before .before .nearer .ensures, c .before .before .before .before .before .before .to-underflow-b .ensures, c .before .before .before .before .before .before .before .to-underflow-a .ensures) refl
 
 -- src/lib.rt:42:1

@@ -13,14 +13,14 @@ read-full-requires c κs = search needs
 array-share-prefix-tape : tie.Need-array-share-prefix-tape
 array-share-prefix-tape c = search needs
 
-slice-aggregate-replay : tie.Need-slice-aggregate-replay
-slice-aggregate-replay c = search needs
+slice-aggregate-replay-input : tie.Need-slice-aggregate-replay-input
+slice-aggregate-replay-input c = search needs
 
-slice-aggregate-replay-2 : tie.Need-slice-aggregate-replay-2
-slice-aggregate-replay-2 c = search needs
+slice-aggregate-replay-input-2 : tie.Need-slice-aggregate-replay-input-2
+slice-aggregate-replay-input-2 c = search needs
 
-replay-requires : tie.Need-replay-requires
-replay-requires c κs = search needs
+replay-input-requires : tie.Need-replay-input-requires
+replay-input-requires c κs = search needs
 
 array-share-prefix-text : tie.Need-array-share-prefix-text
 array-share-prefix-text c = search needs
@@ -41,9 +41,9 @@ main-spec =
     slice-aggregate-read-full
     read-full-requires
     array-share-prefix-tape
-    slice-aggregate-replay
-    slice-aggregate-replay-2
-    replay-requires
+    slice-aggregate-replay-input
+    slice-aggregate-replay-input-2
+    replay-input-requires
     array-share-prefix-text
     slice-aggregate-write-all
     write-all-requires

@@ -1,3 +1,4 @@
+use mathlib.Core.Path.{refl}
 use borrow.Author.Needs.{needs}
 use Rattle.r6501q_registers.proofs.write.write_sccr.Statement.{statement}
 use Rattle.r6501q_registers.proofs.write.write_sccr.Tie as tie
@@ -16,7 +17,7 @@ zero-progress-requires c κs = search needs
 
 -- src/write.rt:60:1
 returns : tie.Need-returns
-returns c = rw (← (c .before .entering-mode .ensures), ← (c .zero-progress .ensures))
+returns c = rw (c .zero-progress .ensures, c .before .entering-mode .ensures) refl
 
 pub write-sccr-spec : {M : Type 1} → statement M
 write-sccr-spec = tie.close (tie.spec entering-mode-requires zero-progress-requires returns)

@@ -1,4 +1,5 @@
 use Rattle.serial.specs.Format.{parityBit}
+use mathlib.Core.Path.{refl}
 use borrow.Author.Tests.{lt-ltb, le-ltb, le-leb, lt-leb, eq-eqb, ne-eqb}
 use borrow.Author.Needs.{needs}
 use Rattle.serial.proofs.format.parity_bit.Statement.{statement}
@@ -14,12 +15,12 @@ odd-ones-requires c κs = search needs
 -- src/format.rt:86:1
 returns : tie.Need-returns
 unfolding parityBit
-returns c = rw (← (c .before .odd-ones .ensures), eq-eqb _ _ (c .if1 .taken))
+returns c = rw (c .before .odd-ones .ensures, eq-eqb _ _ (c .if1 .taken)) refl
 
 -- src/format.rt:86:1
 returns-2 : tie.Need-returns-2
 unfolding parityBit
-returns-2 c = rw (← (c .before .odd-ones .ensures), ne-eqb _ _ (c .if1 .left))
+returns-2 c = rw (c .before .odd-ones .ensures, ne-eqb _ _ (c .if1 .left)) refl
 
 pub parity-bit-spec : {M : Type 1} → statement M
 parity-bit-spec = tie.close (tie.spec odd-ones-requires returns returns-2)

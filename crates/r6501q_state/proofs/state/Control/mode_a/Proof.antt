@@ -1,4 +1,5 @@
 use Rattle.r6501q_state.specs.Control.{modeA}
+use mathlib.Core.Path.{refl}
 use borrow.Author.Needs.{needs}
 use Rattle.r6501q_state.proofs.state.Control.mode_a.Statement.{statement}
 use Rattle.r6501q_state.proofs.state.Control.mode_a.Tie as tie
@@ -18,7 +19,7 @@ in-force-requires c κs = search needs
 -- src/control.rt:51:5
 returns : tie.Need-returns
 unfolding modeA
-returns c = rw (← (c .before .before .holds-counter .ensures), ← (c .in-force .ensures))
+returns c = rw (c .in-force .ensures, c .before .before .holds-counter .ensures) refl
 
 pub mode-a-spec : {M : Type 1} → statement M
 mode-a-spec = tie.close (tie.spec holds-counter-requires in-force-requires returns)

@@ -1,4 +1,6 @@
 use Rattle.serial.specs.Receiver.{keptWith}
+use Prim.Native.Nat.{_/_, _%_}
+use mathlib.Core.Path.{refl}
 use borrow.Author.Tests.{lt-ltb, le-ltb, le-leb, lt-leb, eq-eqb, ne-eqb}
 use Rattle.serial.proofs.receiver.Receiver.keep.Statement.{statement}
 use Rattle.serial.proofs.receiver.Receiver.keep.Tie as tie
@@ -8,7 +10,7 @@ use Rattle.serial.proofs.receiver.Receiver.keep.Lts as lts
 -- src/receiver.rt:145:13
 returns : tie.Need-returns
 unfolding keptWith
-returns c = rw (eq-eqb _ _ (c .if1 .taken))
+returns c = rw (eq-eqb (c .before .args .scsr / 1 % 2) 1 (c .if1 .taken)) refl
 
 -- src/receiver.rt:141:5
 returns-2 : tie.Need-returns-2

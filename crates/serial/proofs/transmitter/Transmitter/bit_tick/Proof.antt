@@ -1,4 +1,5 @@
 use Rattle.serial.specs.Transmitter.{bitTick}
+use mathlib.Core.Path.{refl}
 use borrow.Author.Tests.{lt-ltb, le-ltb, le-leb, lt-leb, eq-eqb, ne-eqb}
 use borrow.Author.Needs.{needs}
 use Rattle.serial.proofs.transmitter.Transmitter.bit_tick.Statement.{statement}
@@ -19,7 +20,7 @@ frame-end-requires c κs = search needs
 -- src/transmitter.rt:136:13
 returns : tie.Need-returns
 unfolding bitTick
-returns c = rw (← (c .before .before .before .advance .ensures), ← (c .frame-end .ensures), eq-eqb _ _ (c .before .if1 .taken))
+returns c = rw (c .frame-end .ensures, ← (c .before .before .before .advance .ensures), eq-eqb _ _ (c .before .if1 .taken)) refl
 
 -- src/transmitter.rt:131:5
 returns-2 : tie.Need-returns-2

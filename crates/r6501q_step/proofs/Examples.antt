@@ -1,0 +1,181 @@
+-- P1, P2, P5 and P6 of document 01, of whole clocks as the chip makes them: steps 1 to 5, and where a register is written, by an instruction.
+use mathlib.Core.Path.{_≡_, refl}
+use mathlib.Core.Bool.{Bool, true, false}
+use mathlib.Core.List.{List, [], _∷_, _++_}
+use Prim.Native.Nat.{ℕ, zero, suc, _+_}
+use native.Mathlib.Omega.{arith}
+use lib.ListN.{replicate}
+use Rattle.bits.specs.Bits.{bit}
+use Rattle.bits.specs.Lists.{tabulate}
+use Rattle.bits.specs.Bits.{withBit, setWhere, flipWhere}
+use Rattle.pin_lists.specs.PinLists.{dueCount}
+use Rattle.counters.specs.Counters.{ticksOf, inForce, downA, countsA, clockA, lowerA, upperA, loadCounterA, reloadB, downB, clockB, lowerB, upperB, copyB, loadCounterB, turnToC}
+use Rattle.serial.specs.Format.{transmitterAsynchronous, receiverAsynchronous, receiverShifting, holdsA, keepsTransmitter, keepsReceiver, parityBit, frameBits, sentBits, pace}
+use Rattle.serial.specs.Receiver.{startDetected, put, receivedByte, wrongParity, statusAfter, keptWith, frameEnded, lookTaken, looked, receiveTick, shiftedAtRise, byteEnded, receiveRise, receiverClock, receiverWithSccr}
+use Rattle.serial.specs.Transmitter.{framed, taken, idleTick, frameEnd, nextPhase, ticked, bitTick, sendTick, transmitterClock, line, shiftClock, transmitterWithSccr}
+use Rattle.cpu_opcodes.specs.Decode.{decodeOf}
+use Rattle.cpu_alu.specs.Status.{packed, unpacked, pushed}
+use Rattle.cpu_access.specs.Bus.{memoryByte, vectorOf, askOf, readOf, readWord, fetchOf, fetchWord}
+use Rattle.cpu_access.specs.Modes.{indexedBy, zeroPagePointer, displacement, relativeTo, locateOf}
+use Rattle.cpu_access.specs.Stack.{pushWord, pushInterrupt, pullOf, pullWord, writtenOver, readAfter}
+use Rattle.cpu_operations.specs.Effects.{completed, stored, modified, branched, bitBranched, jumped, pushedByte, pulledAccumulator, pulledStatus, returned, returnedFromInterrupt, interrupted, breakTaken}
+use Rattle.cpu_operations.specs.Operations.{workOf}
+use Rattle.cpu.specs.Entries.{resetEntry, interruptEntry}
+use Rattle.cpu.specs.Instruction.{outcomeOf, operandByte, carriedOut, writesAsked, subroutineCall, executeOf, instructionOf}
+use Rattle.r6501q_state.specs.Control.{flagsOf, modeA, modeB}
+use Rattle.r6501q_state.specs.Inputs.{withInput}
+use Rattle.r6501q_state.specs.Pins.{driveA, driveD, drivenWord, levelsOf, rose, fell, edges, withEdges, resetOf, sensedAt, sensed}
+use Rattle.r6501q_state.specs.State.{fresh}
+use Rattle.r6501q_registers.specs.Read.{portValue, registerValue, afterRead}
+use Rattle.r6501q_registers.specs.Write.{startB, startA, entering, keptFlag, keptFlags, writeOf}
+use Rattle.r6501q_cpu.specs.Processor.{putRegister, registersAfter, answerOf, turnOf, instructionFrom, wholeInstruction, irqDue, resetStart, nmiStart, irqStart, startOf, processorOf}
+use Rattle.r6501q_clock.specs.Clock.{withInputs, countA, countB, sentBy, heardBy, worked, readyOf, finished, clockOf}
+use Rattle.r6501q_clock.specs.Commit.{putByte, committed}
+use Rattle.r6501q_state.specs.declared.state.Levels.{Levels}
+use Rattle.r6501q_state.specs.declared.state.State.{State}
+use Rattle.r6501q_state.specs.State.{freshCpu, freshPorts, freshLevels, freshPeripherals}
+use Rattle.r6501q_state.specs.Copies.{flagged, withCounterA, withCounterB, withPeripherals}
+use Rattle.serial.specs.Transmitter.{idleTransmitter}
+use Rattle.r6501q_clock.specs.Clock.{inputsSet}
+use Rattle.leaps.specs.Leaps.{plains}
+use Rattle.leaps.specs.World.{putRecord, plainOf}
+use Rattle.r6501q_step.specs.R6501q.{World, plain, chip}
+
+-- a world at a call's start
+abbrev pub startWith : State → List ℕ → List ℕ → List ℕ → List ℕ → List ℕ → World
+startWith s memory inputClocks inputCodes outputClocks outputWords = record {
+  state = s;
+  memory = memory;
+  inputClocks = inputClocks;
+  inputCodes = inputCodes;
+  outputClocks = outputClocks;
+  outputWords = outputWords;
+  read = 0;
+  written = 0;
+  stop = 0;
+}
+
+-- ---- P1, "L = 0: underflow each clock.": counters count while RES is low too, and there step 1 clears the flags on each clock
+
+abbrev pub lowLevels : Levels
+lowLevels = record { ports = 0xFFFFFFFF; nmi = true; res = false }
+
+-- both counters and their latches 0, the flags as given
+abbrev pub heldLow : ℕ → ℕ → State
+heldLow ifr clock = record {
+  cpu = freshCpu;
+  due = record { reset = true; nmi = false };
+  peripherals =
+      withCounterB (withCounterA (flagged freshPeripherals ifr) (record { count = 0; latch = 0 }))
+      (record { count = 0; latchb = 0; latchc = 0; turnc = true });
+  external = lowLevels;
+  last = lowLevels;
+  clock = clock;
+}
+
+pub p1-cleared : (clock : ℕ) → sensed (inputsSet (heldLow 0x30 clock) []) ≡ heldLow 0 (clock + 1)
+unfolding withBit setWhere flipWhere dueCount ticksOf inForce downA countsA clockA lowerA upperA loadCounterA reloadB downB clockB lowerB upperB copyB loadCounterB turnToC transmitterAsynchronous receiverAsynchronous receiverShifting holdsA keepsTransmitter keepsReceiver parityBit frameBits sentBits pace startDetected put receivedByte wrongParity statusAfter keptWith frameEnded lookTaken looked receiveTick shiftedAtRise byteEnded receiveRise receiverClock receiverWithSccr framed taken idleTick frameEnd nextPhase ticked bitTick sendTick transmitterClock line shiftClock transmitterWithSccr flagsOf modeA modeB withInput driveA driveD drivenWord levelsOf rose fell edges withEdges resetOf sensedAt sensed fresh withInputs countA countB sentBy heardBy worked readyOf finished clockOf putByte committed processorOf plainOf plains putRecord
+p1-cleared clock = refl
+
+pub p1-clock : (clock : ℕ) (memory times words : List ℕ)
+    → plain (startWith (heldLow 0x30 clock) memory [] [] times words) ≡ startWith (heldLow 0x30 (clock + 1)) memory [] [] times words
+unfolding withBit setWhere flipWhere dueCount ticksOf inForce downA countsA clockA lowerA upperA loadCounterA reloadB downB clockB lowerB upperB copyB loadCounterB turnToC transmitterAsynchronous receiverAsynchronous receiverShifting holdsA keepsTransmitter keepsReceiver parityBit frameBits sentBits pace startDetected put receivedByte wrongParity statusAfter keptWith frameEnded lookTaken looked receiveTick shiftedAtRise byteEnded receiveRise receiverClock receiverWithSccr framed taken idleTick frameEnd nextPhase ticked bitTick sendTick transmitterClock line shiftClock transmitterWithSccr flagsOf modeA modeB withInput driveA driveD drivenWord levelsOf rose fell edges withEdges resetOf sensedAt sensed fresh withInputs countA countB sentBy heardBy worked readyOf finished clockOf putByte committed processorOf plainOf plains putRecord
+p1-clock clock memory times words = refl
+
+pub p1-clocks : (n clock : ℕ) (memory times words : List ℕ)
+    → plains chip n (startWith (heldLow 0x30 clock) memory [] [] times words) ≡ startWith (heldLow 0x30 (clock + n)) memory [] [] times words
+unfolding plains
+p1-clocks zero clock memory times words = let e : clock + 0 ≡ clock = omega arith in rw e
+p1-clocks (suc n) clock memory times words =
+    let e : clock + suc n ≡ clock + 1 + n = omega arith in
+    rw (p1-clock clock memory times words, e) (p1-clocks n (clock + 1) memory times words)
+
+-- ---- P2, "L = 5 loaded on clock t: underflow on t + 6.": by STA 1Ah, which starts on clock 8
+
+abbrev pub running : ℕ → State
+running wait = record {
+  cpu = record { a = 0; x = 0; y = 0; sp = 0xFF; p = 0x04; pc = 0x40; wait = wait };
+  due = record { reset = false; nmi = false };
+  peripherals = freshPeripherals;
+  external = freshLevels;
+  last = freshLevels;
+  clock = 0;
+}
+
+-- LDA #05h, STA lower, LDA #00h, STA start, and a jump to itself: 18h and 1Ah of counter A, 1Ch and 1Eh of counter B
+abbrev pub timerProgram : ℕ → ℕ → List ℕ
+timerProgram lower start = replicate 0x40 0 ++ (0xA9 ∷ 0x05 ∷ 0x85 ∷ lower ∷ 0xA9 ∷ 0x00 ∷ 0x85 ∷ start ∷ 0x4C ∷ 0x48 ∷ 0x00 ∷ [])
+
+abbrev pub timerStart : ℕ → ℕ → World
+timerStart lower start = startWith (running 0) (timerProgram lower start) [] [] [] []
+
+pub p2-loaded : plains chip 8 (timerStart 0x18 0x1A) .state .peripherals .countera ≡ record { count = 5; latch = 5 }
+unfolding withBit setWhere flipWhere dueCount ticksOf inForce downA countsA clockA lowerA upperA loadCounterA reloadB downB clockB lowerB upperB copyB loadCounterB turnToC transmitterAsynchronous receiverAsynchronous receiverShifting holdsA keepsTransmitter keepsReceiver parityBit frameBits sentBits pace startDetected put receivedByte wrongParity statusAfter keptWith frameEnded lookTaken looked receiveTick shiftedAtRise byteEnded receiveRise receiverClock receiverWithSccr framed taken idleTick frameEnd nextPhase ticked bitTick sendTick transmitterClock line shiftClock transmitterWithSccr decodeOf packed unpacked pushed memoryByte vectorOf askOf readOf readWord fetchOf fetchWord indexedBy zeroPagePointer displacement relativeTo locateOf pushWord pushInterrupt pullOf pullWord writtenOver readAfter completed stored modified branched bitBranched jumped pushedByte pulledAccumulator pulledStatus returned returnedFromInterrupt interrupted breakTaken workOf resetEntry interruptEntry outcomeOf operandByte carriedOut writesAsked subroutineCall executeOf instructionOf flagsOf modeA modeB withInput driveA driveD drivenWord levelsOf rose fell edges withEdges resetOf sensedAt sensed fresh portValue registerValue afterRead startB startA entering keptFlag keptFlags writeOf putRegister registersAfter answerOf turnOf instructionFrom wholeInstruction irqDue resetStart nmiStart irqStart startOf processorOf withInputs countA countB sentBy heardBy worked readyOf finished clockOf putByte committed plainOf plains putRecord
+p2-loaded = refl
+
+pub p2-clocks : tabulate (λ k. bit 4 (plains chip k (timerStart 0x18 0x1A) .state .peripherals .control .ifr)) 7 8
+    ≡ false ∷ false ∷ false ∷ false ∷ false ∷ false ∷ true ∷ []
+unfolding withBit setWhere flipWhere dueCount ticksOf inForce downA countsA clockA lowerA upperA loadCounterA reloadB downB clockB lowerB upperB copyB loadCounterB turnToC transmitterAsynchronous receiverAsynchronous receiverShifting holdsA keepsTransmitter keepsReceiver parityBit frameBits sentBits pace startDetected put receivedByte wrongParity statusAfter keptWith frameEnded lookTaken looked receiveTick shiftedAtRise byteEnded receiveRise receiverClock receiverWithSccr framed taken idleTick frameEnd nextPhase ticked bitTick sendTick transmitterClock line shiftClock transmitterWithSccr decodeOf packed unpacked pushed memoryByte vectorOf askOf readOf readWord fetchOf fetchWord indexedBy zeroPagePointer displacement relativeTo locateOf pushWord pushInterrupt pullOf pullWord writtenOver readAfter completed stored modified branched bitBranched jumped pushedByte pulledAccumulator pulledStatus returned returnedFromInterrupt interrupted breakTaken workOf resetEntry interruptEntry outcomeOf operandByte carriedOut writesAsked subroutineCall executeOf instructionOf flagsOf modeA modeB withInput driveA driveD drivenWord levelsOf rose fell edges withEdges resetOf sensedAt sensed fresh portValue registerValue afterRead startB startA entering keptFlag keptFlags writeOf putRegister registersAfter answerOf turnOf instructionFrom wholeInstruction irqDue resetStart nmiStart irqStart startOf processorOf withInputs countA countB sentBy heardBy worked readyOf finished clockOf putByte committed plainOf plains putRecord
+p2-clocks = refl
+
+pub p2-clocks-b : tabulate (λ k. bit 5 (plains chip k (timerStart 0x1C 0x1E) .state .peripherals .control .ifr)) 7 8
+    ≡ false ∷ false ∷ false ∷ false ∷ false ∷ false ∷ true ∷ []
+unfolding withBit setWhere flipWhere dueCount ticksOf inForce downA countsA clockA lowerA upperA loadCounterA reloadB downB clockB lowerB upperB copyB loadCounterB turnToC transmitterAsynchronous receiverAsynchronous receiverShifting holdsA keepsTransmitter keepsReceiver parityBit frameBits sentBits pace startDetected put receivedByte wrongParity statusAfter keptWith frameEnded lookTaken looked receiveTick shiftedAtRise byteEnded receiveRise receiverClock receiverWithSccr framed taken idleTick frameEnd nextPhase ticked bitTick sendTick transmitterClock line shiftClock transmitterWithSccr decodeOf packed unpacked pushed memoryByte vectorOf askOf readOf readWord fetchOf fetchWord indexedBy zeroPagePointer displacement relativeTo locateOf pushWord pushInterrupt pullOf pullWord writtenOver readAfter completed stored modified branched bitBranched jumped pushedByte pulledAccumulator pulledStatus returned returnedFromInterrupt interrupted breakTaken workOf resetEntry interruptEntry outcomeOf operandByte carriedOut writesAsked subroutineCall executeOf instructionOf flagsOf modeA modeB withInput driveA driveD drivenWord levelsOf rose fell edges withEdges resetOf sensedAt sensed fresh portValue registerValue afterRead startB startA entering keptFlag keptFlags writeOf putRegister registersAfter answerOf turnOf instructionFrom wholeInstruction irqDue resetStart nmiStart irqStart startOf processorOf withInputs countA countB sentBy heardBy worked readyOf finished clockOf putByte committed plainOf plains putRecord
+p2-clocks-b = refl
+
+-- ---- P6, "one low sub-interval at the receiver: no start.": PA7 low on clocks 1 and 2, a tick on each clock, while the CPU waits
+
+abbrev pub listening : ℕ → ℕ → State
+listening register received = withPeripherals (running 6) (record {
+  ports = freshPorts;
+  countera = record { count = 0; latch = 0 };
+  counterb = freshPeripherals .counterb;
+  control = record { ifr = 0; ier = 0; mcr = 0; sccr = 0x40; scsr = 0x40 };
+  serial = record { sent = 0; received = received };
+  transmitter = idleTransmitter;
+  receiver = record { subinterval = 0; half = false; left = 0; register = register };
+})
+
+abbrev pub lineStart : ℕ → ℕ → List ℕ → World
+lineStart register received memory = startWith (listening register received) memory (1 ∷ 3 ∷ []) (7 ∷ 71 ∷ []) [] []
+
+pub p6-low : (register received : ℕ) (memory : List ℕ)
+    → plains chip 2 (lineStart register received memory) .state .peripherals .receiver ≡ record { subinterval = 1; half = false; left = 0; register = register }
+unfolding withBit setWhere flipWhere dueCount ticksOf inForce downA countsA clockA lowerA upperA loadCounterA reloadB downB clockB lowerB upperB copyB loadCounterB turnToC transmitterAsynchronous receiverAsynchronous receiverShifting holdsA keepsTransmitter keepsReceiver parityBit frameBits sentBits pace startDetected put receivedByte wrongParity statusAfter keptWith frameEnded lookTaken looked receiveTick shiftedAtRise byteEnded receiveRise receiverClock receiverWithSccr framed taken idleTick frameEnd nextPhase ticked bitTick sendTick transmitterClock line shiftClock transmitterWithSccr flagsOf modeA modeB withInput driveA driveD drivenWord levelsOf rose fell edges withEdges resetOf sensedAt sensed fresh withInputs countA countB sentBy heardBy worked readyOf finished clockOf putByte committed processorOf plainOf plains putRecord
+p6-low register received memory = refl
+
+pub p6-none : (register received : ℕ) (memory : List ℕ)
+    → plains chip 4 (lineStart register received memory) .state .peripherals .receiver ≡ record { subinterval = 0; half = false; left = 0; register = register }
+unfolding withBit setWhere flipWhere dueCount ticksOf inForce downA countsA clockA lowerA upperA loadCounterA reloadB downB clockB lowerB upperB copyB loadCounterB turnToC transmitterAsynchronous receiverAsynchronous receiverShifting holdsA keepsTransmitter keepsReceiver parityBit frameBits sentBits pace startDetected put receivedByte wrongParity statusAfter keptWith frameEnded lookTaken looked receiveTick shiftedAtRise byteEnded receiveRise receiverClock receiverWithSccr framed taken idleTick frameEnd nextPhase ticked bitTick sendTick transmitterClock line shiftClock transmitterWithSccr flagsOf modeA modeB withInput driveA driveD drivenWord levelsOf rose fell edges withEdges resetOf sensedAt sensed fresh withInputs countA countB sentBy heardBy worked readyOf finished clockOf putByte committed processorOf plainOf plains putRecord
+p6-none register received memory = refl
+
+pub p6-status : (register received : ℕ) (memory : List ℕ) → plains chip 4 (lineStart register received memory) .state .peripherals .control .scsr ≡ 0x40
+unfolding withBit setWhere flipWhere dueCount ticksOf inForce downA countsA clockA lowerA upperA loadCounterA reloadB downB clockB lowerB upperB copyB loadCounterB turnToC transmitterAsynchronous receiverAsynchronous receiverShifting holdsA keepsTransmitter keepsReceiver parityBit frameBits sentBits pace startDetected put receivedByte wrongParity statusAfter keptWith frameEnded lookTaken looked receiveTick shiftedAtRise byteEnded receiveRise receiverClock receiverWithSccr framed taken idleTick frameEnd nextPhase ticked bitTick sendTick transmitterClock line shiftClock transmitterWithSccr flagsOf modeA modeB withInput driveA driveD drivenWord levelsOf rose fell edges withEdges resetOf sensedAt sensed fresh withInputs countA countB sentBy heardBy worked readyOf finished clockOf putByte committed processorOf plainOf plains putRecord
+p6-status register received memory = refl
+
+-- ---- P5, "41h, 8 bits, no parity, latch 0: 176 clocks from start to idle."
+
+-- LDA #00h, STA 18h, STA 1Ah, LDA #80h, STA 15h, LDA #41h, STA 17h on clock 16, and a jump to itself
+abbrev pub senderProgram : List ℕ
+senderProgram = replicate 0x40 0 ++ (0xA9 ∷ 0x00 ∷ 0x85 ∷ 0x18 ∷ 0x85 ∷ 0x1A ∷ 0xA9 ∷ 0x80 ∷ 0x85 ∷ 0x15 ∷ 0xA9 ∷ 0x41 ∷ 0x85 ∷ 0x17 ∷ 0x4C ∷ 0x4E ∷ 0x00 ∷ [])
+
+abbrev pub senderStart : World
+senderStart = startWith (running 0) senderProgram [] [] (replicate 6 0) (replicate 6 0)
+
+-- the start bit is on the line after clock 17
+pub p5-start : plains chip 17 senderStart .state .peripherals .transmitter ≡ record { left = 11; phase = 0; register = 0x682 }
+unfolding withBit setWhere flipWhere dueCount ticksOf inForce downA countsA clockA lowerA upperA loadCounterA reloadB downB clockB lowerB upperB copyB loadCounterB turnToC transmitterAsynchronous receiverAsynchronous receiverShifting holdsA keepsTransmitter keepsReceiver parityBit frameBits sentBits pace startDetected put receivedByte wrongParity statusAfter keptWith frameEnded lookTaken looked receiveTick shiftedAtRise byteEnded receiveRise receiverClock receiverWithSccr framed taken idleTick frameEnd nextPhase ticked bitTick sendTick transmitterClock line shiftClock transmitterWithSccr decodeOf packed unpacked pushed memoryByte vectorOf askOf readOf readWord fetchOf fetchWord indexedBy zeroPagePointer displacement relativeTo locateOf pushWord pushInterrupt pullOf pullWord writtenOver readAfter completed stored modified branched bitBranched jumped pushedByte pulledAccumulator pulledStatus returned returnedFromInterrupt interrupted breakTaken workOf resetEntry interruptEntry outcomeOf operandByte carriedOut writesAsked subroutineCall executeOf instructionOf flagsOf modeA modeB withInput driveA driveD drivenWord levelsOf rose fell edges withEdges resetOf sensedAt sensed fresh portValue registerValue afterRead startB startA entering keptFlag keptFlags writeOf putRegister registersAfter answerOf turnOf instructionFrom wholeInstruction irqDue resetStart nmiStart irqStart startOf processorOf withInputs countA countB sentBy heardBy worked readyOf finished clockOf putByte committed plainOf plains putRecord
+p5-start = refl
+
+-- after clock 192 one bit is left, and after clock 193 it is idle, with an under-run; the line's six edges are its records
+pub p5-last-bit : plains chip 192 senderStart .state .peripherals .transmitter .left ≡ 1
+unfolding withBit setWhere flipWhere dueCount ticksOf inForce downA countsA clockA lowerA upperA loadCounterA reloadB downB clockB lowerB upperB copyB loadCounterB turnToC transmitterAsynchronous receiverAsynchronous receiverShifting holdsA keepsTransmitter keepsReceiver parityBit frameBits sentBits pace startDetected put receivedByte wrongParity statusAfter keptWith frameEnded lookTaken looked receiveTick shiftedAtRise byteEnded receiveRise receiverClock receiverWithSccr framed taken idleTick frameEnd nextPhase ticked bitTick sendTick transmitterClock line shiftClock transmitterWithSccr decodeOf packed unpacked pushed memoryByte vectorOf askOf readOf readWord fetchOf fetchWord indexedBy zeroPagePointer displacement relativeTo locateOf pushWord pushInterrupt pullOf pullWord writtenOver readAfter completed stored modified branched bitBranched jumped pushedByte pulledAccumulator pulledStatus returned returnedFromInterrupt interrupted breakTaken workOf resetEntry interruptEntry outcomeOf operandByte carriedOut writesAsked subroutineCall executeOf instructionOf flagsOf modeA modeB withInput driveA driveD drivenWord levelsOf rose fell edges withEdges resetOf sensedAt sensed fresh portValue registerValue afterRead startB startA entering keptFlag keptFlags writeOf putRegister registersAfter answerOf turnOf instructionFrom wholeInstruction irqDue resetStart nmiStart irqStart startOf processorOf withInputs countA countB sentBy heardBy worked readyOf finished clockOf putByte committed plainOf plains putRecord
+p5-last-bit = refl
+
+pub p5-idle : plains chip 193 senderStart .state .peripherals .transmitter ≡ idleTransmitter
+unfolding withBit setWhere flipWhere dueCount ticksOf inForce downA countsA clockA lowerA upperA loadCounterA reloadB downB clockB lowerB upperB copyB loadCounterB turnToC transmitterAsynchronous receiverAsynchronous receiverShifting holdsA keepsTransmitter keepsReceiver parityBit frameBits sentBits pace startDetected put receivedByte wrongParity statusAfter keptWith frameEnded lookTaken looked receiveTick shiftedAtRise byteEnded receiveRise receiverClock receiverWithSccr framed taken idleTick frameEnd nextPhase ticked bitTick sendTick transmitterClock line shiftClock transmitterWithSccr decodeOf packed unpacked pushed memoryByte vectorOf askOf readOf readWord fetchOf fetchWord indexedBy zeroPagePointer displacement relativeTo locateOf pushWord pushInterrupt pullOf pullWord writtenOver readAfter completed stored modified branched bitBranched jumped pushedByte pulledAccumulator pulledStatus returned returnedFromInterrupt interrupted breakTaken workOf resetEntry interruptEntry outcomeOf operandByte carriedOut writesAsked subroutineCall executeOf instructionOf flagsOf modeA modeB withInput driveA driveD drivenWord levelsOf rose fell edges withEdges resetOf sensedAt sensed fresh portValue registerValue afterRead startB startA entering keptFlag keptFlags writeOf putRegister registersAfter answerOf turnOf instructionFrom wholeInstruction irqDue resetStart nmiStart irqStart startOf processorOf withInputs countA countB sentBy heardBy worked readyOf finished clockOf putByte committed plainOf plains putRecord
+p5-idle = refl
+
+pub p5-edges : plains chip 193 senderStart .outputClocks ≡ 17 ∷ 33 ∷ 49 ∷ 129 ∷ 145 ∷ 161 ∷ []
+unfolding withBit setWhere flipWhere dueCount ticksOf inForce downA countsA clockA lowerA upperA loadCounterA reloadB downB clockB lowerB upperB copyB loadCounterB turnToC transmitterAsynchronous receiverAsynchronous receiverShifting holdsA keepsTransmitter keepsReceiver parityBit frameBits sentBits pace startDetected put receivedByte wrongParity statusAfter keptWith frameEnded lookTaken looked receiveTick shiftedAtRise byteEnded receiveRise receiverClock receiverWithSccr framed taken idleTick frameEnd nextPhase ticked bitTick sendTick transmitterClock line shiftClock transmitterWithSccr decodeOf packed unpacked pushed memoryByte vectorOf askOf readOf readWord fetchOf fetchWord indexedBy zeroPagePointer displacement relativeTo locateOf pushWord pushInterrupt pullOf pullWord writtenOver readAfter completed stored modified branched bitBranched jumped pushedByte pulledAccumulator pulledStatus returned returnedFromInterrupt interrupted breakTaken workOf resetEntry interruptEntry outcomeOf operandByte carriedOut writesAsked subroutineCall executeOf instructionOf flagsOf modeA modeB withInput driveA driveD drivenWord levelsOf rose fell edges withEdges resetOf sensedAt sensed fresh portValue registerValue afterRead startB startA entering keptFlag keptFlags writeOf putRegister registersAfter answerOf turnOf instructionFrom wholeInstruction irqDue resetStart nmiStart irqStart startOf processorOf withInputs countA countB sentBy heardBy worked readyOf finished clockOf putByte committed plainOf plains putRecord
+p5-edges = refl

@@ -1,0 +1,88 @@
+-- 01, What is handed back: "6 | the next clock would start an undefined opcode", said of a plain clock.
+use mathlib.Core.Path.{_≡_, refl, sym, ap, _∙_}
+use mathlib.Core.Bool.{Bool, true, false, _&&_, not, cond}
+use mathlib.Core.List.{List}
+use Prim.Native.Nat.{ℕ}
+use lib.Dec.{ltb, eqb}
+use lib.ListN.{length, take}
+use borrow.Author.Tests.{eq-eqb}
+use Rattle.bits.proofs.Cond.{cond-yes}
+use Rattle.cpu_opcodes.specs.declared.Decoded.{Decoded}
+use Rattle.cpu_opcodes.specs.declared.Decoded.the-variants as decoded
+use Rattle.cpu_opcodes.specs.declared.Entry.{Entry}
+use Rattle.cpu_opcodes.specs.Decode.{decodeOf}
+use Rattle.leaps.specs.World.{after, dueIn, runningIn, plainOf}
+use Rattle.r6501q_state.specs.declared.state.State.{State}
+use Rattle.r6501q_state.specs.Pins.{drivenWord}
+use Rattle.r6501q_cpu.specs.declared.Next.{Next}
+use Rattle.r6501q_cpu.specs.declared.Processed.{Processed}
+use Rattle.r6501q_cpu.specs.declared.Processed.the-variants as processed
+use Rattle.r6501q_cpu.specs.Processor.{wholeInstruction, opcodeAt, irqDue, startOf, processorOf}
+use Rattle.r6501q_cpu.proofs.Undefined.{undefined-opcode, defined-opcode}
+use Rattle.r6501q_clock.specs.declared.Clocked.{Clocked}
+use Rattle.r6501q_clock.specs.Clock.{readyOf, finished, recorded, clockOf}
+use Rattle.r6501q_step.specs.R6501q.{World, clockOutcome, r6501q, plain}
+
+abbrev pub isUndefined : Decoded → Bool
+isUndefined decoded.Undefined = true
+isUndefined (decoded.Defined e) = false
+
+-- of a state after steps 1 to 3: RES is high, wait 0, neither reset nor NMI due, no IRQ, and the opcode at PC is undefined
+abbrev pub startsUndefined : State → List ℕ → Bool
+startsUndefined s memory =
+    s .last .res && not (ltb 0 (s .cpu .wait)) && not (s .due .reset) && not (s .due .nmi) && not (irqDue s) && isUndefined (decodeOf (opcodeAt s memory))
+
+abbrev notDone : Processed → Bool
+notDone processed.Undefined = true
+notDone (processed.Done n) = false
+
+instruction-undefined : (s : State) (memory : List ℕ) → notDone (wholeInstruction s memory) ≡ isUndefined (decodeOf (opcodeAt s memory))
+instruction-undefined s memory = by-opcode (decodeOf (opcodeAt s memory)) refl
+  where
+    done : (e : Entry) → decodeOf (opcodeAt s memory) ≡ decoded.Defined e → (p : Processed) → wholeInstruction s memory ≡ p → notDone p ≡ false
+    done e d processed.Undefined u = absurd (defined-opcode s memory e d u)
+    done e d (processed.Done n) u = refl
+
+    by-opcode : (d : Decoded) → decodeOf (opcodeAt s memory) ≡ d → notDone (wholeInstruction s memory) ≡ isUndefined d
+    by-opcode decoded.Undefined d = ap notDone (undefined-opcode s memory d)
+    by-opcode (decoded.Defined e) d = done e d (wholeInstruction s memory) refl
+
+processor-undefined : (s : State) (memory : List ℕ) → notDone (processorOf s memory) ≡ startsUndefined s memory
+unfolding processorOf startOf
+processor-undefined s memory =
+    by-tests (s .last .res) (ltb 0 (s .cpu .wait)) (s .due .reset) (s .due .nmi) (irqDue s) _ _ _ _ _ (wholeInstruction s memory) (instruction-undefined s memory)
+  where
+    by-tests : (h z r m q : Bool) (a b c d e : Next) (i : Processed) → notDone i ≡ isUndefined (decodeOf (opcodeAt s memory))
+        → notDone (cond h (cond z (processed.Done a) (cond r (processed.Done b) (cond m (processed.Done c) (cond q (processed.Done d) i)))) (processed.Done e))
+        ≡ (h && not z && not r && not m && not q && isUndefined (decodeOf (opcodeAt s memory)))
+    by-tests false z r m q a b c d e i u = refl
+    by-tests true true r m q a b c d e i u = refl
+    by-tests true false true m q a b c d e i u = refl
+    by-tests true false false true q a b c d e i u = refl
+    by-tests true false false false true a b c d e i u = refl
+    by-tests true false false false false a b c d e i u = u
+
+-- a clock that is not undefined does not stop with 6
+by-record : (w : World) (due : ℕ) (n : Next) (word : ℕ) (differs free : Bool)
+    → eqb (after r6501q w due (clockOutcome (w .memory) (finished n word differs free)) .stop) 6 ≡ false
+unfolding finished
+by-record w due n word true true = refl
+by-record w due n word true false = refl
+by-record w due n word false free = refl
+
+by-end : (w : World) (due : ℕ) (free : Bool) (p : Processed)
+    → eqb (after r6501q w due (clockOutcome (w .memory) (recorded (drivenWord (w .state .peripherals)) free p)) .stop) 6 ≡ notDone p
+by-end w due free processed.Undefined = refl
+by-end w due free (processed.Done n) = by-record w due n _ _ free
+
+-- A plain clock stops with 6 just where its steps 1 to 3 leave such a state.
+pub stop-six : (w : World) → w .stop ≡ 0
+    → eqb (plain w .stop) 6 ≡ startsUndefined (readyOf (w .state) (take (dueIn r6501q w) (w .inputCodes))) (w .memory)
+unfolding plainOf clockOf
+stop-six w running =
+    let due = dueIn r6501q w in
+    let free = ltb (w .written) (length (w .outputClocks)) in
+    let s = readyOf (w .state) (take due (w .inputCodes)) in
+    let clocked = clockOf (w .state) (take due (w .inputCodes)) (w .memory) free in
+    ap (λ (v : World). eqb (v .stop) 6) (cond-yes (runningIn w) (after r6501q w due (clockOutcome (w .memory) clocked)) w (eq-eqb (w .stop) 0 running))
+    ∙ by-end w due free (processorOf s (w .memory)) ∙ processor-undefined s (w .memory)
