@@ -234,14 +234,15 @@ r6501q_call_result r6501q_step(r6501q_state state,
  */
 r6501q_load_result r6501q_load(const uint8_t *tape, size_t tape_length, uint8_t *memory, size_t memory_length);
 
-/* A latch value for counter A that makes a wanted bit rate of the serial channel (document 02, U2).
+/* The smallest latch value for counter A that makes a wanted bit rate of asynchronous frames (document 02, U2 and U9;
+ * in shift-register mode a sender takes an eighth of the ticks for a bit, and a receiver none).
  *
  * In:   clock_rate   clocks a second, 1 to R6501Q_HIGHEST_RATE
  *       bit_rate     bits a second, 1 to R6501Q_HIGHEST_RATE
  *       tolerance    thousandths of the bit rate that the rate made may differ by, 0 to R6501Q_HIGHEST_TOLERANCE
  *
- * Back: 0, found 1   value N fits: |clock_rate - 16 * bit_rate * (N + 1)| * 1000 is at most tolerance * 16 * bit_rate *
- *                    (N + 1), in exact arithmetic. Where several fit, any of them is given
+ * Back: 0, found 1   value N is the smallest that fits: |clock_rate - 16 * bit_rate * (N + 1)| * 1000 is at most
+ *                    tolerance * 16 * bit_rate * (N + 1), in exact arithmetic
  *       0, found 0   no value of 0 to 65,535 fits
  *       11           a rate is 0, or a figure is above its limit; found and value are 0
  */

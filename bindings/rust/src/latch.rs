@@ -1,4 +1,4 @@
-//! A latch value of counter A for a wanted bit rate (document 02, U2).
+//! The smallest latch value of counter A for a wanted bit rate (document 02, U2 and U9).
 use crate::calls::number;
 use crate::{library, Number};
 use std::fmt;
@@ -13,7 +13,7 @@ pub const HIGHEST_TOLERANCE: u32 = 1_000;
 #[must_use]
 #[derive(Clone, Copy, PartialEq, Eq, Debug)]
 pub enum Latch {
-    /// A latch value that makes the bit rate within the tolerance. Where several do, any of them.
+    /// The smallest latch value that makes the bit rate within the tolerance.
     Fits(u16),
     /// No latch value of 0 to 65,535 does.
     Nothing,
@@ -49,8 +49,8 @@ impl fmt::Display for Latch {
     }
 }
 
-/// A latch value N of counter A with which the serial channel sends and receives `bit_rate` bits a second at
-/// `clock_rate` clocks a second, within `tolerance` thousandths of the bit rate: exactly, |`clock_rate` - 16 ×
+/// The smallest latch value N of counter A with which the serial channel sends and receives asynchronous frames of
+/// `bit_rate` bits a second at `clock_rate` clocks a second, within `tolerance` thousandths of the bit rate: exactly, |`clock_rate` - 16 ×
 /// `bit_rate` × (N + 1)| × 1,000 is at most `tolerance` × 16 × `bit_rate` × (N + 1). The rates are 1 to
 /// [`HIGHEST_RATE`], the tolerance 0 to [`HIGHEST_TOLERANCE`].
 ///
@@ -59,6 +59,7 @@ impl fmt::Display for Latch {
 ///
 /// assert_eq!(latch(1_000_000, 2_400, 2).to_string(), "latch 25 (0019h)");
 /// assert_eq!(latch(1_000_000, 9_600, 20).to_string(), "no latch value fits");
+/// assert_eq!(latch(1_000_000, 9_600, 90), Latch::Fits(5)); // 6 fits too
 /// assert_eq!(latch(1_000_000, 0, 20), Latch::Refused);
 /// ```
 #[inline]

@@ -1,18 +1,47 @@
 -- Laws of latch values that fit: document 02's text as two inequalities, and the fewest clocks that are enough, which decide.
-use mathlib.Core.Path.{_≡_, refl, sym, _∙_}
-use mathlib.Core.Bool.{Bool, true, false, _||_, false≢true}
+use mathlib.Core.Path.{_≡_, refl, sym, ap, _∙_}
+use mathlib.Core.Bool.{Bool, true, false, _||_, cond, false≢true}
 use mathlib.Core.Logic.{_↔_}
 use Prim.Native.Nat.{ℕ, zero, suc, _+_, _-_, _*_, _/_, _≤_, _<_}
 use native.Mathlib.Nat.{eq-of-mul-eq-mul-left, mul-assoc, mul-comm, zero-mul, add-mul, mul-sub, mul-pos, mul-le-mul, mul-le-mul-left, lt-div-mul-add, div-lt-iff-lt-mul}
 use native.Mathlib.Omega.{arith}
 use lib.Dec.{leb, ltb, eqb}
 use borrow.Author.Tests.{leb-true, leb-false, le-leb, lt-leb, ltb-false, eqb-false}
-use Rattle.bit_rate.specs.BitRate.{difference, fits, highestLatch, highestRate, highestTolerance, outOfLimits}
+use Rattle.bit_rate.specs.declared.Found.{Found}
+use Rattle.bit_rate.specs.declared.Found.the-variants.{Fits, Nothing, Refused}
+use Rattle.bit_rate.specs.BitRate.{difference, fits, highestLatch, highestRate, highestTolerance, outOfLimits, firstFit, latchFor}
 
 -- a test that does not hold
 never : (b : Bool) → (b ≡ true → ⊥) → b ≡ false
 never true h = absurd (h refl)
 never false h = refl
+
+-- ---- the first that fits
+
+-- where K fits and none before it, of values that reach up to it
+pub first-fits : (f b t more N K : ℕ) → N ≤ K → K < N + more → fits f b t K ≡ true
+    → ((M : ℕ) → N ≤ M → M < K → fits f b t M ≡ false) → firstFit f b t more N ≡ Fits K
+unfolding firstFit
+first-fits f b t zero N K from upto e before = absurd (omega arith)
+first-fits f b t (suc more) N K from upto e before =
+    here (fits f b t N) refl (λ h. first-fits f b t more (suc N) K h (omega arith) e (λ M l. before M (omega arith)))
+  where
+    here : (test : Bool) → fits f b t N ≡ test → (suc N ≤ K → firstFit f b t more (suc N) ≡ Fits K)
+        → cond test (Fits N) (firstFit f b t more (suc N)) ≡ Fits K
+    here true h later =
+        let earlier : N < K → ⊥ = λ l. false≢true (sym (before N (omega arith) l) ∙ h) in
+        let same : N ≡ K = omega arith in
+        ap Fits same
+    here false h later =
+        let other : N ≡ K → ⊥ = λ s. false≢true (sym h ∙ ap (fits f b t) s ∙ e) in
+        later (omega arith)
+
+-- where none of them fits
+pub first-none : (f b t more N : ℕ) → ((M : ℕ) → N ≤ M → M < N + more → fits f b t M ≡ false) → firstFit f b t more N ≡ Nothing
+unfolding firstFit
+first-none f b t zero N none = refl
+first-none f b t (suc more) N none =
+    rw (none N (omega arith) (omega arith)) (first-none f b t more (suc N) (λ M from upto. none M (omega arith) (omega arith)))
 
 -- ---- the limits
 
@@ -144,6 +173,10 @@ module _ (f b t : ℕ) (inside : Within f b t) where
       let both = fits-both f b t N .0 e in
       (fewest-least N (both .0), omega (arith, both .1, by-bit (1000 - t) b (N + 1)))
 
+  -- none below them fits
+  pub none-below : (N : ℕ) → N < fewest f b t - 1 → fits f b t N ≡ false
+  none-below N h = never (fits f b t N) (λ e. let l = fitting N e .0 in omega arith)
+
   -- no latch value fits where the fewest clocks are more than a latch can make, or are too slow
   pub none-beyond : highestLatch + 1 < fewest f b t → (N : ℕ) → N ≤ highestLatch → fits f b t N ≡ false
   none-beyond h N most = never (fits f b t N) (λ e. let l = fitting N e .0 in omega arith)
@@ -165,3 +198,16 @@ module _ (f b t : ℕ) (inside : Within f b t) where
   pub slow-bounded : fewest f b t ≤ highestLatch + 1 → (1000 - t) * (16 * b) * fewest f b t ≤ 1000 * 160000000 * 65536
   slow-bounded h =
       mul-le-mul {n₁ = (1000 - t) * (16 * b)} {m₁ = fewest f b t} {n₂ = 1000 * 160000000} {m₂ = 65536} least-bounded (omega arith)
+
+  -- ---- what the code gives
+
+  pub latch-beyond : highestLatch + 1 < fewest f b t → firstFit f b t (highestLatch + 1) 0 ≡ Nothing
+  latch-beyond h = first-none f b t (highestLatch + 1) 0 (λ N from upto. none-beyond h N (omega arith))
+
+  pub latch-slow : 1000 * f < (1000 - t) * (16 * b) * fewest f b t → firstFit f b t (highestLatch + 1) 0 ≡ Nothing
+  latch-slow h = first-none f b t (highestLatch + 1) 0 (λ N from upto. none-slow h N (omega arith))
+
+  pub latch-fits : fewest f b t ≤ highestLatch + 1 → (1000 - t) * (16 * b) * fewest f b t ≤ 1000 * f
+      → firstFit f b t (highestLatch + 1) 0 ≡ Fits (fewest f b t - 1)
+  latch-fits most h =
+      first-fits f b t (highestLatch + 1) 0 (fewest f b t - 1) (omega arith) (omega (arith, fewest-positive)) (fewest-fits h) (λ N from upto. none-below N upto)

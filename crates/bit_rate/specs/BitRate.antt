@@ -1,7 +1,6 @@
--- Document 02, U2: a latch value for a wanted bit rate.
-use mathlib.Core.Path.{_≡_}
-use mathlib.Core.Bool.{Bool, true, false, _||_}
-use Prim.Native.Nat.{ℕ, _+_, _-_, _*_, _≤_}
+-- Document 02, U2 and U9: the smallest latch value for a wanted bit rate.
+use mathlib.Core.Bool.{Bool, true, false, _||_, cond}
+use Prim.Native.Nat.{ℕ, zero, suc, _+_, _-_, _*_}
 use lib.Dec.{leb, ltb, eqb}
 use Rattle.bit_rate.specs.declared.Found.{Found}
 use Rattle.bit_rate.specs.declared.Found.the-variants.{Fits, Nothing, Refused}
@@ -10,7 +9,8 @@ use Rattle.bit_rate.specs.declared.Found.the-variants.{Fits, Nothing, Re
 abbrev pub difference : ℕ → ℕ → ℕ
 difference a b = (a - b) + (b - a)
 
--- "|f - 16 × b × (N + 1)| × 1,000 at most t × 16 × b × (N + 1)": the latch value N fits clock rate f, bit rate b and tolerance t
+-- "|f - 16 × b × (N + 1)| × 1,000 at most t × 16 × b × (N + 1)": the latch value N fits clock rate f, bit rate b and
+-- tolerance t
 unfoldable pub fits : ℕ → ℕ → ℕ → ℕ → Bool
 fits f b t N = leb (difference f (16 * b * (N + 1)) * 1000) (t * 16 * b * (N + 1))
 
@@ -29,12 +29,14 @@ highestTolerance = 1000
 unfoldable pub outOfLimits : ℕ → ℕ → ℕ → Bool
 outOfLimits f b t = eqb f 0 || eqb b 0 || ltb highestRate f || ltb highestRate b || ltb highestTolerance t
 
--- what an answer promises; which of several that fit is given is left free. "give a latch value N .. with ..", "or say none, which
--- must mean that no N fits", "11: .. before any search"
-unfoldable pub LatchFor : ℕ → ℕ → ℕ → Found → Type 0
-LatchFor f b t (Fits N) = (outOfLimits f b t ≡ false) × (N ≤ highestLatch) × (fits f b t N ≡ true)
-LatchFor f b t Nothing = (outOfLimits f b t ≡ false) × ((N : ℕ) → N ≤ highestLatch → fits f b t N ≡ false)
-LatchFor f b t Refused = outOfLimits f b t ≡ true
+-- 02, U9, "the smallest N that fits": the first of so many latch values from N on that fits, or none
+unfoldable pub firstFit : ℕ → ℕ → ℕ → ℕ → ℕ → Found
+firstFit f b t zero N = Nothing
+firstFit f b t (suc more) N = cond (fits f b t N) (Fits N) (firstFit f b t more (suc N))
+
+-- "N from 0 to 65,535", "or say none, which must mean that no N fits"; "11: .. before any search"
+unfoldable pub latchFor : ℕ → ℕ → ℕ → Found
+latchFor f b t = cond (outOfLimits f b t) Refused (firstFit f b t (highestLatch + 1) 0)
 
 -- the number that is handed back: 0 with a latch value, 0 with none, and 11
 abbrev pub numberOf : Found → ℕ

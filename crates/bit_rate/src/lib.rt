@@ -1,9 +1,9 @@
-// A latch value of counter A for a wanted bit rate (document 02, U2). No chip stands here: the serial channel sends one bit in 16
-// underflows, and a latch of N underflows each N + 1 clocks.
+// The smallest latch value of counter A for a wanted bit rate (document 02, U2 and U9), of asynchronous frames: a bit
+// takes 16 underflows, and counter A underflows each N + 1 clocks where its latch is N.
 ghost use mathlib.Core.Path.{_≡_};
-ghost use Rattle.bit_rate.specs.BitRate.{outOfLimits, LatchFor};
+ghost use Rattle.bit_rate.specs.BitRate.{outOfLimits, latchFor};
 
-// A latch value that fits, none, or a refusal (number 11).
+// The smallest latch value that fits, none, or a refusal (number 11).
 pub enum Found {
     Fits(u16),
     Nothing,
@@ -14,6 +14,9 @@ pub enum Found {
 const HIGHEST_RATE: u32 = 10000000;
 
 const HIGHEST_TOLERANCE: u32 = 1000;
+
+// The clocks of an underflow with the highest latch value, 65,535.
+const MOST_CLOCKS: u64 = 65536;
 
 // Whether a rate is 0, or a figure above its limit.
 fn out_of_limits(clockrate: u32, bitrate: u32, tolerance: u32) -> bool
@@ -26,23 +29,24 @@ fn out_of_limits(clockrate: u32, bitrate: u32, tolerance: u32) -> bool
         | (HIGHEST_TOLERANCE < tolerance)
 }
 
-// A latch value for a clock rate, a bit rate and a tolerance in thousandths. A value N fits where its N + 1 clocks are enough,
-// which holds from some count upward, and not too many, which holds downward: the least count that is enough decides.
+// The smallest latch value for a clock rate, a bit rate and a tolerance in thousandths. A value N fits where its N + 1
+// clocks are enough, which holds from some count upward, and not too many, which holds downward: the least count that is
+// enough decides. Rates are taken in thousandths.
 pub fn latch(clockrate: u32, bitrate: u32, tolerance: u32) -> Found
-    ensures { λ r. ⌜ LatchFor clockrate bitrate tolerance r ⌝ }
+    ensures { λ r. ⌜ r ≡ latchFor clockrate bitrate tolerance ⌝ }
 {
     if out_of_limits(clockrate, bitrate, tolerance) {
         return Found::Refused;
     }
-    let wanted = 1000 * (clockrate as u64);
-    let per = 16 * (bitrate as u64);
-    let most = (1000 + (tolerance as u64)) * per;
-    let least = (1000 - (tolerance as u64)) * per;
-    let clocks = (wanted + most - 1) / most;
-    if 65536 < clocks {
+    let rate = 1000 * (clockrate as u64);
+    let underflows = 16 * (bitrate as u64);
+    let fastest = (1000 + (tolerance as u64)) * underflows;
+    let slowest = (1000 - (tolerance as u64)) * underflows;
+    let clocks = (rate + fastest - 1) / fastest;
+    if MOST_CLOCKS < clocks {
         return Found::Nothing;
     }
-    if wanted < least * clocks {
+    if rate < slowest * clocks {
         return Found::Nothing;
     }
     Found::Fits((clocks - 1) as u16)

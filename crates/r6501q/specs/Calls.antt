@@ -4,8 +4,7 @@ use mathlib.Core.Bool.{Bool, true, false, _&&_, cond}
 use mathlib.Core.List.{List}
 use Prim.Native.Nat.{ℕ}
 use lib.ListN.{length}
-use Rattle.bit_rate.specs.declared.Found.{Found}
-use Rattle.bit_rate.specs.BitRate.{LatchFor}
+use Rattle.bit_rate.specs.BitRate.{latchFor}
 use Rattle.refusals.specs.Refusals.{refusalOf}
 use Rattle.leaps.specs.World as leaps
 use Rattle.leaps.specs.Calls as calls
@@ -109,8 +108,6 @@ hostLoaded r memory = record { result = r; memory = memory }
 abbrev pub hostLoad : List ℕ → List ℕ → HostLoaded
 hostLoad tape memory = hostLoaded (hostLoadResult (loadOf tape memory .result)) (loadOf tape memory .memory)
 
--- 02, U2: what the latch call hands back stands for an answer that keeps its promise
-pub record LatchHanded (f b t : ℕ) (r : HostLatchResult) : Type 0 where
-  pub found : Found
-  pub promised : LatchFor f b t found
-  pub handed : r ≡ hostLatchResult found
+-- 02, U2 and U9: the latch call by the host
+abbrev pub hostLatch : ℕ → ℕ → ℕ → HostLatchResult
+hostLatch f b t = hostLatchResult (latchFor f b t)

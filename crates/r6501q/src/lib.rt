@@ -8,7 +8,7 @@ ghost use Rattle.leaps.specs.Calls.{callStart};
 ghost use Rattle.r6501q_state.specs.State.{fresh};
 ghost use Rattle.r6501q_step.specs.R6501q.{r6501qLimits, machine};
 ghost use Rattle.r6501q.specs.Host.{hostState, hostRefused};
-ghost use Rattle.r6501q.specs.Calls.{hostWellFormed, hostHanded, hostCall, hostLoad, hostLoaded, LatchHanded};
+ghost use Rattle.r6501q.specs.Calls.{hostWellFormed, hostHanded, hostCall, hostLoad, hostLoaded, hostLatch};
 use bits::digit8;
 use host::HostLatchResult;
 use host::HostLoadResult;
@@ -165,10 +165,10 @@ pub extern "C" fn r6501q_load(tape: &[u8], memory: &mut [u8]) -> HostLoadResult
     host_load_result(result)
 }
 
-// A latch value of counter A for a wanted bit rate.
+// The smallest latch value of counter A for a wanted bit rate.
 #[no_mangle]
 pub extern "C" fn r6501q_latch(clockrate: u32, bitrate: u32, tolerance: u32) -> HostLatchResult
-    ensures { λ r. ⌜ LatchHanded clockrate bitrate tolerance r ⌝ }
+    ensures { λ r. ⌜ r ≡ hostLatch clockrate bitrate tolerance ⌝ }
 {
     let found = bit_rate::latch(clockrate, bitrate, tolerance);
     host_latch_result(found)

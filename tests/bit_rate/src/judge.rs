@@ -1,4 +1,4 @@
-//! Document 02, U2, read as it stands: what an answer must be, by a search over every latch value.
+//! Document 02, U2 and U9, read as they stand: what an answer must be, by a search over every latch value.
 use r6501q::Latch;
 
 /// A clock rate, a bit rate and a tolerance in thousandths.
@@ -28,12 +28,11 @@ impl Figures {
         (0..=u16::MAX).filter(move |value| self.fits(*value))
     }
 
-    /// Whether an answer keeps what document 02 says of it.
-    pub fn right(self, answer: Latch) -> bool {
-        match answer {
-            Latch::Fits(value) => !self.refused() && self.fits(value),
-            Latch::Nothing => !self.refused() && self.fitting().next().is_none(),
-            Latch::Refused => self.refused(),
+    /// The one right answer: "the smallest N that fits", none, or 11 before any search.
+    pub fn answer(self) -> Latch {
+        if self.refused() {
+            return Latch::Refused;
         }
+        self.fitting().next().map_or(Latch::Nothing, Latch::Fits)
     }
 }

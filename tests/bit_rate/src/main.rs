@@ -33,22 +33,25 @@ impl Counts {
             Latch::Nothing => self.nothing += 1,
             Latch::Refused => self.refused += 1,
         }
-        if !figures.right(answer) {
-            println!("{figures:?}: {answer}");
+        if answer != figures.answer() {
+            println!("{figures:?}: {answer}, not {}", figures.answer());
             self.wrong += 1;
         }
     }
 }
 
-/// Wrong answers that must not pass for right: one more and one less than the only value that fits, none where one
-/// fits, one where none does, and a refusal left out or made up. How many there are, and how many are found.
+/// Wrong answers that must not pass for right: one more and one less than the only value that fits, the larger of two,
+/// none where one fits, one where none does, and a refusal left out or made up. How many there are, and how many are
+/// found.
 fn altered() -> (usize, usize) {
     let only = Figures { clock_rate: 1_000_000, bit_rate: 2_400, tolerance: 2 };
+    let two = Figures { clock_rate: 1_000_000, bit_rate: 9_600, tolerance: 90 };
     let none = Figures { clock_rate: 1_000_000, bit_rate: 9_600, tolerance: 20 };
     let refused = Figures { clock_rate: 1_000_000, bit_rate: 9_600, tolerance: 1_001 };
     let wrong = [
         (only, Latch::Fits(24)),
         (only, Latch::Fits(26)),
+        (two, Latch::Fits(6)),
         (only, Latch::Nothing),
         (only, Latch::Refused),
         (none, Latch::Fits(6)),
@@ -56,7 +59,7 @@ fn altered() -> (usize, usize) {
         (refused, Latch::Fits(6)),
         (refused, Latch::Nothing),
     ];
-    (wrong.len(), wrong.iter().filter(|(figures, answer)| !figures.right(*answer)).count())
+    (wrong.len(), wrong.iter().filter(|(figures, answer)| figures.answer() != *answer).count())
 }
 
 fn main() -> ExitCode {

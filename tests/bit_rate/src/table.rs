@@ -57,14 +57,13 @@ fn fault(clock_rate: u32, row: &Row) -> Option<&'static str> {
     let asked = |figures: Figures| latch(figures.clock_rate, figures.bit_rate, figures.tolerance);
     let least = (0..=1_000).find(|tolerance| at(clock_rate, *tolerance).fits(value)).expect("a thousand is enough");
 
-    // With the tolerance that the table's value needs an answer is found, and it is the table's where no other fits.
+    // With the tolerance that the table's value needs the answer is the smallest value that fits, and the table's fits.
     let figures = at(clock_rate, least);
-    let fitting: Vec<u16> = figures.fitting().collect();
-    let Latch::Fits(answer) = asked(figures) else {
-        return Some("no answer with the tolerance that the value needs");
+    let Some(smallest) = figures.fitting().next() else {
+        return Some("no value fits with the tolerance that the value needs");
     };
-    if !fitting.contains(&answer) || !fitting.contains(&value) {
-        return Some("an answer that does not fit");
+    if asked(figures) != Latch::Fits(smallest) || value < smallest {
+        return Some("not the smallest value that fits");
     }
 
     // The table's own limit: within it a value is found, past it none, but for one row.
