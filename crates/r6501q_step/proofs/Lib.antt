@@ -3,3 +3,4 @@ pub mod Calls
 pub mod LowMemory
 pub mod Stops
 pub mod Examples
+pub mod ShiftRegister

@@ -12,7 +12,7 @@ use Rattle.serial.specs.declared.receiver.Receiver.{Receiver}
 use Rattle.serial.specs.declared.receiver.Receiving.{Receiving}
 use Rattle.serial.specs.Format.{receiverAsynchronous, receiverShifting, holdsA, frameBits, sentBits, pace}
 use Rattle.serial.specs.Transmitter.{sending, transmitterClock, sendTick, idleTick, nextPhase, ticked, bitTick, frameEnd, taken, framed, line, shiftClock, idleTransmitter}
-use Rattle.serial.specs.Receiver.{receiverClock, receiveTick, looked, startDetected, receiving, idleReceiver, put, shiftedAtRise, receiveRise, byteEnded, keptWith, statusAfter}
+use Rattle.serial.specs.Receiver.{receiverClock, receiveTick, looked, startDetected, receiving, idleReceiver, withLevel, shiftedAtRise, receiveRise, byteEnded, keptWith, statusAfter}
 
 -- counter A with its latch, and the transmitter that it drives
 pub record Driven : Type 0 where
@@ -108,12 +108,12 @@ risenFor (high ∷ levels) r = risenFor levels (receiverClock (r .receiver) (tic
 -- "a rise with no bits left first making them 8", and shifting in the same clock
 pub shift-first-rise : (received : ℕ) → risenFor (true ∷ []) (receiving idleReceiver 0x40 received)
     ≡ receiving (record { subinterval = 0; half = false; left = 7; register = 0x400 }) 0x40 received
-unfolding ticksOf receiverClock receiverAsynchronous receiverShifting receiveRise shiftedAtRise put
+unfolding ticksOf receiverClock receiverAsynchronous receiverShifting receiveRise shiftedAtRise withLevel
 shift-first-rise received = refl
 
 -- "at the last the byte is bits 3 to 10, with SCSR0": 1, 0, 0, 0, 0, 0, 1, 0 is 41h
 pub shift-received : (received : ℕ)
     → risenFor (true ∷ false ∷ false ∷ false ∷ false ∷ false ∷ true ∷ false ∷ []) (receiving idleReceiver 0x40 received)
     ≡ receiving (record { subinterval = 0; half = false; left = 0; register = 0x208 }) 0x41 0x41
-unfolding ticksOf receiverClock receiverAsynchronous receiverShifting receiveRise shiftedAtRise put byteEnded keptWith statusAfter setWhere withBit
+unfolding ticksOf receiverClock receiverAsynchronous receiverShifting receiveRise shiftedAtRise withLevel byteEnded keptWith statusAfter setWhere withBit
 shift-received received = refl

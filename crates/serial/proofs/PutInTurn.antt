@@ -1,29 +1,31 @@
 -- Bits put in turn into the receiver's register, in either mode, and what is read off it.
-use mathlib.Core.Path.{_≡_, ap, _∙_, sym}
-use mathlib.Core.Bool.{Bool, true, false}
+use mathlib.Core.Path.{_≡_, refl, ap, _∙_, sym}
+use mathlib.Core.Bool.{Bool, true, false, cond}
 use mathlib.Core.List.{List, [], _∷_, _++_}
 use Prim.Native.Nat.{ℕ, zero, suc, _+_, _-_, _*_, _/_, _%_, _^_, _≤_, _<_}
 use native.Mathlib.Nat.{div-one, pow-suc, mul-comm, mul-assoc, add-mul-div-right, add-mul-div-left, mul-add, div-eq-of-lt, zero-add, mod-eq-of-lt, add-mul-mod-self-left}
 use native.Mathlib.Omega.{arith}
+use lib.Dec.{eqb, ltb}
 use lib.ListN.{length, length-append}
+use borrow.Author.Tests.{ne-eqb}
 use lib.Pow.{pow-pos, pow-add, shr-shr, shr-lt}
 use Rattle.bits.specs.Bits.{bit, digit, setWhere}
-use Rattle.bits.specs.Lists.{number}
+use Rattle.bits.specs.Lists.{number, tabulate}
 use Rattle.bits.proofs.Cond.{digit-le}
 use Rattle.bits.proofs.Numbers.{number-append, number-lt}
 use Rattle.serial.specs.declared.receiver.Receiver.{Receiver}
 use Rattle.serial.specs.declared.receiver.Receiving.{Receiving}
 use Rattle.serial.specs.Format.{width, hasParity}
-use Rattle.serial.specs.Receiver.{receiving, put, keptWith, statusAfter, receivedByte, shiftedAtRise, byteEnded, receiveRise}
+use Rattle.serial.specs.Receiver.{receiving, withLevel, keptWith, statusAfter, receivedByte, frameEnded, lookTaken, looked, receiveTick, shiftedAtRise, byteEnded, receiveRise}
 
 -- levels put one after another
 abbrev pub putAll : ℕ → List Bool → ℕ
 putAll register [] = register
-putAll register (high ∷ levels) = putAll (put register high) levels
+putAll register (high ∷ levels) = putAll (withLevel register high) levels
 
 -- where n more levels are to come, at most ten, a level put now ends n places below bit 10
-put-far : (register n : ℕ) (high : Bool) → n ≤ 10 → put register high / 2 ^ n ≡ register / 2 ^ suc n + digit high * 2 ^ (10 - n)
-unfolding put
+put-far : (register n : ℕ) (high : Bool) → n ≤ 10 → withLevel register high / 2 ^ n ≡ register / 2 ^ suc n + digit high * 2 ^ (10 - n)
+unfolding withLevel
 put-far register n high h =
     let ten : 10 - n + n ≡ 10 = omega arith in
     let whole : 2 ^ (10 - n) * 2 ^ n ≡ 1024 = sym (pow-add 2 (10 - n) n) ∙ ap (λ k. 2 ^ k) ten in
@@ -40,7 +42,7 @@ put-in-turn register [] h = rw div-one (omega arith)
 put-in-turn register (high ∷ levels) h =
     let n = length levels in
     let short : n ≤ 10 = omega arith in
-    let rest = put-in-turn (put register high) levels (omega arith) in
+    let rest = put-in-turn (withLevel register high) levels (omega arith) in
     let far = put-far register n high short in
     let less : 11 - n ≡ suc (10 - n) = omega arith in
     let twice : 2 ^ (11 - n) ≡ 2 ^ (10 - n) * 2 = ap (λ k. 2 ^ k) less ∙ pow-suc 2 (10 - n) in
@@ -109,3 +111,75 @@ frame-received sccr register levels ending l e lt =
     let top = top-in-turn register (levels ++ ending) (omega (arith, p, n)) lt in
     let split = number-append levels ending in
     rw (place, top, split, l) (add-mul-mod-self-left (number levels) (2 ^ width sccr) (number ending) ∙ mod-eq-of-lt (rw l at (number-lt levels)))
+
+-- ---- the same by ticks: a look each second tick, and each eighth look takes the level
+
+-- ticks of an asynchronous receiver with these levels of PA7
+abbrev pub heardFor : ℕ → List Bool → Receiving → Receiving
+heardFor sccr [] x = x
+heardFor sccr (high ∷ levels) x = heardFor sccr levels (receiveTick (x .receiver) sccr (x .scsr) (x .received) high)
+
+heard-append : (sccr : ℕ) (a b : List Bool) (x : Receiving) → heardFor sccr (a ++ b) x ≡ heardFor sccr b (heardFor sccr a x)
+heard-append sccr [] b x = refl
+heard-append sccr (high ∷ a) b x = heard-append sccr a b (receiveTick (x .receiver) sccr (x .scsr) (x .received) high)
+
+-- the sixteen ticks of a bit: at the last PA7 has this level, at the others any
+abbrev pub bitHeard : (ℕ → Bool) → Bool → List Bool
+bitHeard others high = tabulate others 15 0 ++ (high ∷ [])
+
+module _ (sccr scsr received : ℕ) where
+  abbrev pub atBit : ℕ → ℕ → ℕ → Receiving
+  atBit subinterval left register =
+      receiving (record { subinterval = subinterval; half = false; left = left; register = register }) scsr received
+
+  -- two ticks, of which the second looks, before the eighth look
+  one-look : (n left register : ℕ) (a b : Bool) (rest : List Bool) → eqb left 0 ≡ false → ltb n 7 ≡ true
+      → heardFor sccr (a ∷ b ∷ rest) (atBit n left register) ≡ heardFor sccr rest (atBit (n + 1) left register)
+  unfolding receiveTick looked lookTaken
+  one-look n left register a b rest some few = rw (some, few) refl
+
+  -- the eighth look takes the level
+  abbrev pub levelTaken : ℕ → ℕ → Bool → Receiving
+  levelTaken left register high =
+      cond (eqb (left - 1) 0)
+      (frameEnded (record { subinterval = 0; half = false; left = left - 1; register = withLevel register high }) sccr scsr received)
+      (atBit 0 (left - 1) (withLevel register high))
+
+  eighth-look : (left register : ℕ) (a high : Bool) → eqb left 0 ≡ false
+      → heardFor sccr (a ∷ high ∷ []) (atBit 7 left register) ≡ levelTaken left register high
+  unfolding receiveTick looked lookTaken
+  eighth-look left register a high some = rw some refl
+
+  -- sixteen ticks with bits left take the last tick's level, whatever the others
+  pub bit-heard : (left register : ℕ) (others : ℕ → Bool) (high : Bool) → eqb left 0 ≡ false
+      → heardFor sccr (bitHeard others high) (atBit 0 left register) ≡ levelTaken left register high
+  bit-heard left register others high some =
+      one-look 0 left register (others 0) (others 1) (tabulate others 13 2 ++ (high ∷ [])) some refl
+      ∙ one-look 1 left register (others 2) (others 3) (tabulate others 11 4 ++ (high ∷ [])) some refl
+      ∙ one-look 2 left register (others 4) (others 5) (tabulate others 9 6 ++ (high ∷ [])) some refl
+      ∙ one-look 3 left register (others 6) (others 7) (tabulate others 7 8 ++ (high ∷ [])) some refl
+      ∙ one-look 4 left register (others 8) (others 9) (tabulate others 5 10 ++ (high ∷ [])) some refl
+      ∙ one-look 5 left register (others 10) (others 11) (tabulate others 3 12 ++ (high ∷ [])) some refl
+      ∙ one-look 6 left register (others 12) (others 13) (tabulate others 1 14 ++ (high ∷ [])) some refl
+      ∙ eighth-look left register (others 14) high some
+
+  -- the ticks of a frame's levels
+  abbrev pub levelsHeard : (ℕ → ℕ → Bool) → List Bool → List Bool
+  levelsHeard others [] = []
+  levelsHeard others (high ∷ levels) = bitHeard (others (length levels)) high ++ levelsHeard others levels
+
+  -- so the levels are put in turn, and the last one ends the frame
+  pub heard-in-turn : (others : ℕ → ℕ → Bool) (levels : List Bool) (last : Bool) (register : ℕ)
+      → heardFor sccr (levelsHeard others (levels ++ (last ∷ []))) (atBit 0 (suc (length levels)) register)
+      ≡ frameEnded (record { subinterval = 0; half = false; left = 0; register = putAll register (levels ++ (last ∷ [])) }) sccr scsr received
+  heard-in-turn others [] last register =
+      bit-heard 1 register (others 0) last refl
+  heard-in-turn others (high ∷ levels) last register =
+      let ticks = levelsHeard others (levels ++ (last ∷ [])) in
+      let here = bitHeard (others (length (levels ++ (last ∷ [])))) high in
+      let some : eqb (suc (suc (length levels))) 0 ≡ false = ne-eqb (suc (suc (length levels))) 0 (λ e. omega arith) in
+      let less : suc (suc (length levels)) - 1 ≡ suc (length levels) = omega arith in
+      let more : eqb (suc (length levels)) 0 ≡ false = ne-eqb (suc (length levels)) 0 (λ e. omega arith) in
+      heard-append sccr here ticks (atBit 0 (suc (suc (length levels))) register)
+      ∙ ap (heardFor sccr ticks) (bit-heard (suc (suc (length levels))) register (others (length (levels ++ (last ∷ [])))) high some ∙ rw (less, more) refl)
+      ∙ heard-in-turn others levels last (withLevel register high)

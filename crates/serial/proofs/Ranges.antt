@@ -20,7 +20,7 @@ use Rattle.serial.specs.declared.receiver.Receiver.{Receiver}
 use Rattle.serial.specs.declared.receiver.Receiving.{Receiving}
 use Rattle.serial.specs.Format.{transmitterShifts, receiverAsynchronous, receiverShifting, keepsTransmitter, keepsReceiver, width, hasParity, frameBits, sentBits, pace}
 use Rattle.serial.specs.Transmitter.{transmitterFits, sending, framed, taken, idleTick, frameEnd, nextPhase, ticked, bitTick, sendTick, transmitterClock, raised, shiftedDown, transmitterWithSccr, idleTransmitter}
-use Rattle.serial.specs.Receiver.{receiverFits, receiving, atSub, atHalf, started, shiftedIn, startDetected, put, keptWith, frameEnded, lookTaken, looked, receiveTick, shiftedAtRise, byteEnded, receiveRise, receiverClock, receiverWithSccr, idleReceiver}
+use Rattle.serial.specs.Receiver.{receiverFits, receiving, atSub, atHalf, started, shiftedIn, startDetected, withLevel, keptWith, frameEnded, lookTaken, looked, receiveTick, shiftedAtRise, byteEnded, receiveRise, receiverClock, receiverWithSccr, idleReceiver}
 use Rattle.serial.proofs.Frames.{frame-length}
 
 -- the ranges as facts
@@ -129,9 +129,9 @@ startDetected-in r sccr high i =
     (λ e. let h = ltb-true (r .subinterval) 3 e in record { subinterval = omega arith; left = i .left; register = i .register })
     (λ _. let d = digit-le (hasParity sccr) in record { subinterval = omega arith; left = omega arith; register = i .register }))
 
-shifted-in : (r : Receiver) (high : Bool) → InReceiver r → InReceiver (shiftedIn r high)
-unfolding put
-shifted-in r high i =
+with-level : (r : Receiver) (high : Bool) → InReceiver r → InReceiver (shiftedIn r high)
+unfolding withLevel
+with-level r high i =
     let l = i .left in let g = i .register in let d = digit-le high in
     record { subinterval = omega arith; left = omega arith; register = omega arith }
 
@@ -142,7 +142,7 @@ lookTaken-in r sccr scsr received high i =
     (cond (eqb (r .left - 1) 0) (frameEnded (shiftedIn r high) sccr scsr received) (receiving (shiftedIn r high) scsr received))
     (λ e. let h = ltb-true (r .subinterval) 7 e in record { subinterval = omega arith; left = i .left; register = i .register })
     (λ _. cond-both ReceivingIn (eqb (r .left - 1) 0) (frameEnded (shiftedIn r high) sccr scsr received) (receiving (shiftedIn r high) scsr received)
-    (λ _. shifted-in r high i) (λ _. shifted-in r high i))
+    (λ _. with-level r high i) (λ _. with-level r high i))
 
 looked-in : (r : Receiver) (sccr scsr received : ℕ) (high : Bool) → InReceiver r → ReceivingIn (looked r sccr scsr received high)
 unfolding looked
@@ -160,7 +160,7 @@ hear-in r sccr scsr received high i =
     (λ _. looked-in (atHalf r false) sccr scsr received high (half-in r false i)) (λ _. half-in r true i)
 
 at-rise-in : (r : Receiver) (high : Bool) → InReceiver r → InReceiver (shiftedAtRise r high)
-unfolding shiftedAtRise put
+unfolding shiftedAtRise withLevel
 at-rise-in r high i =
     let l : cond (eqb (r .left) 0) 8 (r .left) ≤ 11 = cond-both (λ (n : ℕ). n ≤ 11) (eqb (r .left) 0) 8 (r .left) (λ _. omega arith) (λ _. i .left) in
     let g = i .register in let d = digit-le high in

@@ -15,7 +15,7 @@ use Rattle.bits.specs.Lists.{bitsOf, number}
 use Rattle.bits.proofs.Cond.{digit-le}
 use Rattle.serial.specs.declared.transmitter.Transmitter.{Transmitter}
 use Rattle.serial.specs.declared.transmitter.Sending.{Sending}
-use Rattle.serial.specs.Format.{transmitterShifts, frameBits, sentBits, pace}
+use Rattle.serial.specs.Format.{transmitterShifts, frameBits, sentBits, paceIn, pace}
 use Rattle.serial.specs.Transmitter.{sending, framed, taken, frameEnd, nextPhase, ticked, bitTick, sendTick, line, shiftClock}
 
 -- a transmitter that has these bits to send, the first one on the line
@@ -25,10 +25,6 @@ sendingBits bits phase = record { left = length bits; phase = phase; register = 
 abbrev pub tickedFor : ℕ → ℕ → Transmitter → Transmitter
 tickedFor zero ticks t = t
 tickedFor (suc n) ticks t = ticked ticks (tickedFor n ticks t)
-
--- the ticks of a bit in each mode (`pace`)
-abbrev pub paceIn : Bool → ℕ
-paceIn shifts = cond shifts 2 16
 
 -- ---- one tick
 
@@ -148,18 +144,19 @@ clock-in-turn bits k j h g = rw (first-of bits k h, some-left) (low-high j g)
 
 -- ---- the transmitter
 
-abbrev pub sentFor : ℕ → ℕ → ℕ → Sending → Sending
-sentFor zero sccr byte s = s
-sentFor (suc n) sccr byte s = sendTick (sentFor n sccr byte s .transmitter) sccr (sentFor n sccr byte s .scsr) byte
+-- n ticks of a transmitter that is on; what SCSR holds and which byte waits may be another at each tick
+abbrev pub sentFor : ℕ → ℕ → (ℕ → ℕ) → (ℕ → ℕ) → Transmitter → Transmitter
+sentFor zero sccr scsr byte t = t
+sentFor (suc n) sccr scsr byte t = sendTick (sentFor n sccr scsr byte t) sccr (scsr n) (byte n) .transmitter
 
--- a tick with bits left afterwards does nothing else
-more-left : (t : Transmitter) (sccr scsr byte : ℕ) → t .left ≢ 0 → ticked (pace sccr) t .left ≢ 0
+-- a tick with bits left afterwards does nothing else: SCSR stays
+pub more-left : (t : Transmitter) (sccr scsr byte : ℕ) → t .left ≢ 0 → ticked (pace sccr) t .left ≢ 0
     → sendTick t sccr scsr byte ≡ sending (ticked (pace sccr) t) scsr
 unfolding sendTick bitTick
 more-left t sccr scsr byte h g = rw (ne-eqb (t .left) 0 h, ne-eqb (ticked (pace sccr) t .left) 0 g)
 
 -- a tick that leaves none ends the frame
-none-left : (t : Transmitter) (sccr scsr byte : ℕ) → t .left ≢ 0 → ticked (pace sccr) t .left ≡ 0
+pub none-left : (t : Transmitter) (sccr scsr byte : ℕ) → t .left ≢ 0 → ticked (pace sccr) t .left ≡ 0
     → sendTick t sccr scsr byte ≡ frameEnd (ticked (pace sccr) t) sccr scsr byte
 unfolding sendTick bitTick
 none-left t sccr scsr byte h g = rw (ne-eqb (t .left) 0 h, eq-eqb (ticked (pace sccr) t .left) 0 g)
@@ -173,32 +170,41 @@ left-after sccr bits m h e =
     let p = place-lt (transmitterShifts sccr) m (length bits) h in
     omega (arith, a, l, p, e)
 
--- m ticks of a transmitter that began with these bits, fewer than they last
-pub sends-in-turn : (sccr byte scsr : ℕ) (bits : List Bool) (m : ℕ) → m < length bits * pace sccr
-    → sentFor m sccr byte (sending (sendingBits bits 0) scsr) ≡ sending (tickedFor m (pace sccr) (sendingBits bits 0)) scsr
-sends-in-turn sccr byte scsr bits zero h = refl
-sends-in-turn sccr byte scsr bits (suc m) h =
-    rw (sends-in-turn sccr byte scsr bits m (omega arith))
-    (more-left (tickedFor m (pace sccr) (sendingBits bits 0)) sccr scsr byte (left-after sccr bits m (omega arith)) (left-after sccr bits (suc m) h))
+module _ (sccr : ℕ) (scsr byte : ℕ → ℕ) where
+  -- m ticks of a transmitter that began with these bits, fewer than they last
+  pub sends-in-turn : (bits : List Bool) (m : ℕ) → m < length bits * pace sccr
+      → sentFor m sccr scsr byte (sendingBits bits 0) ≡ tickedFor m (pace sccr) (sendingBits bits 0)
+  sends-in-turn bits zero h = refl
+  sends-in-turn bits (suc m) h =
+      let before = left-after sccr bits m (omega arith) in
+      ap (λ (t : Transmitter). sendTick t sccr (scsr m) (byte m) .transmitter) (sends-in-turn bits m (omega arith))
+      ∙ ap (λ (s : Sending). s .transmitter)
+      (more-left (tickedFor m (pace sccr) (sendingBits bits 0)) sccr (scsr m) (byte m) before
+      (left-after sccr bits (suc m) h))
 
--- so k bits and j ticks from the start bit k is on the line
-pub sent-in-turn : (sccr byte scsr : ℕ) (bits : List Bool) (k j : ℕ) → k < length bits → j < pace sccr
-    → sentFor (k * pace sccr + j) sccr byte (sending (sendingBits bits 0) scsr) ≡ sending (sendingBits (drop k bits) ((k * pace sccr + j) % 16)) scsr
-unfolding pace
-sent-in-turn sccr byte scsr bits k j h g =
-    sends-in-turn sccr byte scsr bits (k * pace sccr + j) (within (transmitterShifts sccr) (length bits) k j h g)
-    ∙ ap (λ t. sending t scsr) (taken-in-turn (transmitterShifts sccr) bits k j h g)
+  -- so k bits and j ticks from the start bit k is on the line
+  pub sent-in-turn : (bits : List Bool) (k j : ℕ) → k < length bits → j < pace sccr
+      → sentFor (k * pace sccr + j) sccr scsr byte (sendingBits bits 0)
+      ≡ sendingBits (drop k bits) ((k * pace sccr + j) % 16)
+  unfolding pace
+  sent-in-turn bits k j h g =
+      sends-in-turn bits (k * pace sccr + j) (within (transmitterShifts sccr) (length bits) k j h g)
+      ∙ taken-in-turn (transmitterShifts sccr) bits k j h g
 
--- and the last tick ends the frame
-pub ended-in-turn : (sccr byte scsr : ℕ) (bits : List Bool) (m : ℕ) → suc m ≡ length bits * pace sccr
-    → sentFor (suc m) sccr byte (sending (sendingBits bits 0) scsr) ≡ frameEnd (sendingBits [] (suc m % 16)) sccr scsr byte
-unfolding pace
-ended-in-turn sccr byte scsr bits m e =
-    let all : tickedFor (suc m) (pace sccr) (sendingBits bits 0) ≡ sendingBits [] (suc m % 16) =
-    subst (λ n. tickedFor n (pace sccr) (sendingBits bits 0) ≡ sendingBits [] (n % 16)) (sym e) (all-in-turn (transmitterShifts sccr) bits) in
-    rw (sends-in-turn sccr byte scsr bits m (omega arith))
-    (none-left (tickedFor m (pace sccr) (sendingBits bits 0)) sccr scsr byte (left-after sccr bits m (omega arith)) (ap (λ (t : Transmitter). t .left) all)
-    ∙ ap (λ t. frameEnd t sccr scsr byte) all)
+  -- and the last tick ends the frame, by what SCSR and the waiting byte are then
+  pub ended-in-turn : (bits : List Bool) (m : ℕ) → suc m ≡ length bits * pace sccr
+      → sendTick (sentFor m sccr scsr byte (sendingBits bits 0)) sccr (scsr m) (byte m)
+      ≡ frameEnd (sendingBits [] (suc m % 16)) sccr (scsr m) (byte m)
+  unfolding pace
+  ended-in-turn bits m e =
+      let all : tickedFor (suc m) (pace sccr) (sendingBits bits 0) ≡ sendingBits [] (suc m % 16) =
+      subst (λ n. tickedFor n (pace sccr) (sendingBits bits 0) ≡ sendingBits [] (n % 16)) (sym e)
+      (all-in-turn (transmitterShifts sccr) bits) in
+      let before = left-after sccr bits m (omega arith) in
+      ap (λ (t : Transmitter). sendTick t sccr (scsr m) (byte m)) (sends-in-turn bits m (omega arith))
+      ∙ none-left (tickedFor m (pace sccr) (sendingBits bits 0)) sccr (scsr m) (byte m) before
+      (ap (λ (t : Transmitter). t .left) all)
+      ∙ ap (λ t. frameEnd t sccr (scsr m) (byte m)) all
 
 -- "None left: it takes the next data that tick, or sets SCSR7"; 001, 5.1: "the SO output and shift clock are held in a high state"
 pub end-takes : (t : Transmitter) (sccr scsr byte : ℕ) → bit 6 scsr ≡ false
@@ -216,29 +222,31 @@ lines-high phase = (refl, refl)
 
 -- ---- the two instances, from the take on
 
--- what is sent, and the pace, by the mode
-begun : (sccr next scsr byte p k j : ℕ) (bits : List Bool) → sentBits sccr byte ≡ bits → pace sccr ≡ p → k < length bits → j < p
-    → sentFor (k * p + j) sccr next (sending (framed sccr byte) scsr) ≡ sending (sendingBits (drop k bits) ((k * p + j) % 16)) scsr
-unfolding framed
-begun sccr next scsr byte p k j bits e f h g =
-    ap (λ l. sentFor (k * p + j) sccr next (sending (sendingBits l 0) scsr)) e
-    ∙ subst (λ q. j < q → sentFor (k * q + j) sccr next (sending (sendingBits bits 0) scsr) ≡ sending (sendingBits (drop k bits) ((k * q + j) % 16)) scsr)
-    f (sent-in-turn sccr next scsr bits k j h) g
+module _ (sccr : ℕ) (scsr next : ℕ → ℕ) (byte : ℕ) where
+  -- what is sent, and the pace, by the mode
+  begun : (p k j : ℕ) (bits : List Bool) → sentBits sccr byte ≡ bits → pace sccr ≡ p → k < length bits → j < p
+      → sentFor (k * p + j) sccr scsr next (framed sccr byte) ≡ sendingBits (drop k bits) ((k * p + j) % 16)
+  unfolding framed
+  begun p k j bits e f h g =
+      ap (λ l. sentFor (k * p + j) sccr scsr next (sendingBits l 0)) e
+      ∙ subst (λ q. j < q
+      → sentFor (k * q + j) sccr scsr next (sendingBits bits 0) ≡ sendingBits (drop k bits) ((k * q + j) % 16))
+      f (sent-in-turn sccr scsr next bits k j h) g
 
--- an asynchronous frame: 16 ticks a bit
-pub frame-sent : (sccr next scsr byte k j : ℕ) → transmitterShifts sccr ≡ false → k < length (frameBits sccr byte) → j < 16
-    → sentFor (k * 16 + j) sccr next (sending (framed sccr byte) scsr) ≡ sending (sendingBits (drop k (frameBits sccr byte)) j) scsr
-unfolding sentBits pace
-frame-sent sccr next scsr byte k j e h g =
-    let phase : (k * 16 + j) % 16 ≡ j = omega arith in
-    begun sccr next scsr byte 16 k j (frameBits sccr byte) (rw e) (rw e) h g
-    ∙ ap (λ n. sending (sendingBits (drop k (frameBits sccr byte)) n) scsr) phase
+  -- an asynchronous frame: 16 ticks a bit
+  pub frame-sent : (k j : ℕ) → transmitterShifts sccr ≡ false → k < length (frameBits sccr byte) → j < 16
+      → sentFor (k * 16 + j) sccr scsr next (framed sccr byte) ≡ sendingBits (drop k (frameBits sccr byte)) j
+  unfolding sentBits pace
+  frame-sent k j e h g =
+      let phase : (k * 16 + j) % 16 ≡ j = omega arith in
+      begun 16 k j (frameBits sccr byte) (rw e) (rw e) h g
+      ∙ ap (λ n. sendingBits (drop k (frameBits sccr byte)) n) phase
 
--- a byte in shift-register mode: 2 ticks a bit; `clock-in-turn` has the shift clock
-pub byte-sent : (sccr next scsr byte k j : ℕ) → transmitterShifts sccr ≡ true → k < 8 → j < 2
-    → sentFor (k * 2 + j) sccr next (sending (framed sccr byte) scsr) ≡ sending (sendingBits (drop k (bitsOf 8 byte)) (k * 2 + j)) scsr
-unfolding sentBits pace
-byte-sent sccr next scsr byte k j e h g =
-    let phase : (k * 2 + j) % 16 ≡ k * 2 + j = omega arith in
-    begun sccr next scsr byte 2 k j (bitsOf 8 byte) (rw e) (rw e) h g
-    ∙ ap (λ n. sending (sendingBits (drop k (bitsOf 8 byte)) n) scsr) phase
+  -- a byte in shift-register mode: 2 ticks a bit; `clock-in-turn` has the shift clock
+  pub byte-sent : (k j : ℕ) → transmitterShifts sccr ≡ true → k < 8 → j < 2
+      → sentFor (k * 2 + j) sccr scsr next (framed sccr byte) ≡ sendingBits (drop k (bitsOf 8 byte)) (k * 2 + j)
+  unfolding sentBits pace
+  byte-sent k j e h g =
+      let phase : (k * 2 + j) % 16 ≡ k * 2 + j = omega arith in
+      begun 2 k j (bitsOf 8 byte) (rw e) (rw e) h g
+      ∙ ap (λ n. sendingBits (drop k (bitsOf 8 byte)) n) phase

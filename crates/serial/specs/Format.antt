@@ -27,8 +27,9 @@ receiverShifting sccr = bit 6 sccr && receiverShifts sccr
 unfoldable pub holdsA : ℕ → Bool
 holdsA sccr = bit 7 sccr || receiverAsynchronous sccr
 
--- 01, Serial channel: "Writing SCCR zeroes the progress of each half that the new value has off or in shift-register mode."
--- 02, U1: "A write of SCCR that changes a half's mode zeroes its progress too." What is left: which progress is kept.
+-- 01, Serial channel: "Writing SCCR zeroes the progress of each half that the new value has off or in shift-register
+-- mode." 02, U1: "A write of SCCR that changes a half's mode zeroes its progress too." What is left: which progress is
+-- kept.
 unfoldable pub keepsTransmitter : ℕ → ℕ → Bool
 keepsTransmitter old sccr = transmitterAsynchronous sccr && not (transmitterShifts old)
 
@@ -62,6 +63,10 @@ frameBits sccr byte = false ∷ dataBits sccr byte ++ ending sccr (dataBits sccr
 unfoldable pub sentBits : ℕ → ℕ → List Bool
 sentBits sccr byte = cond (transmitterShifts sccr) (bitsOf 8 byte) (frameBits sccr byte)
 
--- the ticks that a bit lasts: of a frame 16; 02, U1, in shift-register mode: "shifted at each tick that makes the phase even"
+-- the ticks that a bit lasts: of a frame 16; 02, U1, in shift-register mode: "shifted at each tick that makes the phase
+-- even"
+abbrev pub paceIn : Bool → ℕ
+paceIn shifts = cond shifts 2 16
+
 unfoldable pub pace : ℕ → ℕ
-pace sccr = cond (transmitterShifts sccr) 2 16
+pace sccr = paceIn (transmitterShifts sccr)

@@ -31,12 +31,12 @@ unfoldable pub startDetected : Receiver → ℕ → Bool → Receiver
 startDetected r sccr high = cond high (atSub r 0) (cond (ltb (r .subinterval) 3) (atSub r (r .subinterval + 1)) (started r sccr))
 
 -- "shifts the level into bit 10": in either mode
-unfoldable pub put : ℕ → Bool → ℕ
-put register high = register / 2 + digit high * 1024
+unfoldable pub withLevel : ℕ → Bool → ℕ
+withLevel register high = register / 2 + digit high * 1024
 
 -- ", one bit fewer left"
 abbrev pub shiftedIn : Receiver → Bool → Receiver
-shiftedIn r high = record { subinterval = 0; half = r .half; left = r .left - 1; register = put (r .register) high }
+shiftedIn r high = record { subinterval = 0; half = r .half; left = r .left - 1; register = withLevel (r .register) high }
 
 -- "bit 10 is the stop, parity and data below it", "the byte (high bits 0)"
 unfoldable pub receivedByte : ℕ → ℕ → ℕ
@@ -92,7 +92,7 @@ shiftedAtRise r high = record {
   subinterval = r .subinterval;
   half = r .half;
   left = cond (eqb (r .left) 0) 8 (r .left) - 1;
-  register = put (r .register) high;
+  register = withLevel (r .register) high;
 }
 
 -- "at the last the byte is bits 3 to 10, with SCSR0 or SCSR1 as in 01": without an error

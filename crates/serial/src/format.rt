@@ -5,7 +5,7 @@ ghost use lib.Dec.{eqb};
 ghost use lib.ListN.{length};
 ghost use Rattle.bits.specs.Bits.{bit, digit};
 ghost use Rattle.bits.specs.Lists.{bitsOf, oddOnes, number};
-ghost use Rattle.serial.specs.Format.{transmitterShifts, receiverAsynchronous, receiverShifting, holdsA, keepsTransmitter, keepsReceiver, width, hasParity, parityBit, ending, frameBits, pace};
+ghost use Rattle.serial.specs.Format.{transmitterShifts, receiverShifts, receiverAsynchronous, receiverShifting, holdsA, keepsTransmitter, keepsReceiver, width, hasParity, parityBit, ending, frameBits, pace};
 
 // The bits of SCCR, by weight.
 const TRANSMITTER_ON: u8 = 128;
@@ -34,20 +34,25 @@ pub fn transmitter_shifts(sccr: u8) -> bool
     sccr / TRANSMITTER_SHIFTS % 2 == 1
 }
 
+// Whether the receiver, on or off, is in shift-register mode.
+fn receiver_shifts(sccr: u8) -> bool
+    ensures { λ r. ⌜ r ≡ receiverShifts sccr ⌝ }
+{
+    (sccr / TRANSMITTER_SHIFTS % 2 != 1) & (sccr / RECEIVER_SHIFTS % 2 == 1)
+}
+
 // Whether the receiver is on and asynchronous.
 pub fn receiver_asynchronous(sccr: u8) -> bool
     ensures { λ r. ⌜ r ≡ receiverAsynchronous sccr ⌝ }
 {
-    (sccr / RECEIVER_ON % 2 == 1)
-        & !((sccr / TRANSMITTER_SHIFTS % 2 != 1) & (sccr / RECEIVER_SHIFTS % 2 == 1))
+    (sccr / RECEIVER_ON % 2 == 1) & !receiver_shifts(sccr)
 }
 
 // Whether the receiver is on and in shift-register mode.
 pub fn receiver_shifting(sccr: u8) -> bool
     ensures { λ r. ⌜ r ≡ receiverShifting sccr ⌝ }
 {
-    (sccr / RECEIVER_ON % 2 == 1)
-        & ((sccr / TRANSMITTER_SHIFTS % 2 != 1) & (sccr / RECEIVER_SHIFTS % 2 == 1))
+    (sccr / RECEIVER_ON % 2 == 1) & receiver_shifts(sccr)
 }
 
 // Whether a write of SCCR over an old value keeps the transmitter's progress.
@@ -61,8 +66,7 @@ pub fn keeps_transmitter(old: u8, sccr: u8) -> bool
 pub fn keeps_receiver(old: u8, sccr: u8) -> bool
     ensures { λ r. ⌜ r ≡ keepsReceiver old sccr ⌝ }
 {
-    receiver_asynchronous(sccr)
-        & !((old / TRANSMITTER_SHIFTS % 2 != 1) & (old / RECEIVER_SHIFTS % 2 == 1))
+    receiver_asynchronous(sccr) & !receiver_shifts(old)
 }
 
 // Whether counter A is held to mode 00.

@@ -3,7 +3,7 @@ ghost use mathlib.Core.Path.{_≡_};
 ghost use Prim.Native.Nat.{_-_};
 ghost use Rattle.bits.specs.Bits.{digit};
 ghost use Rattle.serial.specs.Format.{width, hasParity};
-ghost use Rattle.serial.specs.Receiver.{idleReceiver, frameSize, startDetected, receivedByte, wrongParity, statusAfter, put, keptWith, frameEnded, lookTaken, looked, receiveTick, shiftedAtRise, byteEnded, receiveRise, receiverClock, receiverWithSccr};
+ghost use Rattle.serial.specs.Receiver.{idleReceiver, frameSize, startDetected, receivedByte, wrongParity, statusAfter, withLevel, keptWith, frameEnded, lookTaken, looked, receiveTick, shiftedAtRise, byteEnded, receiveRise, receiverClock, receiverWithSccr};
 use crate::format::data_span;
 use crate::format::data_width;
 use crate::format::has_parity;
@@ -109,8 +109,8 @@ fn status_after(scsr: u8, wrong: bool, low: bool) -> u8
 }
 
 // The register with a level shifted into bit 10.
-fn shifted_in(register: u16, high: bool) -> u16
-    ensures { λ r. ⌜ r ≡ put register high ⌝ }
+fn with_level(register: u16, high: bool) -> u16
+    ensures { λ r. ⌜ r ≡ withLevel register high ⌝ }
 {
     if high {
         register / 2 + STOP
@@ -178,7 +178,7 @@ impl Receiver {
             };
         }
         self.subinterval = 0;
-        self.register = shifted_in(self.register, high);
+        self.register = with_level(self.register, high);
         self.left = one_less(self.left);
         if self.left == 0 {
             return self.end_frame(sccr, scsr, received);
@@ -224,7 +224,7 @@ impl Receiver {
     fn shift_at_rise(mut self, high: bool) -> Receiver
         ensures { λ r. ⌜ r ≡ shiftedAtRise self high ⌝ }
     {
-        let register = shifted_in(self.register, high);
+        let register = with_level(self.register, high);
         if self.left == 0 {
             return Receiver {
                 subinterval: self.subinterval,

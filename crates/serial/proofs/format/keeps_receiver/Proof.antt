@@ -3,18 +3,16 @@ use Rattle.serial.specs.Format.{keepsReceiver}
 use borrow.Author.Needs.{needs}
 use Rattle.serial.proofs.format.keeps_receiver.Statement.{statement}
 use Rattle.serial.proofs.format.keeps_receiver.Tie as tie
-use Rattle.serial.proofs.format.keeps_receiver.Reads as reads
-use Rattle.serial.proofs.format.keeps_receiver.Lts as lts
-use Rattle.serial.proofs.format.receiver_asynchronous.Reads as receiver-asynchronous-reads
 
--- src/format.rt:65:5
 receiver-asynchronous-requires : tie.Need-receiver-asynchronous-requires
 receiver-asynchronous-requires c κs = search needs
 
--- src/format.rt:62:1
+receiver-shifts-requires : tie.Need-receiver-shifts-requires
+receiver-shifts-requires c κs = search needs
+
 returns : tie.Need-returns
 unfolding keepsReceiver
-returns c = rw (c .receiver-asynchronous .ensures) refl
+returns c = rw (c .before .receiver-asynchronous .ensures, c .receiver-shifts .ensures) refl
 
 pub keeps-receiver-spec : {M : Type 1} → statement M
-keeps-receiver-spec = tie.close (tie.spec receiver-asynchronous-requires returns)
+keeps-receiver-spec = tie.close (tie.spec receiver-asynchronous-requires receiver-shifts-requires returns)

@@ -1,14 +1,15 @@
-use Rattle.serial.specs.Format.{receiverAsynchronous}
 use mathlib.Core.Path.{refl}
+use Rattle.serial.specs.Format.{receiverAsynchronous}
+use borrow.Author.Needs.{needs}
 use Rattle.serial.proofs.format.receiver_asynchronous.Statement.{statement}
 use Rattle.serial.proofs.format.receiver_asynchronous.Tie as tie
-use Rattle.serial.proofs.format.receiver_asynchronous.Reads as reads
-use Rattle.serial.proofs.format.receiver_asynchronous.Lts as lts
 
--- src/format.rt:39:1
+receiver-shifts-requires : tie.Need-receiver-shifts-requires
+receiver-shifts-requires c κs = search needs
+
 returns : tie.Need-returns
 unfolding receiverAsynchronous
-returns c = refl
+returns c = rw (c .receiver-shifts .ensures) refl
 
 pub receiver-asynchronous-spec : {M : Type 1} → statement M
-receiver-asynchronous-spec = tie.close (tie.spec returns)
+receiver-asynchronous-spec = tie.close (tie.spec receiver-shifts-requires returns)
