@@ -3,7 +3,7 @@ use mathlib.Core.Bool.{Bool, true, false, not, cond}
 use mathlib.Core.List.{List}
 use Prim.Native.Nat.{ℕ, _+_, _*_, _/_, _%_}
 use lib.Dec.{ltb, eqb}
-use Rattle.bits.specs.Bits.{wrapping8, wrapping16}
+use Rattle.bits.specs.Bits.{low, high, word, wrapping8, wrapping16}
 use Rattle.cpu_opcodes.specs.declared.Mode.{Mode}
 use Rattle.cpu_opcodes.specs.declared.Mode.the-variants.{Implied, Accumulator, Immediate, ZeroPage, ZeroPageX, ZeroPageY, Absolute, AbsoluteX, AbsoluteY, IndexedIndirect, IndirectIndexed, Indirect, Relative, ZeroPageRelative}
 use Rattle.cpu_access.specs.declared.Bus.{Bus}
@@ -67,9 +67,10 @@ atIndexedIndirect answers memory x f = pointed (f .pc) (zeroPagePointer answers 
 abbrev pub atIndirectIndexed : List ℕ → List ℕ → ℕ → Fetched → Place
 atIndirectIndexed answers memory y f = pointedIndexed y (f .pc) (zeroPagePointer answers memory (f .value) (f .bus))
 
--- 01, Instructions: "JMP indirect takes its high byte from the pointer plus 1"
+-- 02, U5, JMP indirect: "the high byte comes from the start of that same page" where the pointer ends in FFh, else from the pointer plus
+-- 1: the page stays, and the low byte wraps
 abbrev pub secondAddress : ℕ → ℕ
-secondAddress p = nextAddress p
+secondAddress p = word (high p) (wrapping8 (low p) 1)
 
 abbrev pub atIndirect : List ℕ → List ℕ → FetchedWord → Place
 atIndirect answers memory f = pointed (f .pc) (readWord answers memory (f .value) (secondAddress (f .value)) (f .bus))

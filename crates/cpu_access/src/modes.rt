@@ -86,11 +86,12 @@ fn zero_page_pointer(answers: &[u8], memory: &[u8], z: u8, bus: Bus) -> Word
     bus.read_word(answers, memory, z as u16, high as u16)
 }
 
-// Where JMP indirect finds the high byte of its target.
+// Where JMP indirect finds the high byte of its target: behind the pointer, in the pointer's own page.
 fn second_address(pointer: u16) -> u16
     ensures { λ r. ⌜ r ≡ secondAddress pointer ⌝ }
 {
-    crate::next_address(pointer)
+    let lower = std::num::wrapping_add_u8(bits::low_byte(pointer), 1);
+    bits::word16(bits::high_byte(pointer), lower)
 }
 
 // A branch's offset as a 16-bit number.
