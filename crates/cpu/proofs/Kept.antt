@@ -4,9 +4,12 @@ use mathlib.Core.Bool.{Bool, true, false, _||_, not, false≢true}
 use mathlib.Core.List.{List}
 use Prim.Native.Nat.{ℕ, _+_, _-_, _≤_, _<_}
 use native.Mathlib.Omega.{arith}
-use lib.Dec.{leb, eqb}
-use borrow.Author.Tests.{leb-false, eqb-true}
+use lib.Dec.{leb}
+use borrow.Author.Tests.{leb-false}
 use Rattle.cpu_operations.specs.declared.Worked.{Worked}
+use Rattle.cpu_operations.specs.declared.Written.{Written}
+use Rattle.cpu_operations.specs.declared.Written.the-variants.{Nothing, Pushed, Stored}
+use Rattle.cpu_operations.specs.Effects.{writesNothing}
 use Rattle.cpu.specs.declared.Outcome.the-variants.{Done}
 use Rattle.cpu.specs.declared.quiet.Work.{Work}
 use Rattle.cpu.specs.Instruction.{instructionOf}
@@ -16,7 +19,7 @@ module _ (span : ℕ) (answers memory : List ℕ) (start : Work) where
   -- what each such instruction keeps, all of them keep
   pub quietly-keeps : (P : Work → Type 0) → P start
       → ((w : Work) (worked : Worked) → P w → w .gone .0 + w .wait < span → instructionOf (w .registers) answers memory ≡ Done worked
-      → worked .writes .count ≡ 0 → P (nextWork w worked))
+      → worked .written ≡ Nothing → P (nextWork w worked))
       → {v : Work} → Quietly span answers memory start v → P v
   quietly-keeps P first next none = first
   quietly-keeps P first next (more {w = w} worked q inside e z) = next w worked (quietly-keeps P first next q) inside e z
@@ -31,18 +34,24 @@ pub none-quiet : (answers memory : List ℕ) (start : Work) {v : Work} → Quiet
 none-quiet answers memory start =
     quietly-keeps 0 answers memory start (λ (v : Work). v ≡ start) refl (λ w worked kept inside e z. absurd (omega arith))
 
+pub nothing-written : (w : Written) → writesNothing w ≡ true → w ≡ Nothing
+unfolding writesNothing
+nothing-written Nothing e = refl
+nothing-written (Pushed w) e = absurd (false≢true e)
+nothing-written (Stored x) e = absurd (false≢true e)
+
 -- the loop's own test: the instruction starts within the span, and writes nothing
-pub goes-on : (rest wait count : ℕ) → (leb rest wait || not (eqb count 0)) ≡ false → (wait < rest) × (count ≡ 0)
-goes-on rest wait count e = by-tests (leb rest wait) (eqb count 0) refl refl e
+pub goes-on : (rest wait : ℕ) (w : Written) → (leb rest wait || not (writesNothing w)) ≡ false → (wait < rest) × (w ≡ Nothing)
+goes-on rest wait w e = by-tests (leb rest wait) (writesNothing w) refl refl e
   where
-    by-tests : (t u : Bool) → leb rest wait ≡ t → eqb count 0 ≡ u → (t || not u) ≡ false → (wait < rest) × (count ≡ 0)
+    by-tests : (t u : Bool) → leb rest wait ≡ t → writesNothing w ≡ u → (t || not u) ≡ false → (wait < rest) × (w ≡ Nothing)
     by-tests true u p q k = absurd (false≢true (sym k))
-    by-tests false true p q k = (leb-false rest wait p, eqb-true count 0 q)
+    by-tests false true p q k = (leb-false rest wait p, nothing-written w q)
     by-tests false false p q k = absurd (false≢true (sym k))
 
 pub goes-quietly : (span : ℕ) (answers memory : List ℕ) (start w : Work) (worked : Worked) → WithinSpan w span → Quietly span answers memory start w
-    → (leb (span - w .gone .0) (w .wait) || not (eqb (worked .writes .count) 0)) ≡ false → instructionOf (w .registers) answers memory ≡ Done worked
+    → (leb (span - w .gone .0) (w .wait) || not (writesNothing (worked .written))) ≡ false → instructionOf (w .registers) answers memory ≡ Done worked
     → WithinSpan (nextWork w worked) span × Quietly span answers memory start (nextWork w worked)
 goes-quietly span answers memory start w worked room q left e =
-    let on = goes-on (span - w .gone .0) (w .wait) (worked .writes .count) left in
+    let on = goes-on (span - w .gone .0) (w .wait) (worked .written) left in
     (record { gone = omega (arith, on .0, room .gone); leaps = omega (arith, room .leaps) }, more worked q (omega (arith, on .0, room .gone)) e (on .1))

@@ -1,10 +1,11 @@
--- What holds of every instruction: at most three writes; 2 to 7 clocks; only registers are asked for, at most five times.
-use mathlib.Core.Path.{_≡_, refl}
-use mathlib.Core.Bool.{Bool, true, false, cond, _&&_, false≢true}
+-- What holds of every instruction: at most three writes; 2 to 7 clocks, 3 to 7 with a store; only registers are asked for, at most
+-- five times.
+use mathlib.Core.Path.{_≡_, _∙_, refl, sym, ap}
+use mathlib.Core.Bool.{Bool, true, false, cond, _&&_, _||_, not, false≢true}
 use mathlib.Core.List.{List}
 use Prim.Native.Nat.{ℕ, suc, _+_, _≤_, _<_}
 use native.Mathlib.Omega.{arith}
-use lib.Dec.{T, leb, leb→le, lit≤}
+use lib.Dec.{T, leb, eqb, leb→le, lit≤}
 use lib.ListN.{length}
 use Rattle.bits.proofs.Cond.{cond-both, both-left, both-right}
 use Rattle.cpu_opcodes.specs.Rows.{rows}
@@ -12,34 +13,41 @@ use Rattle.cpu_opcodes.specs.Decode.{decodeOf}
 use Rattle.cpu_opcodes.specs.declared.Decoded.{Decoded}
 use Rattle.cpu_opcodes.specs.declared.Decoded.the-variants as decoded
 use Rattle.cpu_opcodes.specs.declared.Entry.{Entry}
+use Rattle.cpu_opcodes.specs.declared.Mode.{Mode}
+use Rattle.cpu_opcodes.specs.declared.Mode.the-variants.{Implied, Accumulator, Immediate, ZeroPage, ZeroPageX, ZeroPageY, Absolute, AbsoluteX, AbsoluteY, IndexedIndirect, IndirectIndexed, Indirect, Relative, ZeroPageRelative}
+use Rattle.cpu_opcodes.specs.Table.{modeNumber}
 use Rattle.cpu_opcodes.proofs.Laws.{passes, looked-up}
 use Rattle.cpu_access.specs.declared.Bus.{Bus}
 use Rattle.cpu_access.specs.declared.CpuRegisters.{CpuRegisters}
 use Rattle.cpu_access.specs.declared.modes.Place.{Place}
+use Rattle.cpu_access.specs.declared.stack.Write.{Write}
 use Rattle.cpu_access.specs.declared.stack.Writes.{Writes}
 use Rattle.cpu_access.specs.Bus.{idle, got, askOf, readOf, fetchOf}
 use Rattle.memory.specs.Memory.{isRegister}
 use Rattle.cpu_access.specs.Stack.{noWrites, pushWord, readAfter}
-use Rattle.cpu_access.specs.Modes.{locateOf}
+use Rattle.cpu_access.specs.Modes.{indexedBy, relativeTo, locateOf}
 use Rattle.cpu_access.proofs.Accesses.{readsOfMode, read-keeps, fetch-keeps, read-after-keeps, locate-keeps}
 use Rattle.cpu_access.proofs.Asks.{AsksRegister, idle-asks-register, register-more, register-asks, Answered, Within, idle-answered, answered-more, answered-asks}
 use Rattle.cpu.specs.declared.Ask.{Ask}
 use Rattle.cpu_operations.specs.declared.Worked.{Worked}
+use Rattle.cpu_operations.specs.declared.Written.the-variants.{Pushed, Stored}
 use Rattle.cpu.specs.declared.Outcome.{Outcome}
 use Rattle.cpu.specs.declared.Outcome.the-variants.{Undefined, Asked, Done}
 use Rattle.cpu_operations.specs.declared.Executed.{Executed}
 use Rattle.cpu_operations.specs.declared.Access.{Access}
 use Rattle.cpu_operations.specs.declared.Access.the-variants.{Nothing, Read, Modify, Call}
-use Rattle.cpu_operations.specs.Effects.{withPc}
+use Rattle.cpu_operations.specs.Effects.{withPc, writesOf}
 use Rattle.cpu_operations.specs.Operations.{accessOf, isCall}
 use Rattle.cpu.specs.Instruction.{askWith, outcomeOf, operandByte, operandOf, carriedOut, writesAsked, callTo, subroutineCall, executeOf, decodedTo, instructionOf}
 use Rattle.cpu_operations.proofs.Sound.{Cost, costOf, Sound, work-sound}
+use Rattle.cpu_operations.proofs.Stores.{isStore, stores, Stores, work-stores}
 
 -- an instruction that is done
 pub record Fits (w : Worked) : Type 0 where
-  pub writes : w .writes .count ≤ 3
+  pub writes : writesOf (w .written) .count ≤ 3
   pub least : 2 ≤ w .length
   pub most : w .length ≤ 7
+  pub store : isStore (w .written) ≡ true → 3 ≤ w .length
 
 -- a question: it is that of a bus of which P holds after at most five reads
 pub record AskedBy (P : ℕ → Bus → Type 0) (q : Ask) : Type 0 where
@@ -66,23 +74,35 @@ readsOfAccess Call k = k
 abbrev readsOf : Entry → ℕ
 readsOf e = costOf (e .operation) .reads (readsOfAccess (accessOf (e .operation)) (readsOfMode (e .mode) 1))
 
--- one test over the table: no instruction reads more than five bytes that can be asked for, nor takes more than 7 clocks
+-- an entry that leaves a store
+abbrev storesOf : Entry → Bool
+storesOf e = stores (e .operation) (eqb (modeNumber (e .mode)) (modeNumber Accumulator))
+
+-- one test over the table: no instruction reads more than five bytes that can be asked for, nor takes more than 7 clocks, and one that
+-- stores takes 3 at least
 costFits : Entry → Bool
-costFits e = leb (readsOf e) 5 && (leb 2 (e .length) && leb (e .length + costOf (e .operation) .extra) 7)
+costFits e = leb (readsOf e) 5 && (leb 2 (e .length) && (leb (e .length + costOf (e .operation) .extra) 7 && (not (storesOf e) || leb 3 (e .length))))
 
 pub record CostFits (e : Entry) : Type 0 where
   pub reads : readsOf e ≤ 5
   pub least : 2 ≤ e .length
   pub most : e .length + costOf (e .operation) .extra ≤ 7
+  pub store : storesOf e ≡ true → 3 ≤ e .length
+
+store-fits : (b : Bool) (n : ℕ) → T (not b || leb 3 n) → b ≡ true → 3 ≤ n
+store-fits true n t e = leb→le 3 n t
+store-fits false n t e = absurd (false≢true e)
 
 cost-fits : (e : Entry) → T (costFits e) → CostFits e
 unfolding costFits
 cost-fits e t =
-    let s = both-right (leb (readsOf e) 5) (leb 2 (e .length) && leb (e .length + costOf (e .operation) .extra) 7) t in
+    let s = both-right (leb (readsOf e) 5) _ t in
+    let u = both-right (leb 2 (e .length)) _ s in
     record {
-      reads = leb→le (readsOf e) 5 (both-left (leb (readsOf e) 5) (leb 2 (e .length) && leb (e .length + costOf (e .operation) .extra) 7) t);
-      least = leb→le 2 (e .length) (both-left (leb 2 (e .length)) (leb (e .length + costOf (e .operation) .extra) 7) s);
-      most = leb→le (e .length + costOf (e .operation) .extra) 7 (both-right (leb 2 (e .length)) (leb (e .length + costOf (e .operation) .extra) 7) s);
+      reads = leb→le (readsOf e) 5 (both-left (leb (readsOf e) 5) _ t);
+      least = leb→le 2 (e .length) (both-left (leb 2 (e .length)) _ s);
+      most = leb→le (e .length + costOf (e .operation) .extra) 7 (both-left (leb (e .length + costOf (e .operation) .extra) 7) _ u);
+      store = store-fits (storesOf e) (e .length) (both-right (leb (e .length + costOf (e .operation) .extra) 7) _ u);
     }
 
 table-fits : (o : ℕ) → T (passes costFits (decodeOf o))
@@ -93,9 +113,31 @@ pushed-writes : (sp pc : ℕ) → pushWord sp pc .count ≤ 3
 unfolding pushWord
 pushed-writes sp pc = lit≤ tt
 
+called-writes : (sp pc : ℕ) → writesOf (Pushed (pushWord sp pc)) .count ≤ 3
+unfolding writesOf
+called-writes sp pc = pushed-writes sp pc
+
 asking-writes : (b : Bus) (sp pc : ℕ) → writesAsked b (pushWord sp pc) .count ≤ 3
 unfolding writesAsked
 asking-writes b sp pc = cond-both (λ w. w .count ≤ 3) (b .missing) noWrites (pushWord sp pc) (λ t. lit≤ tt) (λ t. pushed-writes sp pc)
+
+-- an operand is the accumulator just in that mode
+locate-accumulator : (answers memory : List ℕ) (mode : Mode) (r : CpuRegisters) (b : Bus) → locateOf answers memory mode r b .accumulator ≡ eqb (modeNumber mode) (modeNumber Accumulator)
+unfolding locateOf indexedBy relativeTo
+locate-accumulator answers memory Implied r b = refl
+locate-accumulator answers memory Accumulator r b = refl
+locate-accumulator answers memory Immediate r b = refl
+locate-accumulator answers memory ZeroPage r b = refl
+locate-accumulator answers memory ZeroPageX r b = refl
+locate-accumulator answers memory ZeroPageY r b = refl
+locate-accumulator answers memory Absolute r b = refl
+locate-accumulator answers memory AbsoluteX r b = refl
+locate-accumulator answers memory AbsoluteY r b = refl
+locate-accumulator answers memory IndexedIndirect r b = refl
+locate-accumulator answers memory IndirectIndexed r b = refl
+locate-accumulator answers memory Indirect r b = refl
+locate-accumulator answers memory Relative r b = refl
+locate-accumulator answers memory ZeroPageRelative r b = refl
 
 module _ (P : ℕ → Bus → Type 0) (answers memory : List ℕ)
     (more : (k : ℕ) (b : Bus) → P k b → P (suc k) b)
@@ -130,8 +172,16 @@ module _ (P : ℕ → Bus → Type 0) (answers memory : List ℕ)
       let g = operandByte answers memory (accessOf (e .operation)) (r .a) p in
       let q = operand-keeps (accessOf (e .operation)) j (r .a) p (locate-keeps P answers memory more asks (e .mode) 1 r b h) in
       let s = work-sound P answers memory more asks (e .operation) i (withPc (p .pc) r) (operandOf (e .length) p g) q in
+      let t = work-stores answers memory (e .operation) (withPc (p .pc) r) (operandOf (e .length) p g) in
+      let k = sym (t .stored) in
+      let a = ap (stores (e .operation)) (sym (locate-accumulator answers memory (e .mode) r b)) in
       outcome-lawful (readsOf e) noWrites _ (c .reads) (s .bus) (lit≤ tt)
-      (record { writes = s .writes; least = s .least (c .least); most = s .most (c .most) })
+      (record {
+        writes = s .writes;
+        least = s .least (c .least);
+        most = s .most (c .most);
+        store = λ h. rw (t .length (k ∙ h)) (c .store (a ∙ k ∙ h));
+      })
 
   call-lawful : (r : CpuRegisters) (n : ℕ) (b : Bus) → 2 ≤ n → n ≤ 7 → P 1 b → Lawful P (subroutineCall answers memory r n b)
   unfolding subroutineCall
@@ -141,7 +191,7 @@ module _ (P : ℕ → Bus → Type 0) (answers memory : List ℕ)
       let g = readAfter answers memory w (f .pc) (f .bus) in
       let q = read-after-keeps P answers memory more asks 2 w (f .pc) (f .bus) (fetch-keeps P answers memory more asks 1 (r .pc) b h) in
       outcome-lawful 3 (writesAsked (f .bus) w) (callTo r n f w g) (lit≤ tt) q (asking-writes (f .bus) (r .sp) (f .pc))
-      (record { writes = pushed-writes (r .sp) (f .pc); least = l; most = m })
+      (record { writes = called-writes (r .sp) (f .pc); least = l; most = m; store = λ e. absurd (false≢true e) })
 
   execute-lawful : (e : Entry) (r : CpuRegisters) (b : Bus) → CostFits e → P 1 b → Lawful P (executeOf answers memory e r b)
   unfolding executeOf
@@ -173,6 +223,10 @@ module _ (r : CpuRegisters) (answers memory : List ℕ) where
   -- an instruction that is done made at most three writes and takes 2 to 7 clocks
   pub done-fits : (w : Worked) → instructionOf r answers memory ≡ Done w → Fits w
   done-fits w e = rw e at by-register
+
+  -- one that leaves a store takes 3 to 7 clocks
+  pub store-length : (w : Worked) (x : Write) → instructionOf r answers memory ≡ Done w → w .written ≡ Stored x → (3 ≤ w .length) × (w .length ≤ 7)
+  store-length w x e s = let f = done-fits w e in (f .store (rw s), f .most)
 
   -- what is asked for is a register
   pub asked-address : (q : Ask) → instructionOf r answers memory ≡ Asked q → q .address < 0x40

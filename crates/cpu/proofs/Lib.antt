@@ -1,3 +1,4 @@
 pub mod Laws
 pub mod Ranges
 pub mod Kept
+pub mod Flags

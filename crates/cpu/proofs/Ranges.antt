@@ -18,8 +18,20 @@ use Rattle.cpu_opcodes.specs.declared.Decoded.the-variants as decoded
 use Rattle.cpu_opcodes.specs.declared.Entry.{Entry}
 use Rattle.cpu_opcodes.specs.declared.Mode.{Mode}
 use Rattle.cpu_opcodes.specs.declared.Mode.the-variants.{Implied, Accumulator, Immediate, ZeroPage, ZeroPageX, ZeroPageY, Absolute, AbsoluteX, AbsoluteY, IndexedIndirect, IndirectIndexed, Indirect, Relative, ZeroPageRelative}
-use Rattle.cpu_opcodes.specs.declared.Operation.{Operation}
-use Rattle.cpu_opcodes.specs.declared.Operation.the-variants.{Adc, And, Asl, Bcc, Bcs, Beq, Bit, Bmi, Bne, Bpl, Brk, Bvc, Bvs, Clc, Cld, Cli, Clv, Cmp, Cpx, Cpy, Dec, Dex, Dey, Eor, Inc, Inx, Iny, Jmp, Jsr, Lda, Ldx, Ldy, Lsr, Nop, Ora, Pha, Php, Pla, Plp, Rol, Ror, Rti, Rts, Sbc, Sec, Sed, Sei, Sta, Stx, Sty, Tax, Tay, Tsx, Txa, Txs, Tya, Rmb, Smb, Bbr, Bbs}
+use Rattle.cpu_opcodes.specs.declared.operation.Operation.{Operation}
+use Rattle.cpu_opcodes.specs.declared.operation.Operation.the-variants as operation
+use Rattle.cpu_opcodes.specs.declared.operation.ReadOperation.{ReadOperation}
+use Rattle.cpu_opcodes.specs.declared.operation.ReadOperation.the-variants.{Adc, And, Bit, Cmp, Cpx, Cpy, Eor, Lda, Ldx, Ldy, Ora, Sbc}
+use Rattle.cpu_opcodes.specs.declared.operation.ModifyOperation.{ModifyOperation}
+use Rattle.cpu_opcodes.specs.declared.operation.ModifyOperation.the-variants.{Asl, Dec, Inc, Lsr, Rol, Ror, Rmb, Smb}
+use Rattle.cpu_opcodes.specs.declared.operation.StoreOperation.{StoreOperation}
+use Rattle.cpu_opcodes.specs.declared.operation.StoreOperation.the-variants.{Sta, Stx, Sty}
+use Rattle.cpu_opcodes.specs.declared.operation.PushOperation.{PushOperation}
+use Rattle.cpu_opcodes.specs.declared.operation.PushOperation.the-variants.{Pha, Php}
+use Rattle.cpu_opcodes.specs.declared.operation.PullOperation.{PullOperation}
+use Rattle.cpu_opcodes.specs.declared.operation.PullOperation.the-variants.{Pla, Plp}
+use Rattle.cpu_opcodes.specs.declared.operation.RegisterOperation.{RegisterOperation}
+use Rattle.cpu_opcodes.specs.declared.operation.RegisterOperation.the-variants.{Dex, Dey, Inx, Iny, Tax, Tay, Tsx, Txa, Txs, Tya}
 use Rattle.cpu_alu.specs.Status.{packed, pushed}
 use Rattle.cpu_alu.specs.Arithmetic.{modulo, lowered, digitDifference, decimalDifference, subtractBinary, addBinary, addDecimal, adcOf, sbcOf}
 use Rattle.cpu_alu.specs.Logic.{andOf, oraOf, eorOf}
@@ -40,10 +52,13 @@ use Rattle.cpu_access.specs.Modes.{zeroPageIndexed, zeroPagePointer, secondAddr
 use Rattle.cpu_operations.specs.declared.Access.{Access}
 use Rattle.cpu_operations.specs.declared.Access.the-variants.{Nothing, Read, Modify, Call}
 use Rattle.cpu_operations.specs.declared.Worked.{Worked}
+use Rattle.cpu_operations.specs.declared.Written.{Written}
+use Rattle.cpu_operations.specs.declared.Written.the-variants as written
 use Rattle.cpu_operations.specs.declared.Operand.{Operand}
 use Rattle.cpu_operations.specs.declared.Executed.{Executed}
-use Rattle.cpu_operations.specs.Effects.{withPc, withSp, withStatus, intoA, intoX, intoY, loadA, loadX, loadY, quiet, completed, stored, modified, branched, branchOperand, bitBranched, jumped, pushedByte, pulledAccumulator, pulledStatus, returned, returnedFromInterrupt, interrupted, breakTaken}
-use Rattle.cpu_operations.specs.Operations.{accessOf, isCall, unflagged, workOf}
+use Rattle.cpu_operations.specs.Effects.{withPc, withSp, withStatus, intoA, intoX, intoY, loadA, loadX, loadY, quiet, completed, stored, modified, branched, branchOperand, bitBranched, jumped, pushedByte, pulledByte, returned, returnedFromInterrupt, interrupted, breakTaken}
+use Rattle.cpu_operations.specs.Kinds.{withRead, changedBy, byteToStore, byteToPush, withPulled, withRegister}
+use Rattle.cpu_operations.specs.Operations.{accessOf, isCall, workOf}
 use Rattle.cpu.specs.declared.Outcome.{Outcome}
 use Rattle.cpu.specs.declared.Outcome.the-variants.{Undefined, Asked, Done}
 use Rattle.cpu.specs.Entries.{resetEntry, interruptEntry}
@@ -69,9 +84,14 @@ pub record WritesFit (w : Writes) : Type 0 where
   pub second : WriteFits (w .second)
   pub third : WriteFits (w .third)
 
+abbrev pub WrittenFits : Written → Type 0
+WrittenFits written.Nothing = Unit
+WrittenFits (written.Pushed w) = WritesFit w
+WrittenFits (written.Stored x) = WriteFits x
+
 pub record WorkedFits (w : Worked) : Type 0 where
   pub registers : InRange (w .registers)
-  pub writes : WritesFit (w .writes)
+  pub written : WrittenFits (w .written)
 
 record PlaceFits (p : Place) : Type 0 where
   address : p .address < 65536
@@ -197,12 +217,65 @@ pushed-lt : (s : Status) (brk : Bool) → pushed s brk < 256
 unfolding pushed
 pushed-lt s brk = omega (arith, packed-le s, digit-le brk)
 
+-- by kind
+read-in : (p : ReadOperation) (r : CpuRegisters) (v : ℕ) → v < 256 → InRange r → InRange (withRead p r v)
+unfolding withRead
+read-in Adc r v h i = a-in _ r (adc-lt (r .a) v (r .status)) i
+read-in And r v h i = a-in _ r (and-of-lt (r .a) v (r .status) (i .a) h) i
+read-in Bit r v h i = status-in _ r i
+read-in Cmp r v h i = status-in _ r i
+read-in Cpx r v h i = status-in _ r i
+read-in Cpy r v h i = status-in _ r i
+read-in Eor r v h i = a-in _ r (eor-of-lt (r .a) v (r .status) (i .a) h) i
+read-in Lda r v h i = load-a-in _ r h i
+read-in Ldx r v h i = load-x-in _ r h i
+read-in Ldy r v h i = load-y-in _ r h i
+read-in Ora r v h i = a-in _ r (ora-of-lt (r .a) v (r .status) (i .a) h) i
+read-in Sbc r v h i = a-in _ r (sbc-lt (r .a) v (r .status)) i
+
+change-lt : (p : ModifyOperation) (v : ℕ) (s : Status) → v < 256 → changedBy p v s .value < 256
+unfolding changedBy
+change-lt Asl v s h = asl-lt v s
+change-lt Dec v s h = decrement-lt v s
+change-lt Inc v s h = increment-lt v s
+change-lt Lsr v s h = lsr-lt v s h
+change-lt Rol v s h = rol-lt v s
+change-lt Ror v s h = ror-lt v s h
+change-lt (Rmb m) v s h = reset-bit-lt v m h
+change-lt (Smb m) v s h = set-bit-lt v m h
+
+store-lt : (p : StoreOperation) (r : CpuRegisters) → InRange r → byteToStore p r < 256
+unfolding byteToStore
+store-lt Sta r i = i .a
+store-lt Stx r i = i .x
+store-lt Sty r i = i .y
+
+push-lt : (p : PushOperation) (r : CpuRegisters) → InRange r → byteToPush p r < 256
+unfolding byteToPush
+push-lt Pha r i = i .a
+push-lt Php r i = pushed-lt (r .status) true
+
+pulled-in : (p : PullOperation) (r : CpuRegisters) (v : ℕ) → v < 256 → InRange r → InRange (withPulled p r v)
+unfolding withPulled
+pulled-in Pla r v h i = load-a-in v r h i
+pulled-in Plp r v h i = status-in _ r i
+
+register-in : (p : RegisterOperation) (r : CpuRegisters) → InRange r → InRange (withRegister p r)
+unfolding withRegister
+register-in Dex r i = x-in _ r (decrement-lt (r .x) (r .status)) i
+register-in Dey r i = y-in _ r (decrement-lt (r .y) (r .status)) i
+register-in Inx r i = x-in _ r (increment-lt (r .x) (r .status)) i
+register-in Iny r i = y-in _ r (increment-lt (r .y) (r .status)) i
+register-in Tax r i = load-x-in _ r (i .a) i
+register-in Tay r i = load-y-in _ r (i .a) i
+register-in Tsx r i = load-x-in _ r (i .sp) i
+register-in Txa r i = load-a-in _ r (i .x) i
+register-in Txs r i = sp-in _ r (i .x) i
+register-in Tya r i = load-a-in _ r (i .y) i
+
 -- the writes
 no-write : WriteFits (noWrites .first)
 no-write = record { address = omega arith; value = omega arith }
-
-no-writes : WritesFit noWrites
-no-writes = record { first = no-write; second = no-write; third = no-write }
 
 word-writes : (sp pc : ℕ) → sp < 256 → WritesFit (pushWord sp pc)
 unfolding pushWord
@@ -221,18 +294,15 @@ interrupt-writes sp pc p h q = record {
 }
 
 quiet-fits : (r : CpuRegisters) (n : ℕ) (b : Bus) → InRange r → WorkedFits (quiet r n b .worked)
-quiet-fits r n b i = record { registers = i; writes = no-writes }
+quiet-fits r n b i = record { registers = i; written = tt }
 
 completed-fits : (o : Operand) (r : CpuRegisters) → InRange r → WorkedFits (completed o r .worked)
 unfolding completed
-completed-fits o r i = record { registers = i; writes = no-writes }
+completed-fits o r i = record { registers = i; written = tt }
 
 stored-fits : (o : Operand) (r : CpuRegisters) (v : ℕ) → OperandFits o → v < 256 → InRange r → WorkedFits (stored o r v .worked)
 unfolding stored
-stored-fits o r v f h i = record {
-  registers = i;
-  writes = record { first = record { address = f .address; value = h }; second = no-write; third = no-write };
-}
+stored-fits o r v f h i = record { registers = i; written = record { address = f .address; value = h } }
 
 modified-fits : (o : Operand) (r : CpuRegisters) (k : Computed) → OperandFits o → k .value < 256 → InRange r → WorkedFits (modified o r k .worked)
 unfolding modified
@@ -258,7 +328,7 @@ pushed-fits o r v h i =
     let s = i .sp in
     record {
       registers = sp-in _ r (byte-wraps (r .sp) 255) i;
-      writes = record { first = record { address = omega arith; value = h }; second = no-write; third = no-write };
+      written = record { first = record { address = omega arith; value = h }; second = no-write; third = no-write };
     }
 
 -- what is done is in range; a question says nothing of registers
@@ -392,18 +462,11 @@ module _ (answers memory : List ℕ) (given : Bytes answers) (bytes : Bytes memo
       let q = relative-fits f (fetch-pc (r .pc) (o .bus)) in
       branched-fits (branchOperand o p) (withPc (p .pc) r) taken (q .address) (pc-in (p .pc) r (q .pc) i)
 
-  accumulator-fits : (o : Operand) (r : CpuRegisters) → InRange r → WorkedFits (pulledAccumulator answers memory o r .worked)
-  unfolding pulledAccumulator
-  accumulator-fits o r i =
-      let p = pullOf answers memory (r .sp) (o .bus) in
-      quiet-fits (loadA (p .value) (withSp (p .sp) r)) (o .length) (p .bus)
-      (load-a-in (p .value) (withSp (p .sp) r) (pull-lt (r .sp) (o .bus)) (sp-in (p .sp) r (pull-sp (r .sp) (o .bus)) i))
-
-  status-fits : (o : Operand) (r : CpuRegisters) → InRange r → WorkedFits (pulledStatus answers memory o r .worked)
-  unfolding pulledStatus
-  status-fits o r i =
-      let p = pullOf answers memory (r .sp) (o .bus) in
-      quiet-fits _ (o .length) (p .bus) (status-in _ (withSp (p .sp) r) (sp-in (p .sp) r (pull-sp (r .sp) (o .bus)) i))
+  pulled-fits : (p : PullOperation) (o : Operand) (r : CpuRegisters) → InRange r → WorkedFits (pulledByte answers memory p o r .worked)
+  unfolding pulledByte
+  pulled-fits p o r i =
+      let g = pullOf answers memory (r .sp) (o .bus) in
+      record { registers = pulled-in p (withSp (g .sp) r) (g .value) (pull-lt (r .sp) (o .bus)) (sp-in (g .sp) r (pull-sp (r .sp) (o .bus)) i); written = tt }
 
   returned-fits : (o : Operand) (r : CpuRegisters) → InRange r → WorkedFits (returned answers memory o r .worked)
   unfolding returned
@@ -423,7 +486,7 @@ module _ (answers memory : List ℕ) (given : Bytes answers) (bytes : Bytes memo
   unfolding interrupted
   interrupted-fits vector p r h i = record {
     registers = record { a = i .a; x = i .x; y = i .y; sp = byte-wraps _ 255; pc = vector-lt vector };
-    writes = interrupt-writes (r .sp) (r .pc) p (i .sp) h;
+    written = interrupt-writes (r .sp) (r .pc) p (i .sp) h;
   }
 
   breakTaken-fits : (o : Operand) (r : CpuRegisters) → InRange r → WorkedFits (breakTaken memory o r .worked)
@@ -432,66 +495,21 @@ module _ (answers memory : List ℕ) (given : Bytes answers) (bytes : Bytes memo
 
   work-fits : (op : Operation) (r : CpuRegisters) (o : Operand) → OperandFits o → InRange r → WorkedFits (workOf answers memory op r o .worked)
   unfolding workOf
-  work-fits Adc r o f i = completed-fits o _ (a-in _ r (adc-lt (r .a) (o .value) (r .status)) i)
-  work-fits And r o f i = completed-fits o _ (a-in _ r (and-of-lt (r .a) (o .value) (r .status) (i .a) (f .value)) i)
-  work-fits Asl r o f i = modified-fits o r _ f (asl-lt (o .value) (r .status)) i
-  work-fits Bcc r o f i = branched-fits o r _ (f .address) i
-  work-fits Bcs r o f i = branched-fits o r _ (f .address) i
-  work-fits Beq r o f i = branched-fits o r _ (f .address) i
-  work-fits Bit r o f i = completed-fits o _ (status-in _ r i)
-  work-fits Bmi r o f i = branched-fits o r _ (f .address) i
-  work-fits Bne r o f i = branched-fits o r _ (f .address) i
-  work-fits Bpl r o f i = branched-fits o r _ (f .address) i
-  work-fits Brk r o f i = breakTaken-fits o r i
-  work-fits Bvc r o f i = branched-fits o r _ (f .address) i
-  work-fits Bvs r o f i = branched-fits o r _ (f .address) i
-  work-fits Clc r o f i = completed-fits o _ (status-in _ r i)
-  work-fits Cld r o f i = completed-fits o _ (status-in _ r i)
-  work-fits Cli r o f i = completed-fits o _ (status-in _ r i)
-  work-fits Clv r o f i = completed-fits o _ (status-in _ r i)
-  work-fits Cmp r o f i = completed-fits o _ (status-in _ r i)
-  work-fits Cpx r o f i = completed-fits o _ (status-in _ r i)
-  work-fits Cpy r o f i = completed-fits o _ (status-in _ r i)
-  work-fits Dec r o f i = modified-fits o r _ f (decrement-lt (o .value) (r .status)) i
-  work-fits Dex r o f i = completed-fits o _ (x-in _ r (decrement-lt (r .x) (r .status)) i)
-  work-fits Dey r o f i = completed-fits o _ (y-in _ r (decrement-lt (r .y) (r .status)) i)
-  work-fits Eor r o f i = completed-fits o _ (a-in _ r (eor-of-lt (r .a) (o .value) (r .status) (i .a) (f .value)) i)
-  work-fits Inc r o f i = modified-fits o r _ f (increment-lt (o .value) (r .status)) i
-  work-fits Inx r o f i = completed-fits o _ (x-in _ r (increment-lt (r .x) (r .status)) i)
-  work-fits Iny r o f i = completed-fits o _ (y-in _ r (increment-lt (r .y) (r .status)) i)
-  work-fits Jmp r o f i = jumped-fits o r f i
-  work-fits Jsr r o f i = completed-fits o r i
-  work-fits Lda r o f i = completed-fits o _ (load-a-in _ r (f .value) i)
-  work-fits Ldx r o f i = completed-fits o _ (load-x-in _ r (f .value) i)
-  work-fits Ldy r o f i = completed-fits o _ (load-y-in _ r (f .value) i)
-  work-fits Lsr r o f i = modified-fits o r _ f (lsr-lt (o .value) (r .status) (f .value)) i
-  work-fits Nop r o f i = completed-fits o r i
-  work-fits Ora r o f i = completed-fits o _ (a-in _ r (ora-of-lt (r .a) (o .value) (r .status) (i .a) (f .value)) i)
-  work-fits Pha r o f i = pushed-fits o r _ (i .a) i
-  work-fits Php r o f i = pushed-fits o r _ (pushed-lt (r .status) true) i
-  work-fits Pla r o f i = accumulator-fits o r i
-  work-fits Plp r o f i = status-fits o r i
-  work-fits Rol r o f i = modified-fits o r _ f (rol-lt (o .value) (r .status)) i
-  work-fits Ror r o f i = modified-fits o r _ f (ror-lt (o .value) (r .status) (f .value)) i
-  work-fits Rti r o f i = returnedFromInterrupt-fits o r i
-  work-fits Rts r o f i = returned-fits o r i
-  work-fits Sbc r o f i = completed-fits o _ (a-in _ r (sbc-lt (r .a) (o .value) (r .status)) i)
-  work-fits Sec r o f i = completed-fits o _ (status-in _ r i)
-  work-fits Sed r o f i = completed-fits o _ (status-in _ r i)
-  work-fits Sei r o f i = completed-fits o _ (status-in _ r i)
-  work-fits Sta r o f i = stored-fits o r _ f (i .a) i
-  work-fits Stx r o f i = stored-fits o r _ f (i .x) i
-  work-fits Sty r o f i = stored-fits o r _ f (i .y) i
-  work-fits Tax r o f i = completed-fits o _ (load-x-in _ r (i .a) i)
-  work-fits Tay r o f i = completed-fits o _ (load-y-in _ r (i .a) i)
-  work-fits Tsx r o f i = completed-fits o _ (load-x-in _ r (i .sp) i)
-  work-fits Txa r o f i = completed-fits o _ (load-a-in _ r (i .x) i)
-  work-fits Txs r o f i = completed-fits o _ (sp-in _ r (i .x) i)
-  work-fits Tya r o f i = completed-fits o _ (load-a-in _ r (i .y) i)
-  work-fits (Rmb m) r o f i = modified-fits o r _ f (reset-bit-lt (o .value) m (f .value)) i
-  work-fits (Smb m) r o f i = modified-fits o r _ f (set-bit-lt (o .value) m (f .value)) i
-  work-fits (Bbr m) r o f i = bit-branched-fits o r _ i
-  work-fits (Bbs m) r o f i = bit-branched-fits o r _ i
+  work-fits (operation.Read p) r o f i = completed-fits o _ (read-in p r (o .value) (f .value) i)
+  work-fits (operation.Modify p) r o f i = modified-fits o r _ f (change-lt p (o .value) (r .status) (f .value)) i
+  work-fits (operation.Store p) r o f i = stored-fits o r _ f (store-lt p r i) i
+  work-fits (operation.Branch p) r o f i = branched-fits o r _ (f .address) i
+  work-fits (operation.BitBranch p) r o f i = bit-branched-fits o r _ i
+  work-fits (operation.Push p) r o f i = pushed-fits o r _ (push-lt p r i) i
+  work-fits (operation.Pull p) r o f i = pulled-fits p o r i
+  work-fits (operation.Register p) r o f i = completed-fits o _ (register-in p r i)
+  work-fits (operation.Flag p) r o f i = completed-fits o _ (status-in _ r i)
+  work-fits operation.Brk r o f i = breakTaken-fits o r i
+  work-fits operation.Jmp r o f i = jumped-fits o r f i
+  work-fits operation.Jsr r o f i = completed-fits o r i
+  work-fits operation.Nop r o f i = completed-fits o r i
+  work-fits operation.Rti r o f i = returnedFromInterrupt-fits o r i
+  work-fits operation.Rts r o f i = returned-fits o r i
 
   operand-lt : (access : Access) (a : ℕ) (p : Place) → a < 256 → operandByte answers memory access a p .value < 256
   unfolding operandByte
@@ -524,7 +542,7 @@ module _ (answers memory : List ℕ) (given : Bytes answers) (bytes : Bytes memo
       let h = readAfter answers memory w (l .pc) (l .bus) in
       outcome-fits (writesAsked (l .bus) w) (callTo r n l w h) (record {
         registers = pc-in (word (h .value) (l .value)) _ (word-lt (h .value) (l .value) (read-after-lt w (l .pc) (l .bus) f) (fetch-lt (r .pc) b)) (sp-in _ r (byte-wraps _ 255) i);
-        writes = f;
+        written = f;
       })
 
   execute-fits : (e : Entry) (r : CpuRegisters) (b : Bus) → InRange r → DoneFits (executeOf answers memory e r b)
@@ -553,7 +571,7 @@ module _ (answers memory : List ℕ) (given : Bytes answers) (bytes : Bytes memo
   -- and so do the entries
   pub reset-in-range : (r : CpuRegisters) → InRange r → WorkedFits (resetEntry memory r)
   unfolding resetEntry
-  reset-in-range r i = record { registers = pc-in _ _ (vector-lt resetVector) (status-in _ r i); writes = no-writes }
+  reset-in-range r i = record { registers = pc-in _ _ (vector-lt resetVector) (status-in _ r i); written = tt }
 
   pub interrupt-in-range : (vector : ℕ) (r : CpuRegisters) → InRange r → WorkedFits (interruptEntry memory vector r)
   unfolding interruptEntry

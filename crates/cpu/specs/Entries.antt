@@ -5,15 +5,15 @@ use Prim.Native.Nat.{ℕ}
 use Rattle.cpu_alu.specs.Status.{pushed, withI}
 use Rattle.cpu_access.specs.declared.CpuRegisters.{CpuRegisters}
 use Rattle.cpu_access.specs.Bus.{resetVector, vectorOf}
-use Rattle.cpu_access.specs.Stack.{noWrites}
 use Rattle.cpu_operations.specs.declared.Worked.{Worked}
+use Rattle.cpu_operations.specs.declared.Written.the-variants.{Nothing}
 use Rattle.cpu_operations.specs.Effects.{withPc, withStatus, interrupted}
 
 -- "reset pushes nothing and keeps SP"
 unfoldable pub resetEntry : List ℕ → CpuRegisters → Worked
 resetEntry memory r = record {
   registers = withPc (vectorOf memory resetVector) (withStatus (withI true (r .status)) r);
-  writes = noWrites;
+  written = Nothing;
   length = 7;
 }
 

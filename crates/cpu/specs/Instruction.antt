@@ -19,6 +19,7 @@ use Rattle.cpu_access.specs.Modes.{locateOf}
 use Rattle.cpu.specs.declared.Ask.{Ask}
 use Rattle.cpu.specs.declared.Outcome.{Outcome}
 use Rattle.cpu.specs.declared.Outcome.the-variants.{Undefined, Asked, Done}
+use Rattle.cpu_operations.specs.declared.Written.the-variants.{Pushed}
 use Rattle.cpu_operations.specs.declared.Operand.{Operand}
 use Rattle.cpu_operations.specs.declared.Executed.{Executed}
 use Rattle.cpu_operations.specs.declared.Access.{Access}
@@ -61,7 +62,7 @@ carriedOut answers memory e r b = workAt answers memory e r (locateOf answers me
 
 -- JSR: the low byte of the target is read, the address of its own last byte is pushed, and only then the high byte is read
 abbrev pub callTo : CpuRegisters → ℕ → Fetched → Writes → Got → Executed
-callTo r n l w h = executed (withPc (word (h .value) (l .value)) (withSp (down (down (r .sp))) r)) w n (h .bus)
+callTo r n l w h = executed (withPc (word (h .value) (l .value)) (withSp (down (down (r .sp))) r)) (Pushed w) n (h .bus)
 
 -- a question about the low byte comes before the pushes
 unfoldable pub writesAsked : Bus → Writes → Writes

@@ -3,6 +3,7 @@ use mathlib.Core.Path.{_≡_}
 use mathlib.Core.List.{List}
 use Prim.Native.Nat.{ℕ, _+_, _-_, _≤_, _<_}
 use Rattle.cpu_operations.specs.declared.Worked.{Worked}
+use Rattle.cpu_operations.specs.declared.Written.the-variants.{Nothing}
 use Rattle.cpu.specs.declared.Outcome.the-variants.{Done}
 use Rattle.cpu.specs.declared.quiet.Work.{Work}
 use Rattle.cpu.specs.Instruction.{instructionOf}
@@ -25,5 +26,5 @@ nextWork w worked = record {
 pub data Quietly (span : ℕ) (answers memory : List ℕ) (start : Work) : Work → Type 0 where
   none : Quietly span answers memory start start
   more : {w : Work} (worked : Worked) → Quietly span answers memory start w → w .gone .0 + w .wait < span
-      → instructionOf (w .registers) answers memory ≡ Done worked → worked .writes .count ≡ 0
+      → instructionOf (w .registers) answers memory ≡ Done worked → worked .written ≡ Nothing
       → Quietly span answers memory start (nextWork w worked)

@@ -3,8 +3,8 @@ ghost use mathlib.Core.Path.{_≡_};
 ghost use Rattle.cpu.specs.Entries.{resetEntry, interruptEntry};
 use cpu_access::CpuRegisters;
 use cpu_access::RESET_VECTOR;
-use cpu_access::stack::no_writes;
 use cpu_operations::Worked;
+use cpu_operations::Written;
 use cpu_operations::effects::interrupted;
 use cpu_operations::updates::with_pc;
 use cpu_operations::updates::with_status;
@@ -16,10 +16,9 @@ pub fn reset_entry(memory: &[u8], registers: CpuRegisters) -> Worked
     let status = registers.status;
     let masked = with_status(registers, status.sei());
     let entered = with_pc(masked, cpu_access::vector(memory, RESET_VECTOR));
-    let writes = no_writes();
     Worked {
         registers: entered,
-        writes: writes,
+        written: Written::Nothing,
         length: 7,
     }
 }

@@ -18,6 +18,7 @@ use cpu_operations::Access;
 use cpu_operations::Executed;
 use cpu_operations::Operand;
 use cpu_operations::Worked;
+use cpu_operations::Written;
 use cpu_operations::effects;
 use cpu_operations::updates;
 
@@ -136,7 +137,7 @@ fn call(answers: &[u8], memory: &[u8], registers: CpuRegisters, length: u8, bus:
     let after = upper.bus;
     let target = bits::word16(upper.value, lower.value);
     let called = updates::with_pc(updates::with_sp(registers, down(down(sp))), target);
-    let executed = effects::executed_with(called, writes, length, after);
+    let executed = effects::executed_with(called, Written::Pushed(writes), length, after);
     outcome_of(writes_asked(between, writes), executed)
 }
 

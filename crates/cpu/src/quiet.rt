@@ -10,6 +10,7 @@ use crate::instruction;
 use counters::time::Clocks;
 use cpu_access::CpuRegisters;
 use cpu_operations::Worked;
+use cpu_operations::writes_nothing;
 
 // The CPU at work in a span: its registers, the clocks that its last instruction still takes, the clocks gone since the span began, and
 // the leaps done in it.
@@ -71,7 +72,8 @@ pub fn run_instructions(
                 };
             }
             Outcome::Done(worked) => {
-                if (span.0 - at.gone.0 <= at.wait as u32) | (worked.writes.count != 0) {
+                let written = worked.written;
+                if (span.0 - at.gone.0 <= at.wait as u32) | !writes_nothing(written) {
                     return Stopped {
                         at: at,
                         outcome: Outcome::Done(worked),

@@ -21,7 +21,7 @@ same-at f g n k e h = rw (zero-add k) at (sym (getD-tabulate f n 0 k (f k) h) �
 abbrev pub entryOf : ℕ → ℕ → Decoded
 entryOf o e =
     cond (eqb e 0) Undefined
-    (Defined (record { operation = operationOf (e / 256) (o / 16 % 8); mode = modeOf (e / 16 % 16); length = e % 16 }))
+    (Defined (record { operation = operationOf (e / 4096) (e / 256 % 16) (o / 16 % 8); mode = modeOf (e / 16 % 16); length = e % 16 }))
 
 numbers-decode : tabulate (λ o. entryOf o (entryNumber (decodeOf o))) 256 0 ≡ tabulate decodeOf 256 0
 unfolding decodeOf

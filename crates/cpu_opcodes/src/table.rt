@@ -1,127 +1,136 @@
 // The table of all 256 opcodes, in the order of the instruction code matrix (source document 001, A.3).
-// An entry is one number: the operation in the upper byte, the addressing mode in the next digit, the length in clocks in
-// the last. No defined entry is 0, since no length is.
+// An entry is one number of four digits: the operation's kind, the operation within it, the addressing mode, the length in
+// clocks. No defined entry is 0, since no length is.
 
-// The operations, by mnemonic.
+// The operations, by kind and mnemonic: reads.
 const ADC: u16 = 0x0000;
 
 const AND: u16 = 0x0100;
 
-const ASL: u16 = 0x0200;
+const BIT: u16 = 0x0200;
 
-const BCC: u16 = 0x0300;
+const CMP: u16 = 0x0300;
 
-const BCS: u16 = 0x0400;
+const CPX: u16 = 0x0400;
 
-const BEQ: u16 = 0x0500;
+const CPY: u16 = 0x0500;
 
-const BIT: u16 = 0x0600;
+const EOR: u16 = 0x0600;
 
-const BMI: u16 = 0x0700;
+const LDA: u16 = 0x0700;
 
-const BNE: u16 = 0x0800;
+const LDX: u16 = 0x0800;
 
-const BPL: u16 = 0x0900;
+const LDY: u16 = 0x0900;
 
-const BRK: u16 = 0x0A00;
+const ORA: u16 = 0x0A00;
 
-const BVC: u16 = 0x0B00;
+const SBC: u16 = 0x0B00;
 
-const BVS: u16 = 0x0C00;
+// Read, changed and written back.
+const ASL: u16 = 0x1000;
 
-const CLC: u16 = 0x0D00;
+const DEC: u16 = 0x1100;
 
-const CLD: u16 = 0x0E00;
+const INC: u16 = 0x1200;
 
-const CLI: u16 = 0x0F00;
+const LSR: u16 = 0x1300;
 
-const CLV: u16 = 0x1000;
+const ROL: u16 = 0x1400;
 
-const CMP: u16 = 0x1100;
+const ROR: u16 = 0x1500;
 
-const CPX: u16 = 0x1200;
+const RMB: u16 = 0x1600;
 
-const CPY: u16 = 0x1300;
+const SMB: u16 = 0x1700;
 
-const DEC: u16 = 0x1400;
+// Stores.
+const STA: u16 = 0x2000;
 
-const DEX: u16 = 0x1500;
+const STX: u16 = 0x2100;
 
-const DEY: u16 = 0x1600;
+const STY: u16 = 0x2200;
 
-const EOR: u16 = 0x1700;
+// Branches.
+const BCC: u16 = 0x3000;
 
-const INC: u16 = 0x1800;
+const BCS: u16 = 0x3100;
 
-const INX: u16 = 0x1900;
+const BEQ: u16 = 0x3200;
 
-const INY: u16 = 0x1A00;
+const BMI: u16 = 0x3300;
 
-const JMP: u16 = 0x1B00;
+const BNE: u16 = 0x3400;
 
-const JSR: u16 = 0x1C00;
+const BPL: u16 = 0x3500;
 
-const LDA: u16 = 0x1D00;
+const BVC: u16 = 0x3600;
 
-const LDX: u16 = 0x1E00;
+const BVS: u16 = 0x3700;
 
-const LDY: u16 = 0x1F00;
+// Branches on a bit.
+const BBR: u16 = 0x4000;
 
-const LSR: u16 = 0x2000;
+const BBS: u16 = 0x4100;
 
-const NOP: u16 = 0x2100;
+// Pushes.
+const PHA: u16 = 0x5000;
 
-const ORA: u16 = 0x2200;
+const PHP: u16 = 0x5100;
 
-const PHA: u16 = 0x2300;
+// Pulls.
+const PLA: u16 = 0x6000;
 
-const PHP: u16 = 0x2400;
+const PLP: u16 = 0x6100;
 
-const PLA: u16 = 0x2500;
+// Registers alone.
+const DEX: u16 = 0x7000;
 
-const PLP: u16 = 0x2600;
+const DEY: u16 = 0x7100;
 
-const ROL: u16 = 0x2700;
+const INX: u16 = 0x7200;
 
-const ROR: u16 = 0x2800;
+const INY: u16 = 0x7300;
 
-const RTI: u16 = 0x2900;
+const TAX: u16 = 0x7400;
 
-const RTS: u16 = 0x2A00;
+const TAY: u16 = 0x7500;
 
-const SBC: u16 = 0x2B00;
+const TSX: u16 = 0x7600;
 
-const SEC: u16 = 0x2C00;
+const TXA: u16 = 0x7700;
 
-const SED: u16 = 0x2D00;
+const TXS: u16 = 0x7800;
 
-const SEI: u16 = 0x2E00;
+const TYA: u16 = 0x7900;
 
-const STA: u16 = 0x2F00;
+// Flags.
+const CLC: u16 = 0x8000;
 
-const STX: u16 = 0x3000;
+const CLD: u16 = 0x8100;
 
-const STY: u16 = 0x3100;
+const CLI: u16 = 0x8200;
 
-const TAX: u16 = 0x3200;
+const CLV: u16 = 0x8300;
 
-const TAY: u16 = 0x3300;
+const SEC: u16 = 0x8400;
 
-const TSX: u16 = 0x3400;
+const SED: u16 = 0x8500;
 
-const TXA: u16 = 0x3500;
+const SEI: u16 = 0x8600;
 
-const TXS: u16 = 0x3600;
+// Each a kind of its own.
+const BRK: u16 = 0x9000;
 
-const TYA: u16 = 0x3700;
+const JMP: u16 = 0xA000;
 
-const RMB: u16 = 0x3800;
+const JSR: u16 = 0xB000;
 
-const SMB: u16 = 0x3900;
+const NOP: u16 = 0xC000;
 
-const BBR: u16 = 0x3A00;
+const RTI: u16 = 0xD000;
 
-const BBS: u16 = 0x3B00;
+const RTS: u16 = 0xE000;
 
 // The addressing modes.
 const IMP: u16 = 0x00;

@@ -1,15 +1,17 @@
--- What an instruction leaves, by kind: the registers, the writes and the clocks that it takes.
+-- What an instruction leaves, by kind: the registers, what it writes, and the clocks that it takes.
 use mathlib.Core.Bool.{Bool, true, false, cond}
 use mathlib.Core.List.{List}
 use Prim.Native.Nat.{ℕ, _+_, _*_, _/_, _%_}
 use lib.Dec.{eqb}
 use Rattle.bits.specs.Bits.{bit, digit}
-use Rattle.cpu_alu.specs.Status.{unpacked, pushed, withNZ, withI}
+use Rattle.cpu_opcodes.specs.declared.operation.PullOperation.{PullOperation}
+use Rattle.cpu_alu.specs.Status.{unpacked, pushed, withI}
 use Rattle.cpu_alu.specs.declared.Status.{Status}
 use Rattle.cpu_alu.specs.declared.Computed.{Computed}
 use Rattle.cpu_access.specs.declared.Bus.{Bus}
 use Rattle.cpu_access.specs.declared.CpuRegisters.{CpuRegisters}
 use Rattle.cpu_access.specs.declared.modes.Place.{Place}
+use Rattle.cpu_access.specs.declared.stack.Write.{Write}
 use Rattle.cpu_access.specs.declared.stack.Writes.{Writes}
 use Rattle.cpu_access.specs.declared.stack.Pulled.{Pulled}
 use Rattle.cpu_access.specs.declared.stack.PulledWord.{PulledWord}
@@ -17,45 +19,30 @@ use Rattle.cpu_access.specs.Bus.{irqVector, nextAddress, vectorOf, fetchOf}
 use Rattle.cpu_access.specs.Stack.{writeAt, noWrites, oneWrite, down, pushAt, pushInterrupt, pullOf, pullWord}
 use Rattle.cpu_access.specs.Modes.{relativeTo}
 use Rattle.cpu_operations.specs.declared.Worked.{Worked}
+use Rattle.cpu_operations.specs.declared.Written.{Written}
+use Rattle.cpu_operations.specs.declared.Written.the-variants.{Nothing, Pushed, Stored}
 use Rattle.cpu_operations.specs.declared.Operand.{Operand}
 use Rattle.cpu_operations.specs.declared.Executed.{Executed}
+pub use Rattle.cpu_operations.specs.Updates.{withSp, withPc, withStatus, intoA, intoX, intoY, loadA, loadX, loadY}
+use Rattle.cpu_operations.specs.Kinds.{withPulled}
 
--- one register as given, the others kept
-abbrev pub withSp : ℕ → CpuRegisters → CpuRegisters
-withSp v r = record { a = r .a; x = r .x; y = r .y; sp = v; pc = r .pc; status = r .status }
+-- what is written in order, each write once: the pushes, or the store
+unfoldable pub writesOf : Written → Writes
+writesOf Nothing = noWrites
+writesOf (Pushed w) = w
+writesOf (Stored x) = oneWrite x
 
-abbrev pub withPc : ℕ → CpuRegisters → CpuRegisters
-withPc v r = record { a = r .a; x = r .x; y = r .y; sp = r .sp; pc = v; status = r .status }
+unfoldable pub writesNothing : Written → Bool
+writesNothing Nothing = true
+writesNothing (Pushed w) = false
+writesNothing (Stored x) = false
 
-abbrev pub withStatus : Status → CpuRegisters → CpuRegisters
-withStatus s r = record { a = r .a; x = r .x; y = r .y; sp = r .sp; pc = r .pc; status = s }
-
--- what was computed goes into a register, with the flags
-abbrev pub intoA : Computed → CpuRegisters → CpuRegisters
-intoA k r = record { a = k .value; x = r .x; y = r .y; sp = r .sp; pc = r .pc; status = k .status }
-
-abbrev pub intoX : Computed → CpuRegisters → CpuRegisters
-intoX k r = record { a = r .a; x = k .value; y = r .y; sp = r .sp; pc = r .pc; status = k .status }
-
-abbrev pub intoY : Computed → CpuRegisters → CpuRegisters
-intoY k r = record { a = r .a; x = r .x; y = k .value; sp = r .sp; pc = r .pc; status = k .status }
-
--- loads and transfers: N and Z of the byte
-abbrev pub loadA : ℕ → CpuRegisters → CpuRegisters
-loadA v r = record { a = v; x = r .x; y = r .y; sp = r .sp; pc = r .pc; status = withNZ v (r .status) }
-
-abbrev pub loadX : ℕ → CpuRegisters → CpuRegisters
-loadX v r = record { a = r .a; x = v; y = r .y; sp = r .sp; pc = r .pc; status = withNZ v (r .status) }
-
-abbrev pub loadY : ℕ → CpuRegisters → CpuRegisters
-loadY v r = record { a = r .a; x = r .x; y = v; sp = r .sp; pc = r .pc; status = withNZ v (r .status) }
-
-abbrev pub executed : CpuRegisters → Writes → ℕ → Bus → Executed
-executed r w n b = record { worked = record { registers = r; writes = w; length = n }; bus = b }
+abbrev pub executed : CpuRegisters → Written → ℕ → Bus → Executed
+executed r w n b = record { worked = record { registers = r; written = w; length = n }; bus = b }
 
 -- nothing is written
 abbrev pub quiet : CpuRegisters → ℕ → Bus → Executed
-quiet r n b = executed r noWrites n b
+quiet r n b = executed r Nothing n b
 
 -- a byte was read, or none: one clock more where indexing crossed a page (001, A.3, *)
 unfoldable pub completed : Operand → CpuRegisters → Executed
@@ -63,7 +50,7 @@ completed o r = quiet r (o .length + digit (o .crossed)) (o .bus)
 
 -- the byte v is stored at the operand's address
 unfoldable pub stored : Operand → CpuRegisters → ℕ → Executed
-stored o r v = executed r (oneWrite (writeAt (o .address) v)) (o .length) (o .bus)
+stored o r v = executed r (Stored (writeAt (o .address) v)) (o .length) (o .bus)
 
 -- a byte that was read and changed goes back to where it came from
 unfoldable pub modified : Operand → CpuRegisters → Computed → Executed
@@ -96,20 +83,14 @@ jumped o r = quiet (withPc (o .address) r) (o .length) (o .bus)
 
 -- PHA and PHP: a push writes at SP, and SP goes down
 unfoldable pub pushedByte : Operand → CpuRegisters → ℕ → Executed
-pushedByte o r v = executed (withSp (down (r .sp)) r) (oneWrite (pushAt (r .sp) v)) (o .length) (o .bus)
+pushedByte o r v = executed (withSp (down (r .sp)) r) (Pushed (oneWrite (pushAt (r .sp) v))) (o .length) (o .bus)
 
--- PLA sets N and Z
-abbrev pub accumulatorFrom : Operand → CpuRegisters → Pulled → Executed
-accumulatorFrom o r p = quiet (loadA (p .value) (withSp (p .sp) r)) (o .length) (p .bus)
+-- PLA and PLP: SP goes up, and the byte there is pulled
+abbrev pub pulledTo : PullOperation → Operand → CpuRegisters → Pulled → Executed
+pulledTo operation o r p = quiet (withPulled operation (withSp (p .sp) r) (p .value)) (o .length) (p .bus)
 
-unfoldable pub pulledAccumulator : List ℕ → List ℕ → Operand → CpuRegisters → Executed
-pulledAccumulator answers memory o r = accumulatorFrom o r (pullOf answers memory (r .sp) (o .bus))
-
-abbrev pub statusFrom : Operand → CpuRegisters → Pulled → Executed
-statusFrom o r p = quiet (withStatus (unpacked (p .value)) (withSp (p .sp) r)) (o .length) (p .bus)
-
-unfoldable pub pulledStatus : List ℕ → List ℕ → Operand → CpuRegisters → Executed
-pulledStatus answers memory o r = statusFrom o r (pullOf answers memory (r .sp) (o .bus))
+unfoldable pub pulledByte : List ℕ → List ℕ → PullOperation → Operand → CpuRegisters → Executed
+pulledByte answers memory operation o r = pulledTo operation o r (pullOf answers memory (r .sp) (o .bus))
 
 -- RTS: PC is what was pulled, plus 1
 abbrev pub returnTo : Operand → CpuRegisters → PulledWord → Executed
@@ -139,7 +120,7 @@ interrupted memory vector p r = record {
     pc = vectorOf memory vector;
     status = withI true (r .status);
   };
-  writes = pushInterrupt (r .sp) (r .pc) p;
+  written = Pushed (pushInterrupt (r .sp) (r .pc) p);
   length = 7;
 }
 

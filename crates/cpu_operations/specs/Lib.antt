@@ -1,2 +1,4 @@
+pub mod Updates
+pub mod Kinds
 pub mod Effects
 pub mod Operations

@@ -1,30 +1,31 @@
-// What an instruction leaves, by kind: the registers, the writes and the clocks that it takes.
+// What an instruction leaves, by kind: the registers, what it writes, and the clocks that it takes.
 ghost use mathlib.Core.Path.{_≡_};
 ghost use Prim.Native.Nat.{_≤_};
-ghost use Rattle.cpu_operations.specs.Effects.{executed, quiet, completed, stored, modified, branched, bitBranched, jumped, pushedByte, pulledAccumulator, pulledStatus, returned, returnedFromInterrupt, interrupted, breakTaken};
+ghost use Rattle.cpu_operations.specs.Effects.{executed, quiet, completed, stored, modified, branched, bitBranched, jumped, pushedByte, pulledByte, returned, returnedFromInterrupt, interrupted, breakTaken};
 use crate::Executed;
 use crate::Operand;
 use crate::Worked;
+use crate::Written;
+use crate::kinds::with_pulled;
 use crate::updates::into_a;
-use crate::updates::load_a;
 use crate::updates::with_pc;
 use crate::updates::with_sp;
 use crate::updates::with_status;
 use cpu_access::Bus;
 use cpu_access::CpuRegisters;
-use cpu_access::stack::Writes;
+use cpu_access::stack::Write;
 use cpu_access::stack::down;
-use cpu_access::stack::no_writes;
 use cpu_access::stack::one_write;
 use cpu_alu::Computed;
 use cpu_alu::Status;
+use cpu_opcodes::operation::PullOperation;
 
-pub fn executed_with(registers: CpuRegisters, writes: Writes, length: u8, bus: Bus) -> Executed
-    ensures { λ r. ⌜ r ≡ executed registers writes length bus ⌝ }
+pub fn executed_with(registers: CpuRegisters, written: Written, length: u8, bus: Bus) -> Executed
+    ensures { λ r. ⌜ r ≡ executed registers written length bus ⌝ }
 {
     let worked = Worked {
         registers: registers,
-        writes: writes,
+        written: written,
         length: length,
     };
     Executed {
@@ -37,7 +38,7 @@ pub fn executed_with(registers: CpuRegisters, writes: Writes, length: u8, bus: B
 fn quiet(registers: CpuRegisters, length: u8, bus: Bus) -> Executed
     ensures { λ r. ⌜ r ≡ quiet registers length bus ⌝ }
 {
-    executed_with(registers, no_writes(), length, bus)
+    executed_with(registers, Written::Nothing, length, bus)
 }
 
 // A byte was read, or none: one clock more where indexing crossed a page.
@@ -54,7 +55,11 @@ pub fn stored(o: Operand, registers: CpuRegisters, value: u8) -> Executed
     ensures { λ r. ⌜ r ≡ stored o registers value ⌝ }
 {
     let bus = o.bus;
-    executed_with(registers, one_write(o.address, value), o.length, bus)
+    let store = Write {
+        address: o.address,
+        value: value,
+    };
+    executed_with(registers, Written::Stored(store), o.length, bus)
 }
 
 // A byte that was read and changed goes back to where it came from.
@@ -120,39 +125,31 @@ pub fn pushed_byte(o: Operand, registers: CpuRegisters, value: u8) -> Executed
 {
     let bus = o.bus;
     let sp = registers.sp;
-    let writes = one_write(cpu_access::stack::stack_address(sp), value);
-    executed_with(with_sp(registers, down(sp)), writes, o.length, bus)
-}
-
-// PLA.
-pub fn pulled_accumulator(
-    answers: &[u8],
-    memory: &[u8],
-    o: Operand,
-    registers: CpuRegisters,
-) -> Executed
-    ensures { λ r. ⌜ r ≡ pulledAccumulator (now (answers .entry)) (now (memory .entry)) o registers ⌝ }
-{
-    let before = o.bus;
-    let pulled = before.pull(answers, memory, registers.sp);
-    let after = pulled.bus;
-    quiet(
-        load_a(with_sp(registers, pulled.sp), pulled.value),
+    let pushes = one_write(cpu_access::stack::stack_address(sp), value);
+    executed_with(
+        with_sp(registers, down(sp)),
+        Written::Pushed(pushes),
         o.length,
-        after,
+        bus,
     )
 }
 
-// PLP.
-pub fn pulled_status(answers: &[u8], memory: &[u8], o: Operand, registers: CpuRegisters) -> Executed
-    ensures { λ r. ⌜ r ≡ pulledStatus (now (answers .entry)) (now (memory .entry)) o registers ⌝ }
+// PLA and PLP.
+pub fn pulled_byte(
+    answers: &[u8],
+    memory: &[u8],
+    operation: PullOperation,
+    o: Operand,
+    registers: CpuRegisters,
+) -> Executed
+    ensures { λ r. ⌜ r ≡ pulledByte (now (answers .entry)) (now (memory .entry)) operation o registers ⌝ }
 {
     let before = o.bus;
     let pulled = before.pull(answers, memory, registers.sp);
     let after = pulled.bus;
-    let status = Status::unpack(pulled.value);
+    let stacked = with_sp(registers, pulled.sp);
     quiet(
-        with_status(with_sp(registers, pulled.sp), status),
+        with_pulled(operation, stacked, pulled.value),
         o.length,
         after,
     )
@@ -193,14 +190,14 @@ pub fn interrupted(memory: &[u8], vector: u16, p: u8, registers: CpuRegisters) -
     ensures { λ r. ⌜ r ≡ interrupted (now (memory .entry)) vector p registers ⌝ }
 {
     let sp = registers.sp;
-    let writes = cpu_access::stack::push_interrupt(sp, registers.pc, p);
+    let pushes = cpu_access::stack::push_interrupt(sp, registers.pc, p);
     let before = registers.status;
     let masked = with_status(registers, before.sei());
     let stacked = with_sp(masked, down(down(down(sp))));
     let entered = with_pc(stacked, cpu_access::vector(memory, vector));
     Worked {
         registers: entered,
-        writes: writes,
+        written: Written::Pushed(pushes),
         length: 7,
     }
 }

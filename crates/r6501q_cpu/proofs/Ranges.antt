@@ -1,6 +1,6 @@
 -- The CPU's part of a clock keeps every field in its range, and leaves the clock alone.
 use mathlib.Core.Path.{_≡_, refl, sym, ap, _∙_}
-use mathlib.Core.Bool.{Bool, true, false, cond, _&&_}
+use mathlib.Core.Bool.{Bool, true, false, cond, _&&_, false≢true}
 use mathlib.Core.List.{List, [], _∷_, _++_}
 use Prim.Native.Nat.{ℕ, zero, suc, _+_, _-_, _*_, _/_, _%_, _≤_, _<_}
 use native.Mathlib.Omega.{arith}
@@ -27,7 +27,7 @@ use Rattle.cpu_access.specs.declared.stack.Writes.{Writes}
 use Rattle.memory.specs.Memory.{isRegister}
 use Rattle.cpu_access.specs.Stack.{pushInterrupt}
 use Rattle.cpu_operations.specs.declared.Worked.{Worked}
-use Rattle.cpu_operations.specs.Effects.{interrupted}
+use Rattle.cpu_operations.specs.Effects.{interrupted, writesOf}
 use Rattle.cpu.specs.declared.Outcome.{Outcome}
 use Rattle.cpu.specs.declared.Outcome.the-variants as outcome
 use Rattle.cpu.specs.Entries.{resetEntry, interruptEntry}
@@ -65,12 +65,13 @@ after-fits p w e =
     put-fits (ltb 2 (w .count)) (w .third) _ (put-fits (ltb 1 (w .count)) (w .second) _ (put-fits (ltb 0 (w .count)) (w .first) p e))
 
 reset-entry-fits : (memory : List ℕ) (r : CpuRegisters) → Fits (resetEntry memory r)
-unfolding resetEntry
-reset-entry-fits memory r = record { writes = omega arith; least = omega arith; most = omega arith }
+unfolding resetEntry writesOf
+reset-entry-fits memory r = record { writes = omega arith; least = omega arith; most = omega arith; store = λ e. absurd (false≢true e) }
 
 interrupt-entry-fits : (memory : List ℕ) (vector : ℕ) (r : CpuRegisters) → Fits (interruptEntry memory vector r)
-unfolding interruptEntry interrupted pushInterrupt
-interrupt-entry-fits memory vector r = record { writes = omega arith; least = omega arith; most = omega arith }
+unfolding interruptEntry interrupted pushInterrupt writesOf
+interrupt-entry-fits memory vector r =
+    record { writes = omega arith; least = omega arith; most = omega arith; store = λ e. absurd (false≢true e) }
 
 -- of the end of a clock's CPU part, where there is one
 abbrev pub Ends : (Next → Type 0) → Processed → Type 0
@@ -127,7 +128,7 @@ fewer-formed s e =
 pub processor-formed : (s : State) (memory : List ℕ) → wellFormed s ≡ true → Ends (λ n. wellFormed (n .state) ≡ true) (processorOf s memory)
 processor-formed s memory e =
     processor-ends s memory (λ p. peripheralsFit p ≡ true) (λ n. wellFormed (n .state) ≡ true) (formed-peripherals s e) read-fits
-    (λ due p w q f. formed _ (cpu-of-fits (w .registers) (w .length) (f .most)) (after-fits p (w .writes) q))
+    (λ due p w q f. formed _ (cpu-of-fits (w .registers) (w .length) (f .most)) (after-fits p (writesOf (w .written)) q))
     (fewer-formed s e) e
 
 -- the clock is left alone

@@ -21,6 +21,7 @@ use Rattle.cpu_access.specs.Bus.{memoryByte, nmiVector, irqVector}
 use Rattle.memory.specs.Memory.{isRegister}
 use Rattle.cpu_access.specs.Stack.{noWrites, eachWrite}
 use Rattle.cpu_operations.specs.declared.Worked.{Worked}
+use Rattle.cpu_operations.specs.Effects.{writesOf}
 use Rattle.cpu.specs.declared.Ask.{Ask}
 use Rattle.cpu.specs.declared.Outcome.{Outcome}
 use Rattle.cpu.specs.declared.Outcome.the-variants as outcome
@@ -62,12 +63,12 @@ nextOf s due p w = record {
   state = record {
     cpu = cpuOf (w .registers) (w .length - 1);
     due = due;
-    peripherals = registersAfter p (w .writes);
+    peripherals = registersAfter p (writesOf (w .written));
     external = s .external;
     last = s .last;
     clock = s .clock;
   };
-  writes = w .writes;
+  writes = writesOf (w .written);
 }
 
 -- what an instruction comes to with the answers so far: it is undefined, it is done, or it asks, and is answered

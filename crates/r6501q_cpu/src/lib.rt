@@ -3,6 +3,7 @@ ghost use mathlib.Core.Path.{_≡_};
 ghost use mathlib.Core.List.{[]};
 ghost use Prim.Native.Nat.{_≤_};
 ghost use Rattle.cpu_opcodes.specs.Table.{opcodeTable};
+ghost use Rattle.cpu_operations.specs.Effects.{writesOf};
 ghost use Rattle.r6501q_cpu.specs.Processor.{registersOf, cpuOf, putRegister, registersAfter, answerOf, nextOf, turnOf, instructionFrom, wholeInstruction, irqDue, resetStart, nmiStart, irqStart, startOf, quietly, waiting, processorOf};
 use cpu::Ask;
 use cpu::Outcome;
@@ -17,6 +18,8 @@ use cpu_access::stack::Writes;
 use cpu_access::stack::no_writes;
 use cpu_alu::Status;
 use cpu_operations::Worked;
+use cpu_operations::Written;
+use cpu_operations::writes_of;
 use memory::is_register;
 use r6501q_registers::read::Reading;
 use r6501q_state::state::Cpu;
@@ -97,6 +100,17 @@ fn registers_after(p: Peripherals, w: Writes) -> Peripherals
     put_register(2 < w.count, w.third, second)
 }
 
+// What an instruction or an entry does to the registers, in order.
+fn registers_written(p: Peripherals, written: Written) -> Peripherals
+    ensures { λ r. ⌜ r ≡ registersAfter p (writesOf written) ⌝ }
+{
+    match written {
+        Written::Nothing => p,
+        Written::Pushed(pushes) => registers_after(p, pushes),
+        Written::Stored(store) => put_register(true, store, p),
+    }
+}
+
 // The answer to what an instruction asks.
 fn answer(p: Peripherals, levels: u32, ask: Ask) -> Reading
     ensures { λ r. ⌜ r ≡ answerOf p levels ask ⌝ }
@@ -112,16 +126,16 @@ fn answer(p: Peripherals, levels: u32, ask: Ask) -> Reading
 fn next_state(s: State, due: Due, p: Peripherals, w: Worked) -> Next
     ensures { λ r. ⌜ r ≡ nextOf s due p w ⌝ }
 {
-    let writes = w.writes;
+    let written = w.written;
     let cpu = cpu_of(w.registers, bits::one_less(w.length));
-    let peripherals = registers_after(p, writes);
+    let peripherals = registers_written(p, written);
     let mut state = s;
     state.cpu = cpu;
     state.due = due;
     state.peripherals = peripherals;
     Next {
         state: state,
-        writes: writes,
+        writes: writes_of(written),
     }
 }
 

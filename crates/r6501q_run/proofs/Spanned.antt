@@ -10,7 +10,9 @@ use lib.ListN.{length, drop}
 use borrow.Author.Tests.{ltb-true, lt-ltb, leb-true, leb-false, eq-eqb, eqb-true}
 use Rattle.bits.proofs.Cond.{cond-both}
 use Rattle.counters.specs.declared.time.Clocks.{Clocks}
-use Rattle.cpu_access.specs.declared.stack.Writes.{Writes}
+use Rattle.cpu_operations.specs.declared.Written.{Written}
+use Rattle.cpu_operations.specs.declared.Written.the-variants.{Nothing}
+use Rattle.cpu_operations.specs.Effects.{writesOf}
 use Rattle.cpu_operations.specs.declared.Worked.{Worked}
 use Rattle.cpu.specs.declared.Outcome.{Outcome}
 use Rattle.cpu.specs.declared.Outcome.the-variants as outcome
@@ -38,20 +40,20 @@ use Rattle.r6501q_run.proofs.Runs.{leap-reaches}
 -- the next instruction is a leap, or nothing happens
 work-either : (span : ℕ) (w : Work) (memory : List ℕ) (P : Work → List ℕ → Type 0) → w .gone .0 ≤ span → P w memory
     → ((worked : Worked) → w .gone .0 + w .wait < span → instructionOf (w .registers) [] memory ≡ outcome.Done worked
-    → writesRegister (worked .writes) ≡ false → P (nextWork w worked) (committed memory (worked .writes)))
+    → writesRegister (writesOf (worked .written)) ≡ false → P (nextWork w worked) (committed memory (writesOf (worked .written))))
     → P (workAfter span w memory) (memoryAfter span w memory)
 unfolding workAfter memoryAfter continuedBy committedBy
 work-either span w memory P room none next = by-test (leb (span - w .gone .0) (w .wait)) refl
   where
     by-writes : (worked : Worked) → w .gone .0 + w .wait < span → instructionOf (w .registers) [] memory ≡ outcome.Done worked → (t : Bool)
-        → writesRegister (worked .writes) ≡ t → P (cond t w (nextWork w worked)) (cond t memory (committed memory (worked .writes)))
+        → writesRegister (writesOf (worked .written)) ≡ t → P (cond t w (nextWork w worked)) (cond t memory (committed memory (writesOf (worked .written))))
     by-writes worked inside e true q = none
     by-writes worked inside e false q = next worked inside e q
 
     by-outcome : (o : Outcome) → w .gone .0 + w .wait < span → instructionOf (w .registers) [] memory ≡ o → P (workBy w o) (memoryBy memory o)
     by-outcome outcome.Undefined inside e = none
     by-outcome (outcome.Asked ask) inside e = none
-    by-outcome (outcome.Done worked) inside e = by-writes worked inside e (writesRegister (worked .writes)) refl
+    by-outcome (outcome.Done worked) inside e = by-writes worked inside e (writesRegister (writesOf (worked .written))) refl
 
     by-test : (t : Bool) → leb (span - w .gone .0) (w .wait) ≡ t
         → P (cond t w (workBy w (instructionOf (w .registers) [] memory))) (cond t memory (memoryBy memory (instructionOf (w .registers) [] memory)))
@@ -68,12 +70,12 @@ pub room-on : (span : ℕ) (w : Work) (memory : List ℕ) (v : Work) (memory' : 
 room-on span w memory v memory' room o = rw (o .work) (room-kept span (o .at) memory (quietly-room span [] memory w room (o .quietly)))
 
 -- an instruction that writes nothing writes no register, and leaves memory as it is
-no-register : (w : Writes) → w .count ≡ 0 → writesRegister w ≡ false
-unfolding writesRegister
+no-register : (w : Written) → w ≡ Nothing → writesRegister (writesOf w) ≡ false
+unfolding writesRegister writesOf
 no-register w e = rw e
 
-same-memory : (memory : List ℕ) (w : Writes) → w .count ≡ 0 → committed memory w ≡ memory
-unfolding committed putByte
+same-memory : (memory : List ℕ) (w : Written) → w ≡ Nothing → committed memory (writesOf w) ≡ memory
+unfolding committed putByte writesOf
 same-memory memory w e = rw e
 
 module _ (at : Leaped) (clocks : List ℕ) (span : ℕ) (on : at .progress .stop ≡ 0)
@@ -94,7 +96,7 @@ module _ (at : Leaped) (clocks : List ℕ) (span : ℕ) (on : at .progress .stop
       (w .leaps) (at .left .0 - w .gone .0) (worldAt w memory codes times words)
 
   module _ (w : Work) (inside : w .gone .0 + w .wait < span) (memory : List ℕ) (worked : Worked)
-      (done : instructionOf (w .registers) [] memory ≡ outcome.Done worked) (inMemory : writesRegister (worked .writes) ≡ false)
+      (done : instructionOf (w .registers) [] memory ≡ outcome.Done worked) (inMemory : writesRegister (writesOf (worked .written)) ≡ false)
       (codes times words : List ℕ) where
     abbrev n : ℕ
     n = at .left .0 - w .gone .0
@@ -106,7 +108,7 @@ module _ (at : Leaped) (clocks : List ℕ) (span : ℕ) (on : at .progress .stop
     gap-there = working-gap (at .left .0) s rest span a w inside
 
     -- the event clock behind its gap, which is done
-    work-plain : plainOf r6501q (passIn r6501q (w .wait) before) ≡ worldAt (nextWork w worked) (committed memory (worked .writes)) codes times words
+    work-plain : plainOf r6501q (passIn r6501q (w .wait) before) ≡ worldAt (nextWork w worked) (committed memory (writesOf (worked .written))) codes times words
     unfolding plainOf putRecord
     work-plain =
         rw (
@@ -128,7 +130,7 @@ module _ (at : Leaped) (clocks : List ℕ) (span : ℕ) (on : at .progress .stop
           working-clock (at .left .0) s rest span a w inside memory worked done inMemory (ltb (at .progress .written) (length times)),
         )
 
-    work-leap : leapOf chip n before ≡ worldAt (nextWork w worked) (committed memory (worked .writes)) codes times words
+    work-leap : leapOf chip n before ≡ worldAt (nextWork w worked) (committed memory (writesOf (worked .written))) codes times words
     work-leap = sym (leap-reaches n before (clocksOf (w .wait)) (ap clocksOf (sym gap-there)) (omega (arith, a .left))) ∙ work-plain
 
     work-left : leftAfter chip n before ≡ at .left .0 - (w .gone .0 + w .wait + 1)
@@ -137,7 +139,7 @@ module _ (at : Leaped) (clocks : List ℕ) (span : ℕ) (on : at .progress .stop
     leapt-more : (memory₀ : List ℕ)
         → ByLeaps chip (at .left .0) (worldOf (at .progress) memory₀ clocks codes times words) (w .leaps) n before
         → ByLeaps chip (at .left .0) (worldOf (at .progress) memory₀ clocks codes times words) (w .leaps + 1)
-        (at .left .0 - (w .gone .0 + w .wait + 1)) (worldAt (nextWork w worked) (committed memory (worked .writes)) codes times words)
+        (at .left .0 - (w .gone .0 + w .wait + 1)) (worldAt (nextWork w worked) (committed memory (writesOf (worked .written))) codes times words)
     leapt-more memory₀ so-far =
         rw (← work-leap, ← work-left)
         (one-more so-far (eq-eqb (at .progress .stop) 0 on) (omega (arith, gap-there, a .left)) (rw gap-there work-done))
@@ -154,8 +156,8 @@ module _ (at : Leaped) (clocks : List ℕ) (span : ℕ) (on : at .progress .stop
   leapt-quietly w memory₀ memory so-far =
       quietly-keeps span [] memory w (λ (v : Work). LeaptTo memory₀ v memory) so-far
       (λ v worked kept inside e z codes times words.
-      rw (same-memory memory (worked .writes) z) at
-      (leapt-more v inside memory worked e (no-register (worked .writes) z) codes times words memory₀ (kept codes times words)))
+      rw (same-memory memory (worked .written) z) at
+      (leapt-more v inside memory worked e (no-register (worked .written) z) codes times words memory₀ (kept codes times words)))
 
   pub leapt-on : (w v : Work) (memory₀ memory memory' : List ℕ) → WithinSpan w span → WorkedOn span w memory v memory'
       → LeaptTo memory₀ w memory → LeaptTo memory₀ v memory'

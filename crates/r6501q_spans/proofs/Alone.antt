@@ -23,6 +23,7 @@ use Rattle.cpu_access.specs.declared.stack.Write.{Write}
 use Rattle.cpu_access.specs.declared.stack.Writes.{Writes}
 use Rattle.memory.specs.Memory.{isRegister}
 use Rattle.cpu_operations.specs.declared.Worked.{Worked}
+use Rattle.cpu_operations.specs.Effects.{writesOf}
 use Rattle.cpu.specs.declared.Outcome.{Outcome}
 use Rattle.cpu.specs.declared.Outcome.the-variants as outcome
 use Rattle.cpu.specs.declared.quiet.Work.{Work}
@@ -285,15 +286,15 @@ module _ (n : ℕ) (s : State) (clocks : List ℕ) (span : ℕ) (a : Alone n s c
   no-irq = rw (a .flags) (never-both (not (bit 2 (packed (w .registers .status)))))
 
   module _ (memory : List ℕ) (worked : Worked) (done : instructionOf (w .registers) [] memory ≡ outcome.Done worked)
-      (inMemory : writesRegister (worked .writes) ≡ false) where
+      (inMemory : writesRegister (writesOf (worked .written)) ≡ false) where
     turn-there : turnOf (workingState s (started w)) (workingState s (started w) .peripherals) [] memory
-        ≡ Over (processed.Done (record { state = workingState s (nextWork w worked); writes = worked .writes }))
+        ≡ Over (processed.Done (record { state = workingState s (nextWork w worked); writes = writesOf (worked .written) }))
     unfolding turnOf
     turn-there =
-        rw (unpacked-packed (w .registers .status), done, no-registers (workingState s (started w) .peripherals) (worked .writes) inMemory)
+        rw (unpacked-packed (w .registers .status), done, no-registers (workingState s (started w) .peripherals) (writesOf (worked .written)) inMemory)
 
     processed-there : processorOf (workingState s (started w)) memory
-        ≡ processed.Done (record { state = workingState s (nextWork w worked); writes = worked .writes })
+        ≡ processed.Done (record { state = workingState s (nextWork w worked); writes = writesOf (worked .written) })
     unfolding wholeInstruction
     processed-there =
         instruction-starts (workingState s (started w)) memory (a .res) refl (a .reset) (a .nmi) no-irq
@@ -301,7 +302,7 @@ module _ (n : ℕ) (s : State) (clocks : List ℕ) (span : ℕ) (a : Alone n s c
 
     -- steps 1 to 5 of it
     pub working-clock : (free : Bool) → clockOf (workingState s (waited w)) [] memory free
-        ≡ Done (endedWith (record { state = workingState s (nextWork w worked); writes = worked .writes }) (drivenWord (s .peripherals)) false)
+        ≡ Done (endedWith (record { state = workingState s (nextWork w worked); writes = writesOf (worked .written) }) (drivenWord (s .peripherals)) false)
     unfolding clockOf finished
     working-clock free =
         rw (

@@ -14,6 +14,7 @@ use Rattle.cpu_access.specs.declared.stack.Writes.{Writes}
 use Rattle.cpu_access.specs.Stack.{eachWrite}
 use Rattle.memory.specs.Memory.{isRegister}
 use Rattle.cpu_operations.specs.declared.Worked.{Worked}
+use Rattle.cpu_operations.specs.Effects.{writesOf}
 use Rattle.cpu.specs.declared.Outcome.{Outcome}
 use Rattle.cpu.specs.declared.Outcome.the-variants.{Undefined, Asked, Done}
 use Rattle.cpu.specs.declared.quiet.Work.{Work}
@@ -61,10 +62,10 @@ writesRegister w =
     eachWrite (λ (there : Bool) (x : Write) (before : Bool). before || (there && isRegister (x .address))) w false
 
 unfoldable pub continuedBy : Work → Worked → Work
-continuedBy w worked = cond (writesRegister (worked .writes)) w (nextWork w worked)
+continuedBy w worked = cond (writesRegister (writesOf (worked .written))) w (nextWork w worked)
 
 unfoldable pub committedBy : List ℕ → Worked → List ℕ
-committedBy memory worked = cond (writesRegister (worked .writes)) memory (committed memory (worked .writes))
+committedBy memory worked = cond (writesRegister (writesOf (worked .written))) memory (committed memory (writesOf (worked .written)))
 
 -- with no answer about a register: an instruction that asks for one, or is undefined, is left to the clock's own rules
 abbrev pub workBy : Work → Outcome → Work

@@ -12,6 +12,7 @@ use cpu::quiet::next_work;
 use cpu::quiet::run_instructions;
 use cpu_access::stack::Writes;
 use cpu_operations::Worked;
+use cpu_operations::writes_of;
 use memory::is_register;
 use r6501q_clock::commit::commit;
 use r6501q_cpu::cpu_of;
@@ -84,10 +85,12 @@ fn continue_work(w: Work, worked: Worked, memory: &mut [u8]) -> Work
     ensures { λ r. ⌜ r ≡ continuedBy w worked ⌝ }
     ensures { λ _. ⌜ now (memory .exit) ≡ committedBy (now (memory .entry)) worked ⌝ }
 {
-    if writes_register(worked.writes) {
+    let written = worked.written;
+    let writes = writes_of(written);
+    if writes_register(writes) {
         return w;
     }
-    commit(memory, worked.writes);
+    commit(memory, writes);
     next_work(w, worked)
 }
 

@@ -9,8 +9,9 @@ use Rattle.bits.specs.Bits.{bit, wrapping8}
 use Rattle.bits.proofs.Cond.{cond-along}
 use Rattle.memory.specs.Memory.{registerEnd, isRegister, withLow}
 use Rattle.memory.proofs.Low.{low-byte, low-set}
-use Rattle.cpu_opcodes.specs.declared.Operation.{Operation}
-use Rattle.cpu_opcodes.specs.declared.Operation.the-variants.{Adc, And, Asl, Bcc, Bcs, Beq, Bit, Bmi, Bne, Bpl, Brk, Bvc, Bvs, Clc, Cld, Cli, Clv, Cmp, Cpx, Cpy, Dec, Dex, Dey, Eor, Inc, Inx, Iny, Jmp, Jsr, Lda, Ldx, Ldy, Lsr, Nop, Ora, Pha, Php, Pla, Plp, Rol, Ror, Rti, Rts, Sbc, Sec, Sed, Sei, Sta, Stx, Sty, Tax, Tay, Tsx, Txa, Txs, Tya, Rmb, Smb, Bbr, Bbs}
+use Rattle.cpu_opcodes.specs.declared.operation.Operation.{Operation}
+use Rattle.cpu_opcodes.specs.declared.operation.Operation.the-variants as operation
+use Rattle.cpu_opcodes.specs.declared.operation.PullOperation.{PullOperation}
 use Rattle.cpu_opcodes.specs.declared.Mode.{Mode}
 use Rattle.cpu_opcodes.specs.declared.Mode.the-variants.{Implied, Accumulator, Immediate, ZeroPage, ZeroPageX, ZeroPageY, Absolute, AbsoluteX, AbsoluteY, IndexedIndirect, IndirectIndexed, Indirect, Relative, ZeroPageRelative}
 use Rattle.cpu_opcodes.specs.declared.Entry.{Entry}
@@ -29,7 +30,7 @@ use Rattle.cpu_access.specs.Stack.{noWrites, up, pulledAt, pullOf, wordPulled, 
 use Rattle.cpu_operations.specs.declared.Access.{Access}
 use Rattle.cpu_operations.specs.declared.Access.the-variants.{Nothing, Read, Modify, Call}
 use Rattle.cpu_operations.specs.declared.Operand.{Operand}
-use Rattle.cpu_operations.specs.Effects.{withPc, bitBranchedTo, bitBranched, accumulatorFrom, pulledAccumulator, statusFrom, pulledStatus, returnTo, returned, resumeWith, resumeAt, returnedFromInterrupt, interrupted, breakTaken}
+use Rattle.cpu_operations.specs.Effects.{withPc, bitBranchedTo, bitBranched, pulledTo, pulledByte, returnTo, returned, resumeWith, resumeAt, returnedFromInterrupt, interrupted, breakTaken}
 use Rattle.cpu_operations.specs.Operations.{accessOf, isCall, workOf}
 use Rattle.cpu.specs.declared.Outcome.{Outcome}
 use Rattle.cpu.specs.declared.Outcome.the-variants as outcome
@@ -163,13 +164,9 @@ module _ (m m' : List ℕ) (same : SameAbove m m') where
     unfolding bitBranched
     bit-branch-same r o taken = ap (λ f. bitBranchedTo o r taken (relativeTo f)) (fetch-same (r .pc) (o .bus))
 
-    accumulator-same : (r : CpuRegisters) (o : Operand) → pulledAccumulator answers m' o r ≡ pulledAccumulator answers m o r
-    unfolding pulledAccumulator
-    accumulator-same r o = ap (accumulatorFrom o r) (pull-same (r .sp) (o .bus))
-
-    status-same : (r : CpuRegisters) (o : Operand) → pulledStatus answers m' o r ≡ pulledStatus answers m o r
-    unfolding pulledStatus
-    status-same r o = ap (statusFrom o r) (pull-same (r .sp) (o .bus))
+    byte-same : (p : PullOperation) (r : CpuRegisters) (o : Operand) → pulledByte answers m' p o r ≡ pulledByte answers m p o r
+    unfolding pulledByte
+    byte-same p r o = ap (pulledTo p o r) (pull-same (r .sp) (o .bus))
 
     return-same : (r : CpuRegisters) (o : Operand) → returned answers m' o r ≡ returned answers m o r
     unfolding returned
@@ -181,68 +178,23 @@ module _ (m m' : List ℕ) (same : SameAbove m m') where
         let p = pullOf answers m (r .sp) (o .bus) in
         ap (resumeWith answers m' o r) (pull-same (r .sp) (o .bus)) ∙ ap (resumeAt o r (unpacked (p .value))) (pull-word-same (p .sp) (p .bus))
 
-    work-same : (operation : Operation) (r : CpuRegisters) (o : Operand) → workOf answers m' operation r o ≡ workOf answers m operation r o
+    work-same : (p : Operation) (r : CpuRegisters) (o : Operand) → workOf answers m' p r o ≡ workOf answers m p r o
     unfolding workOf
-    work-same Adc r o = refl
-    work-same And r o = refl
-    work-same Asl r o = refl
-    work-same Bcc r o = refl
-    work-same Bcs r o = refl
-    work-same Beq r o = refl
-    work-same Bit r o = refl
-    work-same Bmi r o = refl
-    work-same Bne r o = refl
-    work-same Bpl r o = refl
-    work-same Brk r o = break-same r o
-    work-same Bvc r o = refl
-    work-same Bvs r o = refl
-    work-same Clc r o = refl
-    work-same Cld r o = refl
-    work-same Cli r o = refl
-    work-same Clv r o = refl
-    work-same Cmp r o = refl
-    work-same Cpx r o = refl
-    work-same Cpy r o = refl
-    work-same Dec r o = refl
-    work-same Dex r o = refl
-    work-same Dey r o = refl
-    work-same Eor r o = refl
-    work-same Inc r o = refl
-    work-same Inx r o = refl
-    work-same Iny r o = refl
-    work-same Jmp r o = refl
-    work-same Jsr r o = refl
-    work-same Lda r o = refl
-    work-same Ldx r o = refl
-    work-same Ldy r o = refl
-    work-same Lsr r o = refl
-    work-same Nop r o = refl
-    work-same Ora r o = refl
-    work-same Pha r o = refl
-    work-same Php r o = refl
-    work-same Pla r o = accumulator-same r o
-    work-same Plp r o = status-same r o
-    work-same Rol r o = refl
-    work-same Ror r o = refl
-    work-same Rti r o = resume-same r o
-    work-same Rts r o = return-same r o
-    work-same Sbc r o = refl
-    work-same Sec r o = refl
-    work-same Sed r o = refl
-    work-same Sei r o = refl
-    work-same Sta r o = refl
-    work-same Stx r o = refl
-    work-same Sty r o = refl
-    work-same Tax r o = refl
-    work-same Tay r o = refl
-    work-same Tsx r o = refl
-    work-same Txa r o = refl
-    work-same Txs r o = refl
-    work-same Tya r o = refl
-    work-same (Rmb m) r o = refl
-    work-same (Smb m) r o = refl
-    work-same (Bbr m) r o = bit-branch-same r o _
-    work-same (Bbs m) r o = bit-branch-same r o _
+    work-same (operation.Read p) r o = refl
+    work-same (operation.Modify p) r o = refl
+    work-same (operation.Store p) r o = refl
+    work-same (operation.Branch p) r o = refl
+    work-same (operation.BitBranch p) r o = bit-branch-same r o _
+    work-same (operation.Push p) r o = refl
+    work-same (operation.Pull p) r o = byte-same p r o
+    work-same (operation.Register p) r o = refl
+    work-same (operation.Flag p) r o = refl
+    work-same operation.Brk r o = break-same r o
+    work-same operation.Jmp r o = refl
+    work-same operation.Jsr r o = refl
+    work-same operation.Nop r o = refl
+    work-same operation.Rti r o = resume-same r o
+    work-same operation.Rts r o = return-same r o
 
     -- ---- the instruction
     carried-same : (e : Entry) (r : CpuRegisters) (b : Bus) → carriedOut answers m' e r b ≡ carriedOut answers m e r b

@@ -17,7 +17,8 @@ use Rattle.cpu_alu.specs.Status.{packed, unpacked, pushed}
 use Rattle.cpu_access.specs.Bus.{memoryByte, vectorOf, askOf, readOf, readWord, fetchOf, fetchWord}
 use Rattle.cpu_access.specs.Modes.{indexedBy, zeroPagePointer, displacement, relativeTo, locateOf}
 use Rattle.cpu_access.specs.Stack.{pushWord, pushInterrupt, pullOf, pullWord, writtenOver, readAfter}
-use Rattle.cpu_operations.specs.Effects.{completed, stored, modified, branched, bitBranched, jumped, pushedByte, pulledAccumulator, pulledStatus, returned, returnedFromInterrupt, interrupted, breakTaken}
+use Rattle.cpu_operations.specs.Effects.{completed, stored, modified, branched, bitBranched, jumped, pushedByte, pulledByte, returned, returnedFromInterrupt, interrupted, breakTaken, writesOf}
+use Rattle.cpu_operations.specs.Kinds.{withRead, changedBy, byteToStore, branchTaken, bitBranchTaken, byteToPush, withPulled, withRegister, withFlag}
 use Rattle.cpu_operations.specs.Operations.{workOf}
 use Rattle.cpu.specs.Entries.{resetEntry, interruptEntry}
 use Rattle.cpu.specs.Instruction.{outcomeOf, operandByte, carriedOut, writesAsked, subroutineCall, executeOf, instructionOf}
@@ -111,7 +112,7 @@ pub record ShiftRegister : Type 0 where
   pub byte-full : plains chip 16 receiverStart .state .peripherals .control .scsr ≡ 0x41
 
 pub shift-register : ShiftRegister
-unfolding withBit setWhere flipWhere dueCount ticksOf inForce downA countsA clockA lowerA upperA loadCounterA reloadB downB clockB lowerB upperB copyB loadCounterB turnToC transmitterAsynchronous receiverAsynchronous receiverShifting holdsA keepsTransmitter keepsReceiver parityBit frameBits sentBits pace startDetected withLevel receivedByte wrongParity statusAfter keptWith frameEnded lookTaken looked receiveTick shiftedAtRise byteEnded receiveRise receiverClock receiverWithSccr framed taken idleTick frameEnd nextPhase ticked bitTick sendTick transmitterClock line shiftClock transmitterWithSccr decodeOf packed unpacked pushed memoryByte vectorOf askOf readOf readWord fetchOf fetchWord indexedBy zeroPagePointer displacement relativeTo locateOf pushWord pushInterrupt pullOf pullWord writtenOver readAfter completed stored modified branched bitBranched jumped pushedByte pulledAccumulator pulledStatus returned returnedFromInterrupt interrupted breakTaken workOf resetEntry interruptEntry outcomeOf operandByte carriedOut writesAsked subroutineCall executeOf instructionOf flagsOf modeA modeB withInput driveA driveD drivenWord levelsOf rose fell edges withEdges resetOf sensedAt sensed fresh portValue registerValue afterRead startB startA entering keptFlag keptFlags writeOf putRegister registersAfter answerOf turnOf instructionFrom wholeInstruction irqDue resetStart nmiStart irqStart startOf processorOf withInputs countA countB sentBy heardBy worked readyOf finished clockOf putByte committed plainOf plains putRecord
+unfolding withBit setWhere flipWhere dueCount ticksOf inForce downA countsA clockA lowerA upperA loadCounterA reloadB downB clockB lowerB upperB copyB loadCounterB turnToC transmitterAsynchronous receiverAsynchronous receiverShifting holdsA keepsTransmitter keepsReceiver parityBit frameBits sentBits pace startDetected withLevel receivedByte wrongParity statusAfter keptWith frameEnded lookTaken looked receiveTick shiftedAtRise byteEnded receiveRise receiverClock receiverWithSccr framed taken idleTick frameEnd nextPhase ticked bitTick sendTick transmitterClock line shiftClock transmitterWithSccr decodeOf packed unpacked pushed memoryByte vectorOf askOf readOf readWord fetchOf fetchWord indexedBy zeroPagePointer displacement relativeTo locateOf pushWord pushInterrupt pullOf pullWord writtenOver readAfter completed stored modified branched bitBranched jumped pushedByte pulledByte returned returnedFromInterrupt interrupted breakTaken writesOf withRead changedBy byteToStore branchTaken bitBranchTaken byteToPush withPulled withRegister withFlag workOf resetEntry interruptEntry outcomeOf operandByte carriedOut writesAsked subroutineCall executeOf instructionOf flagsOf modeA modeB withInput driveA driveD drivenWord levelsOf rose fell edges withEdges resetOf sensedAt sensed fresh portValue registerValue afterRead startB startA entering keptFlag keptFlags writeOf putRegister registersAfter answerOf turnOf instructionFrom wholeInstruction irqDue resetStart nmiStart irqStart startOf processorOf withInputs countA countB sentBy heardBy worked readyOf finished clockOf putByte committed plainOf plains putRecord
 shift-register = record {
   sent-clocks = refl;
   sent-words = refl;

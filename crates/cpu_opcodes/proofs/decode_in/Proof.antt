@@ -22,8 +22,8 @@ operation-of-requires c κs = search needs
 mode-of-requires : tie.Need-mode-of-requires
 mode-of-requires c κs = search needs
 
-cast-t12 : tie.Need-cast-t12
-cast-t12 c = search needs
+cast-t14 : tie.Need-cast-t14
+cast-t14 c = search needs
 
 returns-2 : tie.Need-returns-2
 returns-2 c =
@@ -40,5 +40,5 @@ decode-in-spec =
     returns
     operation-of-requires
     mode-of-requires
-    cast-t12
+    cast-t14
     returns-2)

@@ -9,6 +9,10 @@ use Rattle.r6501q_clock.proofs.commit.commit.Reads as commit-reads
 use Rattle.cpu.proofs.quiet.next_work.Reads as next-work-reads
 use Rattle.r6501q_spans.proofs.writes_register.Reads as writes-register-reads
 
+-- src/lib.rt:120:18
+writes-of-requires : tie.Need-writes-of-requires
+writes-of-requires c κs = search needs
+
 -- src/lib.rt:122:8
 writes-register-requires : tie.Need-writes-register-requires
 writes-register-requires c κs = search needs
@@ -16,7 +20,10 @@ writes-register-requires c κs = search needs
 -- src/lib.rt:123:9
 returns : tie.Need-returns
 unfolding continuedBy committedBy
-returns c = let e = sym (c .before .writes-register .ensures) ∙ c .if1 .taken in (rw e, rw e)
+returns c =
+    let w = c .before .before .writes-of .ensures in
+    let e = sym (c .before .writes-register .ensures) ∙ c .if1 .taken in
+    (rw (← w, e), rw (← w, e))
 
 -- src/lib.rt:125:5
 commit-requires : tie.Need-commit-requires
@@ -34,13 +41,15 @@ same-length c = search needs
 returns-2 : tie.Need-returns-2
 unfolding continuedBy committedBy
 returns-2 c =
+    let w = c .before .before .before .before .before .before .before .writes-of .ensures in
     let e = sym (c .before .before .before .before .before .before .writes-register .ensures) ∙ c .before .before .before .before .before .if1 .left in
-    (rw e (c .next-work .ensures), rw e (c .before .before .before .commit .ensures))
+    (rw (← w, e) (c .next-work .ensures), rw (← w, e) (c .before .before .before .commit .ensures))
 
 pub continue-work-spec : {M : Type 1} → statement M
 continue-work-spec =
     tie.close
     (tie.spec
+    writes-of-requires
     writes-register-requires
     returns
     commit-requires

@@ -54,6 +54,9 @@ sub-if1 c = search needs
 cast-if1 : tie.Need-cast-if1 Inv-loop μ-loop
 cast-if1 c = search needs
 
+writes-nothing-requires : tie.Need-writes-nothing-requires Inv-loop μ-loop
+writes-nothing-requires c κs = search needs
+
 -- src/quiet.rt:76:21
 returns-3 : tie.Need-returns-3 Inv-loop μ-loop
 returns-3 c = (c .before .before .before .before .before .before .before .before .before .loop .inv .1, sym (c .before .before .before .before .before .before .outcome2 .given .1) ∙ c .before .before .before .before .before .before .before .before .instruction .ensures)
@@ -62,14 +65,14 @@ returns-3 c = (c .before .before .before .before .before .before .before .before
 next-work-requires : tie.Need-next-work-requires Inv-loop μ-loop
 next-work-requires c κs =
     let at = c .before .before .before .before .before .before .before .before .before .loop in
-    let on = goes-on (c .before .before .before .before .before .before .before .before .before .before .before .before .before .args .span .0 - at .at .gone .0) (at .at .wait) (c .before .before .before .before .before .before .outcome2 .given .0 .0 .writes .count) (c .if1 .left) in
+    let on = goes-on (c .before .before .before .before .before .before .before .before .before .before .before .before .before .args .span .0 - at .at .gone .0) (at .at .wait) (c .before .before .before .before .before .before .outcome2 .given .0 .0 .written) (rw (c .before .writes-nothing .ensures) at (c .if1 .left)) in
     (omega (arith, on .0, at .inv .0 .gone), omega (arith, on .0, at .inv .0 .gone, at .inv .0 .leaps))
 
 -- src/quiet.rt:59:5
 loop-less : tie.Need-loop-less Inv-loop μ-loop
 loop-less c =
     let at = c .before .before .before .before .before .before .before .before .before .before .loop in
-    let on = goes-on (c .before .before .before .before .before .before .before .before .before .before .before .before .before .before .args .span .0 - at .at .gone .0) (at .at .wait) (c .before .before .before .before .before .before .before .outcome2 .given .0 .0 .writes .count) (c .before .if1 .left) in
+    let on = goes-on (c .before .before .before .before .before .before .before .before .before .before .before .before .before .before .args .span .0 - at .at .gone .0) (at .at .wait) (c .before .before .before .before .before .before .before .outcome2 .given .0 .0 .written) (rw (c .before .before .writes-nothing .ensures) at (c .before .if1 .left)) in
     rw (c .next-work .ensures) (omega (arith, on .0, at .inv .0 .gone))
 
 -- src/quiet.rt:59:5
@@ -79,7 +82,7 @@ loop-again c =
     let at = c .before .before .before .before .before .before .before .before .before .before .loop in
     rw (c .next-work .ensures)
     (goes-quietly (root .args .span .0) (now (root .args .answers)) (now (root .args .memory)) (root .args .start) (at .at) _ (at .inv .0) (at .inv .1)
-    (c .before .if1 .left) (sym (c .before .before .before .before .before .before .before .before .before .instruction .ensures) ∙ c .before .before .before .before .before .before .before .outcome2 .given .1))
+    (rw (c .before .before .writes-nothing .ensures) at (c .before .if1 .left)) (sym (c .before .before .before .before .before .before .before .before .before .instruction .ensures) ∙ c .before .before .before .before .before .before .before .outcome2 .given .1))
 
 pub run-instructions-spec : {M : Type 1} → statement M
 run-instructions-spec =
@@ -96,6 +99,7 @@ run-instructions-spec =
     enum-known-outcome-2
     sub-if1
     cast-if1
+    writes-nothing-requires
     returns-3
     next-work-requires
     loop-less
