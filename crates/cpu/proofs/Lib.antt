@@ -1,4 +1,5 @@
 pub mod Laws
 pub mod Ranges
+pub mod Sequence
 pub mod Kept
 pub mod Flags

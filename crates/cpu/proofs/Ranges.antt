@@ -47,7 +47,7 @@ use Rattle.cpu_access.specs.declared.stack.Write.{Write}
 use Rattle.cpu_access.specs.declared.stack.Writes.{Writes}
 use Rattle.cpu_access.specs.Bus.{nextAddress, memoryByte, vectorOf, idle, got, answered, asking, askOf, readOf, readWord, fetchOf, fetchWord, resetVector}
 use Rattle.memory.specs.Memory.{isRegister}
-use Rattle.cpu_access.specs.Stack.{noWrites, up, pushWord, pushInterrupt, pullOf, pullWord, writtenOver, readAfter}
+use Rattle.cpu_access.specs.Stack.{noWrites, stackAddress, up, pushWord, pushInterrupt, pullOf, pullWord, writtenOver, readAfter}
 use Rattle.cpu_access.specs.Modes.{zeroPageIndexed, zeroPagePointer, secondAddress, indexedBy, relativeTo, locateOf}
 use Rattle.cpu_operations.specs.declared.Access.{Access}
 use Rattle.cpu_operations.specs.declared.Access.the-variants.{Nothing, Read, Modify, Call}
@@ -382,7 +382,7 @@ module _ (answers memory : List ℕ) (given : Bytes answers) (bytes : Bytes memo
 
   pull-lt : (sp : ℕ) (b : Bus) → pullOf answers memory sp b .value < 256
   unfolding pullOf
-  pull-lt sp b = read-lt (up sp) false b
+  pull-lt sp b = read-lt (stackAddress (up sp)) false b
 
   pull-sp : (sp : ℕ) (b : Bus) → pullOf answers memory sp b .sp < 256
   unfolding pullOf

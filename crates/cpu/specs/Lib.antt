@@ -1,3 +1,4 @@
 pub mod Entries
 pub mod Instruction
 pub mod Quiet
+pub mod Sequence

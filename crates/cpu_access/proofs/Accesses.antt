@@ -14,7 +14,7 @@ use Rattle.cpu_access.specs.declared.CpuRegisters.{CpuRegisters}
 use Rattle.cpu_access.specs.declared.stack.Writes.{Writes}
 use Rattle.cpu_access.specs.Bus.{memoryByte, got, askOf, readOf, readWord, fetchOf, fetchWord}
 use Rattle.memory.specs.Memory.{isRegister}
-use Rattle.cpu_access.specs.Stack.{up, pullOf, pullWord, writtenOver, readAfter}
+use Rattle.cpu_access.specs.Stack.{stackAddress, up, pullOf, pullWord, writtenOver, readAfter}
 use Rattle.cpu_access.specs.Modes.{zeroPageIndexed, zeroPagePointer, secondAddress, indexedBy, relativeTo, locateOf}
 
 -- the reads so far, with those of an addressing mode
@@ -67,7 +67,7 @@ module _ (P : ℕ → Bus → Type 0) (answers memory : List ℕ)
 
   pub pull-keeps : (k sp : ℕ) (b : Bus) → P k b → P (suc k) (pullOf answers memory sp b .bus)
   unfolding pullOf
-  pull-keeps k sp b h = read-keeps k (up sp) false b h
+  pull-keeps k sp b h = read-keeps k (stackAddress (up sp)) false b h
 
   pub pull-word-keeps : (k sp : ℕ) (b : Bus) → P k b → P (suc (suc k)) (pullWord answers memory sp b .bus)
   unfolding pullWord

@@ -1,3 +1,7 @@
 pub mod Accesses
 pub mod Asks
+pub mod Asked
+pub mod Follows
+pub mod Answering
+pub mod Performed
 pub mod Pointers

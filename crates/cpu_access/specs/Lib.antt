@@ -1,3 +1,5 @@
 pub mod Bus
 pub mod Stack
 pub mod Modes
+pub mod Accesses
+pub mod Operands

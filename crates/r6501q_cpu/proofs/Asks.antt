@@ -16,7 +16,8 @@ use Rattle.r6501q_cpu.specs.declared.Processed.{Processed}
 use Rattle.r6501q_cpu.specs.declared.Processed.the-variants.{Undefined}
 use Rattle.r6501q_cpu.specs.declared.Turn.{Turn}
 use Rattle.r6501q_cpu.specs.declared.Turn.the-variants.{Over, Answered}
-use Rattle.r6501q_cpu.specs.Processor.{registersOf, turnBy, turned, turnOf, instructionFrom, wholeInstruction}
+use Rattle.r6501q_cpu.specs.Processor.{registersOf}
+use Rattle.r6501q_cpu.specs.Asking.{turnBy, turned, turnOf, instructionFrom, answeredInstruction}
 
 module _ (spent : Processed) (s : State) (p : Peripherals) (answers memory : List ℕ) where
   -- the last turn
@@ -56,7 +57,7 @@ more-turns spent other k (suc n) s p answers memory h =
 
 -- no instruction asks more than five times: what stands for a sixth question is never met
 pub bound-unmet :
-    (spent : Processed) (k : ℕ) (s : State) (memory : List ℕ) → instructionFrom spent (6 + k) s (s .peripherals) [] memory ≡ wholeInstruction s memory
-unfolding wholeInstruction
+    (spent : Processed) (k : ℕ) (s : State) (memory : List ℕ) → instructionFrom spent (6 + k) s (s .peripherals) [] memory ≡ answeredInstruction s memory
+unfolding answeredInstruction
 bound-unmet spent k s memory =
     let e : 6 + k ≡ suc (5 + k) = omega arith in rw e (more-turns spent Undefined k 5 s (s .peripherals) [] memory (omega arith))

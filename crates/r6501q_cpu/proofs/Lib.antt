@@ -1,3 +1,4 @@
 pub mod Asks
+pub mod Answered
 pub mod Ranges
 pub mod Undefined

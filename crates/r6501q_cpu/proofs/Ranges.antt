@@ -38,7 +38,9 @@ use Rattle.r6501q_cpu.specs.declared.Next.{Next}
 use Rattle.r6501q_cpu.specs.declared.Processed.{Processed}
 use Rattle.r6501q_cpu.specs.declared.Processed.the-variants.{Undefined, Done}
 use Rattle.r6501q_cpu.specs.declared.Turn.{Turn}
-use Rattle.r6501q_cpu.specs.Processor.{registersOf, cpuOf, putRegister, registersAfter, answerOf, nextOf, turnBy, turned, turnOf, instructionFrom, wholeInstruction, resetStart, nmiStart, irqStart, irqDue, startOf, quietly, waiting, processorOf}
+use Rattle.r6501q_cpu.specs.Processor.{registersOf, cpuOf, irqDue, startOf, quietly, waiting, processorOf}
+use Rattle.r6501q_cpu.specs.Asking.{putRegister, registersAfter, answerOf, nextOf, turnBy, turned, turnOf, instructionFrom, answeredInstruction}
+use Rattle.r6501q_cpu.proofs.Answered.{instruction-answered, reset-answered, nmi-answered, irq-answered}
 
 -- bits 4 and 5 of a packed P are 0
 packed-clear : (s : Status) → packed s / 16 % 4 ≡ 0
@@ -100,12 +102,15 @@ module _ (s : State) (memory : List ℕ) (Q : Peripherals → Type 0) (P : Next 
       turn-ends p answers _ q (λ r f. instruction-ends n (r .peripherals) (answers ++ (r .value ∷ [])) f)
 
   start-ends : Ends P (startOf s memory)
-  unfolding startOf resetStart nmiStart irqStart wholeInstruction
+  unfolding startOf answeredInstruction
   start-ends =
-      cond-both (Ends P) (s .due .reset) _ _ (λ _. ends _ _ _ first (reset-entry-fits memory (registersOf (s .cpu))))
-      (λ _. cond-both (Ends P) (s .due .nmi) _ _ (λ _. ends _ _ _ first (interrupt-entry-fits memory nmiVector (registersOf (s .cpu))))
-      (λ _. cond-both (Ends P) (irqDue s) _ _ (λ _. ends _ _ _ first (interrupt-entry-fits memory irqVector (registersOf (s .cpu))))
-      (λ _. instruction-ends 6 (s .peripherals) [] first)))
+      cond-both (Ends P) (s .due .reset) _ _
+      (λ _. rw (reset-answered s memory) (ends _ _ _ first (reset-entry-fits memory (registersOf (s .cpu)))))
+      (λ _. cond-both (Ends P) (s .due .nmi) _ _
+      (λ _. rw (nmi-answered s memory) (ends _ _ _ first (interrupt-entry-fits memory nmiVector (registersOf (s .cpu)))))
+      (λ _. cond-both (Ends P) (irqDue s) _ _
+      (λ _. rw (irq-answered s memory) (ends _ _ _ first (interrupt-entry-fits memory irqVector (registersOf (s .cpu)))))
+      (λ _. rw (instruction-answered s memory) (instruction-ends 6 (s .peripherals) [] first))))
 
   pub processor-ends : Ends P (quietly (waiting s (s .cpu .wait - 1))) → Ends P (quietly s) → Ends P (processorOf s memory)
   unfolding processorOf

@@ -1,8 +1,8 @@
 -- Document 01, "One clock", 4: the CPU, on the state that steps 1 to 3 leave.
 use mathlib.Core.Bool.{Bool, true, false, _&&_, not, cond}
-use mathlib.Core.List.{List, [], _∷_, _++_}
-use Prim.Native.Nat.{ℕ, zero, suc, _+_, _-_}
-use lib.Dec.{ltb, eqb}
+use mathlib.Core.List.{List, []}
+use Prim.Native.Nat.{ℕ, _-_}
+use lib.Dec.{ltb}
 use Rattle.bits.specs.Bits.{bit}
 use Rattle.cpu_alu.specs.Status.{packed, unpacked}
 use Rattle.r6501q_state.specs.declared.state.Cpu.{Cpu}
@@ -11,27 +11,18 @@ use Rattle.r6501q_state.specs.declared.state.Peripherals.{Peripherals}
 use Rattle.r6501q_state.specs.declared.state.State.{State}
 use Rattle.r6501q_state.specs.Pins.{atWait}
 use Rattle.r6501q_state.specs.Control.{pending}
-use Rattle.r6501q_registers.specs.declared.read.Reading.{Reading}
 use Rattle.r6501q_registers.specs.Read.{registerValue, afterRead}
 use Rattle.r6501q_registers.specs.Write.{writeOf}
 use Rattle.cpu_access.specs.declared.CpuRegisters.{CpuRegisters}
 use Rattle.cpu_access.specs.declared.stack.Write.{Write}
-use Rattle.cpu_access.specs.declared.stack.Writes.{Writes}
 use Rattle.cpu_access.specs.Bus.{memoryByte, nmiVector, irqVector}
 use Rattle.memory.specs.Memory.{isRegister}
-use Rattle.cpu_access.specs.Stack.{noWrites, eachWrite}
-use Rattle.cpu_operations.specs.declared.Worked.{Worked}
-use Rattle.cpu_operations.specs.Effects.{writesOf}
-use Rattle.cpu.specs.declared.Ask.{Ask}
-use Rattle.cpu.specs.declared.Outcome.{Outcome}
-use Rattle.cpu.specs.declared.Outcome.the-variants as outcome
-use Rattle.cpu.specs.Entries.{resetEntry, interruptEntry}
-use Rattle.cpu.specs.Instruction.{instructionOf}
+use Rattle.cpu_access.specs.Stack.{noWrites}
+use Rattle.cpu_access.specs.Accesses.{Accesses, RegisterFile, Performed, peripheralsWritten, performed, inOrder}
+use Rattle.cpu.specs.Sequence.{Store, none, one, Left, Ending, undefined, leaves, withStore, instructionAccesses, resetAccesses, interruptAccesses}
 use Rattle.r6501q_cpu.specs.declared.Next.{Next}
 use Rattle.r6501q_cpu.specs.declared.Processed.{Processed}
 use Rattle.r6501q_cpu.specs.declared.Processed.the-variants.{Undefined, Done}
-use Rattle.r6501q_cpu.specs.declared.Turn.{Turn}
-use Rattle.r6501q_cpu.specs.declared.Turn.the-variants.{Over, Answered}
 
 -- the CPU's registers as the instruction has them: P as its flags
 abbrev pub registersOf : Cpu → CpuRegisters
@@ -41,60 +32,47 @@ registersOf c = record { a = c .a; x = c .x; y = c .y; sp = c .sp; pc = c .pc; s
 abbrev pub cpuOf : CpuRegisters → ℕ → Cpu
 cpuOf r wait = record { a = r .a; x = r .x; y = r .y; sp = r .sp; p = packed (r .status); pc = r .pc; wait = wait }
 
--- a write at a register's address, where there is one
-unfoldable pub putRegister : Bool → Write → Peripherals → Peripherals
-putRegister there w p = cond (there && isRegister (w .address)) (writeOf p (w .address) (w .value)) p
-
--- the writes of an instruction that are register writes, in their order
-unfoldable pub registersAfter : Peripherals → Writes → Peripherals
-registersAfter p w = eachWrite putRegister w p
-
--- An answer: the register's value as the writes so far leave it, and the effect of the read. The writes come again with the end of
--- the instruction, so that they are looked at here and not kept; reads' effects and writes commute (`read-write-commute`).
-unfoldable pub answerOf : Peripherals → ℕ → Ask → Reading
-answerOf p levels ask = record {
-  value = registerValue (registersAfter p (ask .writes)) levels (ask .latch) (ask .address);
-  peripherals = afterRead p (ask .address);
+-- the register file, with step 1's levels
+abbrev pub registerFile : ℕ → RegisterFile Peripherals
+registerFile levels = record {
+  value = λ (p : Peripherals) (latch : Bool) (a : ℕ). registerValue p levels latch a;
+  afterRead = afterRead;
+  afterWrite = writeOf;
 }
 
+-- "All its reads and writes happen now, each once"
+abbrev pub performedIn : {A : Type 0} → State → List ℕ → Accesses A → Performed Peripherals A
+performedIn s memory t = performed (registerFile (s .last .ports)) memory (s .peripherals) [] t
+
+-- the store, if there is one, comes last
+abbrev pub afterStore : ℕ → Peripherals → Store → Peripherals
+afterStore levels p none = p
+afterStore levels p (one w) = peripheralsWritten (registerFile levels) p (w .address) (w .value)
+
 -- the state after an entry or an instruction, and its writes; "Wait becomes the length minus 1."
-abbrev pub nextOf : State → Due → Peripherals → Worked → Next
-nextOf s due p w = record {
+abbrev pub nextAfter : State → Due → Performed Peripherals Left → Next
+nextAfter s due x = record {
   state = record {
-    cpu = cpuOf (w .registers) (w .length - 1);
+    cpu = cpuOf (x .end .registers) (x .end .length - 1);
     due = due;
-    peripherals = registersAfter p (writesOf (w .written));
+    peripherals = afterStore (s .last .ports) (x .peripherals) (x .end .store);
     external = s .external;
     last = s .last;
     clock = s .clock;
   };
-  writes = writesOf (w .written);
+  writes = inOrder (withStore (x .writes) (x .end .store));
 }
 
--- what an instruction comes to with the answers so far: it is undefined, it is done, or it asks, and is answered
-abbrev pub turnBy : State → Peripherals → Outcome → Turn
-turnBy s p outcome.Undefined = Over Undefined
-turnBy s p (outcome.Asked ask) = Answered (answerOf p (s .last .ports) ask)
-turnBy s p (outcome.Done w) = Over (Done (nextOf s (s .due) p w))
+abbrev pub processedBy : State → Peripherals → List Write → Ending → Processed
+processedBy s p pushes undefined = Undefined
+processedBy s p pushes (leaves l) = Done (nextAfter s (s .due) (record { end = l; peripherals = p; writes = pushes }))
 
-unfoldable pub turnOf : State → Peripherals → List ℕ → List ℕ → Turn
-turnOf s p answers memory = turnBy s p (instructionOf (registersOf (s .cpu)) answers memory)
-
-abbrev pub turned : (Reading → Processed) → Turn → Processed
-turned goOn (Over x) = x
-turned goOn (Answered r) = goOn r
-
--- "All its reads and writes happen now, each once": each question is answered in turn, and the instruction worked on with the answer.
--- No instruction asks more than five times (`asks-end`): what stands for a sixth question, `spent`, is never met, and may be anything
--- (`bound-unmet`).
-unfoldable pub instructionFrom : Processed → ℕ → State → Peripherals → List ℕ → List ℕ → Processed
-instructionFrom spent zero s p answers memory = spent
-instructionFrom spent (suc n) s p answers memory =
-    turned (λ (r : Reading). instructionFrom spent n s (r .peripherals) (answers ++ (r .value ∷ [])) memory) (turnOf s p answers memory)
+abbrev pub processedAfter : State → Performed Peripherals Ending → Processed
+processedAfter s x = processedBy s (x .peripherals) (x .writes) (x .end)
 
 -- "one whole instruction"
 unfoldable pub wholeInstruction : State → List ℕ → Processed
-wholeInstruction s memory = instructionFrom Undefined 6 s (s .peripherals) [] memory
+wholeInstruction s memory = processedAfter s (performedIn s memory (instructionAccesses (registersOf (s .cpu))))
 
 -- The opcode is the byte at PC: a register's, a port's by step 1's levels, or the memory's. The instruction is undefined just where this
 -- opcode is (`undefined-opcode`, `defined-opcode`).
@@ -108,14 +86,16 @@ irqDue s = not (bit 2 (s .cpu .p)) && pending (s .peripherals .control)
 
 -- "An entry clears its due mark"
 unfoldable pub resetStart : State → List ℕ → Next
-resetStart s memory = nextOf s (record { reset = false; nmi = s .due .nmi }) (s .peripherals) (resetEntry memory (registersOf (s .cpu)))
+resetStart s memory =
+    nextAfter s (record { reset = false; nmi = s .due .nmi }) (performedIn s memory (resetAccesses (registersOf (s .cpu))))
 
 unfoldable pub nmiStart : State → List ℕ → Next
 nmiStart s memory =
-    nextOf s (record { reset = s .due .reset; nmi = false }) (s .peripherals) (interruptEntry memory nmiVector (registersOf (s .cpu)))
+    nextAfter s (record { reset = s .due .reset; nmi = false })
+    (performedIn s memory (interruptAccesses nmiVector (registersOf (s .cpu))))
 
 unfoldable pub irqStart : State → List ℕ → Next
-irqStart s memory = nextOf s (s .due) (s .peripherals) (interruptEntry memory irqVector (registersOf (s .cpu)))
+irqStart s memory = nextAfter s (s .due) (performedIn s memory (interruptAccesses irqVector (registersOf (s .cpu))))
 
 -- "Otherwise start: reset, then NMI, then IRQ ..; else one whole instruction."
 unfoldable pub startOf : State → List ℕ → Processed

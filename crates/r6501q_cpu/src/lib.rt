@@ -4,7 +4,8 @@ ghost use mathlib.Core.List.{[]};
 ghost use Prim.Native.Nat.{_≤_};
 ghost use Rattle.cpu_opcodes.specs.Table.{opcodeTable};
 ghost use Rattle.cpu_operations.specs.Effects.{writesOf};
-ghost use Rattle.r6501q_cpu.specs.Processor.{registersOf, cpuOf, putRegister, registersAfter, answerOf, nextOf, turnOf, instructionFrom, wholeInstruction, irqDue, resetStart, nmiStart, irqStart, startOf, quietly, waiting, processorOf};
+ghost use Rattle.r6501q_cpu.specs.Processor.{registersOf, cpuOf, irqDue, resetStart, nmiStart, irqStart, startOf, quietly, waiting, processorOf};
+ghost use Rattle.r6501q_cpu.specs.Asking.{putRegister, registersAfter, answerOf, nextOf, turnOf, instructionFrom, answeredInstruction};
 use cpu::Ask;
 use cpu::Outcome;
 use cpu::entries::interrupt_entry;
@@ -155,7 +156,7 @@ fn take_turn(s: State, p: Peripherals, answers: &[u8], memory: &[u8], entries: &
 // One whole instruction: each question is answered in turn.
 fn whole_instruction(s: State, memory: &[u8], entries: &[u16]) -> Processed
     requires { ⌜ now entries ≡ opcodeTable ⌝ }
-    ensures { λ r. ⌜ r ≡ wholeInstruction s (now (memory .entry)) ⌝ }
+    ensures { λ r. ⌜ r ≡ answeredInstruction s (now (memory .entry)) ⌝ }
 {
     let mut answers = [0u8; ANSWERS];
     let mut peripherals = s.peripherals;

@@ -33,8 +33,10 @@ use Rattle.r6501q_clock.specs.Clock.{readyOf}
 use Rattle.r6501q_cpu.specs.declared.Processed.{Processed}
 use Rattle.r6501q_cpu.specs.declared.Processed.the-variants as processed
 use Rattle.r6501q_cpu.specs.declared.Turn.the-variants.{Over}
-use Rattle.r6501q_cpu.specs.Processor.{registersOf, putRegister, registersAfter, nextOf, turnBy, turnOf, wholeInstruction, irqDue, startOf, processorOf}
+use Rattle.r6501q_cpu.specs.Processor.{registersOf, wholeInstruction, irqDue, startOf, processorOf}
+use Rattle.r6501q_cpu.specs.Asking.{putRegister, registersAfter, nextOf, turnBy, turnOf, answeredInstruction}
 use Rattle.r6501q_cpu.proofs.Asks.{turn-over}
+use Rattle.r6501q_cpu.proofs.Answered.{instruction-answered}
 use Rattle.pin_lists.specs.PinLists.{dueCount}
 use Rattle.r6501q_gaps.specs.Events.{sameLevels, levelsChange, isReset, resetChanges}
 use Rattle.r6501q_gaps.specs.Gaps.{clocksOf, runningA, runningB, toInput, toChange, toUnderflowA, toUnderflowB, toReset, toStart, gapOf, waitAfter, passCounters, passOf}
@@ -295,9 +297,10 @@ module _ (n : ℕ) (s : State) (clocks : List ℕ) (span : ℕ) (a : Alone n s c
 
     processed-there : processorOf (workingState s (started w)) memory
         ≡ processed.Done (record { state = workingState s (nextWork w worked); writes = writesOf (worked .written) })
-    unfolding wholeInstruction
+    unfolding answeredInstruction
     processed-there =
         instruction-starts (workingState s (started w)) memory (a .res) refl (a .reset) (a .nmi) no-irq
+        ∙ instruction-answered (workingState s (started w)) memory
         ∙ turn-over _ (workingState s (started w)) (workingState s (started w) .peripherals) [] memory 6 _ (omega arith) turn-there
 
     -- steps 1 to 5 of it

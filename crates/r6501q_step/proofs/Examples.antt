@@ -15,21 +15,19 @@ use Rattle.serial.specs.Receiver.{startDetected, withLevel, receivedByte, wrong
 use Rattle.serial.specs.Transmitter.{framed, taken, idleTick, frameEnd, nextPhase, ticked, bitTick, sendTick, transmitterClock, line, shiftClock, transmitterWithSccr}
 use Rattle.cpu_opcodes.specs.Decode.{decodeOf}
 use Rattle.cpu_alu.specs.Status.{packed, unpacked, pushed}
-use Rattle.cpu_access.specs.Bus.{memoryByte, vectorOf, askOf, readOf, readWord, fetchOf, fetchWord}
-use Rattle.cpu_access.specs.Modes.{indexedBy, zeroPagePointer, displacement, relativeTo, locateOf}
-use Rattle.cpu_access.specs.Stack.{pushWord, pushInterrupt, pullOf, pullWord, writtenOver, readAfter}
-use Rattle.cpu_operations.specs.Effects.{completed, stored, modified, branched, bitBranched, jumped, pushedByte, pulledByte, returned, returnedFromInterrupt, interrupted, breakTaken, writesOf}
+use Rattle.cpu_access.specs.Bus.{memoryByte}
+use Rattle.cpu_access.specs.Accesses.{byteAfter, peripheralsRead, peripheralsWritten, valueRead, performed, inOrder}
+use Rattle.cpu_access.specs.Operands.{located}
+use Rattle.cpu_access.specs.Modes.{displacement}
 use Rattle.cpu_operations.specs.Kinds.{withRead, changedBy, byteToStore, branchTaken, bitBranchTaken, byteToPush, withPulled, withRegister, withFlag}
-use Rattle.cpu_operations.specs.Operations.{workOf}
-use Rattle.cpu.specs.Entries.{resetEntry, interruptEntry}
-use Rattle.cpu.specs.Instruction.{outcomeOf, operandByte, carriedOut, writesAsked, subroutineCall, executeOf, instructionOf}
+use Rattle.cpu.specs.Sequence.{completing, storing, modifying, branching, bitBranching, jumping, pushing, pulling, returning, resuming, interrupting, breaking, calling, executing, instructionAccesses, resetAccesses, interruptAccesses}
 use Rattle.r6501q_state.specs.Control.{flagsOf, modeA, modeB}
 use Rattle.r6501q_state.specs.Inputs.{withInput}
 use Rattle.r6501q_state.specs.Pins.{driveA, driveD, drivenWord, levelsOf, rose, fell, edges, withEdges, resetOf, sensedAt, sensed}
 use Rattle.r6501q_state.specs.State.{fresh}
 use Rattle.r6501q_registers.specs.Read.{portValue, registerValue, afterRead}
 use Rattle.r6501q_registers.specs.Write.{startB, startA, entering, keptFlag, keptFlags, writeOf}
-use Rattle.r6501q_cpu.specs.Processor.{putRegister, registersAfter, answerOf, turnOf, instructionFrom, wholeInstruction, irqDue, resetStart, nmiStart, irqStart, startOf, processorOf}
+use Rattle.r6501q_cpu.specs.Processor.{wholeInstruction, irqDue, resetStart, nmiStart, irqStart, startOf, processorOf}
 use Rattle.r6501q_clock.specs.Clock.{withInputs, countA, countB, sentBy, heardBy, worked, readyOf, finished, clockOf}
 use Rattle.r6501q_clock.specs.Commit.{putByte, committed}
 use Rattle.r6501q_state.specs.declared.state.Levels.{Levels}
@@ -111,17 +109,17 @@ abbrev pub timerStart : ℕ → ℕ → World
 timerStart lower start = startWith (running 0) (timerProgram lower start) [] [] [] []
 
 pub p2-loaded : plains chip 8 (timerStart 0x18 0x1A) .state .peripherals .countera ≡ record { count = 5; latch = 5 }
-unfolding withBit setWhere flipWhere dueCount ticksOf inForce downA countsA clockA lowerA upperA loadCounterA reloadB downB clockB lowerB upperB copyB loadCounterB turnToC transmitterAsynchronous receiverAsynchronous receiverShifting holdsA keepsTransmitter keepsReceiver parityBit frameBits sentBits pace startDetected withLevel receivedByte wrongParity statusAfter keptWith frameEnded lookTaken looked receiveTick shiftedAtRise byteEnded receiveRise receiverClock receiverWithSccr framed taken idleTick frameEnd nextPhase ticked bitTick sendTick transmitterClock line shiftClock transmitterWithSccr decodeOf packed unpacked pushed memoryByte vectorOf askOf readOf readWord fetchOf fetchWord indexedBy zeroPagePointer displacement relativeTo locateOf pushWord pushInterrupt pullOf pullWord writtenOver readAfter completed stored modified branched bitBranched jumped pushedByte pulledByte returned returnedFromInterrupt interrupted breakTaken writesOf withRead changedBy byteToStore branchTaken bitBranchTaken byteToPush withPulled withRegister withFlag workOf resetEntry interruptEntry outcomeOf operandByte carriedOut writesAsked subroutineCall executeOf instructionOf flagsOf modeA modeB withInput driveA driveD drivenWord levelsOf rose fell edges withEdges resetOf sensedAt sensed fresh portValue registerValue afterRead startB startA entering keptFlag keptFlags writeOf putRegister registersAfter answerOf turnOf instructionFrom wholeInstruction irqDue resetStart nmiStart irqStart startOf processorOf withInputs countA countB sentBy heardBy worked readyOf finished clockOf putByte committed plainOf plains putRecord
+unfolding withBit setWhere flipWhere dueCount ticksOf inForce downA countsA clockA lowerA upperA loadCounterA reloadB downB clockB lowerB upperB copyB loadCounterB turnToC transmitterAsynchronous receiverAsynchronous receiverShifting holdsA keepsTransmitter keepsReceiver parityBit frameBits sentBits pace startDetected withLevel receivedByte wrongParity statusAfter keptWith frameEnded lookTaken looked receiveTick shiftedAtRise byteEnded receiveRise receiverClock receiverWithSccr framed taken idleTick frameEnd nextPhase ticked bitTick sendTick transmitterClock line shiftClock transmitterWithSccr decodeOf packed unpacked pushed memoryByte displacement located byteAfter peripheralsRead peripheralsWritten valueRead performed inOrder completing storing modifying branching bitBranching jumping pushing pulling returning resuming interrupting breaking calling executing withRead changedBy byteToStore branchTaken bitBranchTaken byteToPush withPulled withRegister withFlag instructionAccesses resetAccesses interruptAccesses flagsOf modeA modeB withInput driveA driveD drivenWord levelsOf rose fell edges withEdges resetOf sensedAt sensed fresh portValue registerValue afterRead startB startA entering keptFlag keptFlags writeOf wholeInstruction irqDue resetStart nmiStart irqStart startOf processorOf withInputs countA countB sentBy heardBy worked readyOf finished clockOf putByte committed plainOf plains putRecord
 p2-loaded = refl
 
 pub p2-clocks : tabulate (λ k. bit 4 (plains chip k (timerStart 0x18 0x1A) .state .peripherals .control .ifr)) 7 8
     ≡ false ∷ false ∷ false ∷ false ∷ false ∷ false ∷ true ∷ []
-unfolding withBit setWhere flipWhere dueCount ticksOf inForce downA countsA clockA lowerA upperA loadCounterA reloadB downB clockB lowerB upperB copyB loadCounterB turnToC transmitterAsynchronous receiverAsynchronous receiverShifting holdsA keepsTransmitter keepsReceiver parityBit frameBits sentBits pace startDetected withLevel receivedByte wrongParity statusAfter keptWith frameEnded lookTaken looked receiveTick shiftedAtRise byteEnded receiveRise receiverClock receiverWithSccr framed taken idleTick frameEnd nextPhase ticked bitTick sendTick transmitterClock line shiftClock transmitterWithSccr decodeOf packed unpacked pushed memoryByte vectorOf askOf readOf readWord fetchOf fetchWord indexedBy zeroPagePointer displacement relativeTo locateOf pushWord pushInterrupt pullOf pullWord writtenOver readAfter completed stored modified branched bitBranched jumped pushedByte pulledByte returned returnedFromInterrupt interrupted breakTaken writesOf withRead changedBy byteToStore branchTaken bitBranchTaken byteToPush withPulled withRegister withFlag workOf resetEntry interruptEntry outcomeOf operandByte carriedOut writesAsked subroutineCall executeOf instructionOf flagsOf modeA modeB withInput driveA driveD drivenWord levelsOf rose fell edges withEdges resetOf sensedAt sensed fresh portValue registerValue afterRead startB startA entering keptFlag keptFlags writeOf putRegister registersAfter answerOf turnOf instructionFrom wholeInstruction irqDue resetStart nmiStart irqStart startOf processorOf withInputs countA countB sentBy heardBy worked readyOf finished clockOf putByte committed plainOf plains putRecord
+unfolding withBit setWhere flipWhere dueCount ticksOf inForce downA countsA clockA lowerA upperA loadCounterA reloadB downB clockB lowerB upperB copyB loadCounterB turnToC transmitterAsynchronous receiverAsynchronous receiverShifting holdsA keepsTransmitter keepsReceiver parityBit frameBits sentBits pace startDetected withLevel receivedByte wrongParity statusAfter keptWith frameEnded lookTaken looked receiveTick shiftedAtRise byteEnded receiveRise receiverClock receiverWithSccr framed taken idleTick frameEnd nextPhase ticked bitTick sendTick transmitterClock line shiftClock transmitterWithSccr decodeOf packed unpacked pushed memoryByte displacement located byteAfter peripheralsRead peripheralsWritten valueRead performed inOrder completing storing modifying branching bitBranching jumping pushing pulling returning resuming interrupting breaking calling executing withRead changedBy byteToStore branchTaken bitBranchTaken byteToPush withPulled withRegister withFlag instructionAccesses resetAccesses interruptAccesses flagsOf modeA modeB withInput driveA driveD drivenWord levelsOf rose fell edges withEdges resetOf sensedAt sensed fresh portValue registerValue afterRead startB startA entering keptFlag keptFlags writeOf wholeInstruction irqDue resetStart nmiStart irqStart startOf processorOf withInputs countA countB sentBy heardBy worked readyOf finished clockOf putByte committed plainOf plains putRecord
 p2-clocks = refl
 
 pub p2-clocks-b : tabulate (λ k. bit 5 (plains chip k (timerStart 0x1C 0x1E) .state .peripherals .control .ifr)) 7 8
     ≡ false ∷ false ∷ false ∷ false ∷ false ∷ false ∷ true ∷ []
-unfolding withBit setWhere flipWhere dueCount ticksOf inForce downA countsA clockA lowerA upperA loadCounterA reloadB downB clockB lowerB upperB copyB loadCounterB turnToC transmitterAsynchronous receiverAsynchronous receiverShifting holdsA keepsTransmitter keepsReceiver parityBit frameBits sentBits pace startDetected withLevel receivedByte wrongParity statusAfter keptWith frameEnded lookTaken looked receiveTick shiftedAtRise byteEnded receiveRise receiverClock receiverWithSccr framed taken idleTick frameEnd nextPhase ticked bitTick sendTick transmitterClock line shiftClock transmitterWithSccr decodeOf packed unpacked pushed memoryByte vectorOf askOf readOf readWord fetchOf fetchWord indexedBy zeroPagePointer displacement relativeTo locateOf pushWord pushInterrupt pullOf pullWord writtenOver readAfter completed stored modified branched bitBranched jumped pushedByte pulledByte returned returnedFromInterrupt interrupted breakTaken writesOf withRead changedBy byteToStore branchTaken bitBranchTaken byteToPush withPulled withRegister withFlag workOf resetEntry interruptEntry outcomeOf operandByte carriedOut writesAsked subroutineCall executeOf instructionOf flagsOf modeA modeB withInput driveA driveD drivenWord levelsOf rose fell edges withEdges resetOf sensedAt sensed fresh portValue registerValue afterRead startB startA entering keptFlag keptFlags writeOf putRegister registersAfter answerOf turnOf instructionFrom wholeInstruction irqDue resetStart nmiStart irqStart startOf processorOf withInputs countA countB sentBy heardBy worked readyOf finished clockOf putByte committed plainOf plains putRecord
+unfolding withBit setWhere flipWhere dueCount ticksOf inForce downA countsA clockA lowerA upperA loadCounterA reloadB downB clockB lowerB upperB copyB loadCounterB turnToC transmitterAsynchronous receiverAsynchronous receiverShifting holdsA keepsTransmitter keepsReceiver parityBit frameBits sentBits pace startDetected withLevel receivedByte wrongParity statusAfter keptWith frameEnded lookTaken looked receiveTick shiftedAtRise byteEnded receiveRise receiverClock receiverWithSccr framed taken idleTick frameEnd nextPhase ticked bitTick sendTick transmitterClock line shiftClock transmitterWithSccr decodeOf packed unpacked pushed memoryByte displacement located byteAfter peripheralsRead peripheralsWritten valueRead performed inOrder completing storing modifying branching bitBranching jumping pushing pulling returning resuming interrupting breaking calling executing withRead changedBy byteToStore branchTaken bitBranchTaken byteToPush withPulled withRegister withFlag instructionAccesses resetAccesses interruptAccesses flagsOf modeA modeB withInput driveA driveD drivenWord levelsOf rose fell edges withEdges resetOf sensedAt sensed fresh portValue registerValue afterRead startB startA entering keptFlag keptFlags writeOf wholeInstruction irqDue resetStart nmiStart irqStart startOf processorOf withInputs countA countB sentBy heardBy worked readyOf finished clockOf putByte committed plainOf plains putRecord
 p2-clocks-b = refl
 
 -- ---- P6, "one low sub-interval at the receiver: no start.": PA7 low on clocks 1 and 2, a tick on each clock, while the CPU waits
@@ -165,18 +163,18 @@ senderStart = startWith (running 0) senderProgram [] [] (replicate 6 0) (replica
 
 -- the start bit is on the line after clock 17
 pub p5-start : plains chip 17 senderStart .state .peripherals .transmitter ≡ record { left = 11; phase = 0; register = 0x682 }
-unfolding withBit setWhere flipWhere dueCount ticksOf inForce downA countsA clockA lowerA upperA loadCounterA reloadB downB clockB lowerB upperB copyB loadCounterB turnToC transmitterAsynchronous receiverAsynchronous receiverShifting holdsA keepsTransmitter keepsReceiver parityBit frameBits sentBits pace startDetected withLevel receivedByte wrongParity statusAfter keptWith frameEnded lookTaken looked receiveTick shiftedAtRise byteEnded receiveRise receiverClock receiverWithSccr framed taken idleTick frameEnd nextPhase ticked bitTick sendTick transmitterClock line shiftClock transmitterWithSccr decodeOf packed unpacked pushed memoryByte vectorOf askOf readOf readWord fetchOf fetchWord indexedBy zeroPagePointer displacement relativeTo locateOf pushWord pushInterrupt pullOf pullWord writtenOver readAfter completed stored modified branched bitBranched jumped pushedByte pulledByte returned returnedFromInterrupt interrupted breakTaken writesOf withRead changedBy byteToStore branchTaken bitBranchTaken byteToPush withPulled withRegister withFlag workOf resetEntry interruptEntry outcomeOf operandByte carriedOut writesAsked subroutineCall executeOf instructionOf flagsOf modeA modeB withInput driveA driveD drivenWord levelsOf rose fell edges withEdges resetOf sensedAt sensed fresh portValue registerValue afterRead startB startA entering keptFlag keptFlags writeOf putRegister registersAfter answerOf turnOf instructionFrom wholeInstruction irqDue resetStart nmiStart irqStart startOf processorOf withInputs countA countB sentBy heardBy worked readyOf finished clockOf putByte committed plainOf plains putRecord
+unfolding withBit setWhere flipWhere dueCount ticksOf inForce downA countsA clockA lowerA upperA loadCounterA reloadB downB clockB lowerB upperB copyB loadCounterB turnToC transmitterAsynchronous receiverAsynchronous receiverShifting holdsA keepsTransmitter keepsReceiver parityBit frameBits sentBits pace startDetected withLevel receivedByte wrongParity statusAfter keptWith frameEnded lookTaken looked receiveTick shiftedAtRise byteEnded receiveRise receiverClock receiverWithSccr framed taken idleTick frameEnd nextPhase ticked bitTick sendTick transmitterClock line shiftClock transmitterWithSccr decodeOf packed unpacked pushed memoryByte displacement located byteAfter peripheralsRead peripheralsWritten valueRead performed inOrder completing storing modifying branching bitBranching jumping pushing pulling returning resuming interrupting breaking calling executing withRead changedBy byteToStore branchTaken bitBranchTaken byteToPush withPulled withRegister withFlag instructionAccesses resetAccesses interruptAccesses flagsOf modeA modeB withInput driveA driveD drivenWord levelsOf rose fell edges withEdges resetOf sensedAt sensed fresh portValue registerValue afterRead startB startA entering keptFlag keptFlags writeOf wholeInstruction irqDue resetStart nmiStart irqStart startOf processorOf withInputs countA countB sentBy heardBy worked readyOf finished clockOf putByte committed plainOf plains putRecord
 p5-start = refl
 
 -- after clock 192 one bit is left, and after clock 193 it is idle, with an under-run; the line's six edges are its records
 pub p5-last-bit : plains chip 192 senderStart .state .peripherals .transmitter .left ≡ 1
-unfolding withBit setWhere flipWhere dueCount ticksOf inForce downA countsA clockA lowerA upperA loadCounterA reloadB downB clockB lowerB upperB copyB loadCounterB turnToC transmitterAsynchronous receiverAsynchronous receiverShifting holdsA keepsTransmitter keepsReceiver parityBit frameBits sentBits pace startDetected withLevel receivedByte wrongParity statusAfter keptWith frameEnded lookTaken looked receiveTick shiftedAtRise byteEnded receiveRise receiverClock receiverWithSccr framed taken idleTick frameEnd nextPhase ticked bitTick sendTick transmitterClock line shiftClock transmitterWithSccr decodeOf packed unpacked pushed memoryByte vectorOf askOf readOf readWord fetchOf fetchWord indexedBy zeroPagePointer displacement relativeTo locateOf pushWord pushInterrupt pullOf pullWord writtenOver readAfter completed stored modified branched bitBranched jumped pushedByte pulledByte returned returnedFromInterrupt interrupted breakTaken writesOf withRead changedBy byteToStore branchTaken bitBranchTaken byteToPush withPulled withRegister withFlag workOf resetEntry interruptEntry outcomeOf operandByte carriedOut writesAsked subroutineCall executeOf instructionOf flagsOf modeA modeB withInput driveA driveD drivenWord levelsOf rose fell edges withEdges resetOf sensedAt sensed fresh portValue registerValue afterRead startB startA entering keptFlag keptFlags writeOf putRegister registersAfter answerOf turnOf instructionFrom wholeInstruction irqDue resetStart nmiStart irqStart startOf processorOf withInputs countA countB sentBy heardBy worked readyOf finished clockOf putByte committed plainOf plains putRecord
+unfolding withBit setWhere flipWhere dueCount ticksOf inForce downA countsA clockA lowerA upperA loadCounterA reloadB downB clockB lowerB upperB copyB loadCounterB turnToC transmitterAsynchronous receiverAsynchronous receiverShifting holdsA keepsTransmitter keepsReceiver parityBit frameBits sentBits pace startDetected withLevel receivedByte wrongParity statusAfter keptWith frameEnded lookTaken looked receiveTick shiftedAtRise byteEnded receiveRise receiverClock receiverWithSccr framed taken idleTick frameEnd nextPhase ticked bitTick sendTick transmitterClock line shiftClock transmitterWithSccr decodeOf packed unpacked pushed memoryByte displacement located byteAfter peripheralsRead peripheralsWritten valueRead performed inOrder completing storing modifying branching bitBranching jumping pushing pulling returning resuming interrupting breaking calling executing withRead changedBy byteToStore branchTaken bitBranchTaken byteToPush withPulled withRegister withFlag instructionAccesses resetAccesses interruptAccesses flagsOf modeA modeB withInput driveA driveD drivenWord levelsOf rose fell edges withEdges resetOf sensedAt sensed fresh portValue registerValue afterRead startB startA entering keptFlag keptFlags writeOf wholeInstruction irqDue resetStart nmiStart irqStart startOf processorOf withInputs countA countB sentBy heardBy worked readyOf finished clockOf putByte committed plainOf plains putRecord
 p5-last-bit = refl
 
 pub p5-idle : plains chip 193 senderStart .state .peripherals .transmitter ≡ idleTransmitter
-unfolding withBit setWhere flipWhere dueCount ticksOf inForce downA countsA clockA lowerA upperA loadCounterA reloadB downB clockB lowerB upperB copyB loadCounterB turnToC transmitterAsynchronous receiverAsynchronous receiverShifting holdsA keepsTransmitter keepsReceiver parityBit frameBits sentBits pace startDetected withLevel receivedByte wrongParity statusAfter keptWith frameEnded lookTaken looked receiveTick shiftedAtRise byteEnded receiveRise receiverClock receiverWithSccr framed taken idleTick frameEnd nextPhase ticked bitTick sendTick transmitterClock line shiftClock transmitterWithSccr decodeOf packed unpacked pushed memoryByte vectorOf askOf readOf readWord fetchOf fetchWord indexedBy zeroPagePointer displacement relativeTo locateOf pushWord pushInterrupt pullOf pullWord writtenOver readAfter completed stored modified branched bitBranched jumped pushedByte pulledByte returned returnedFromInterrupt interrupted breakTaken writesOf withRead changedBy byteToStore branchTaken bitBranchTaken byteToPush withPulled withRegister withFlag workOf resetEntry interruptEntry outcomeOf operandByte carriedOut writesAsked subroutineCall executeOf instructionOf flagsOf modeA modeB withInput driveA driveD drivenWord levelsOf rose fell edges withEdges resetOf sensedAt sensed fresh portValue registerValue afterRead startB startA entering keptFlag keptFlags writeOf putRegister registersAfter answerOf turnOf instructionFrom wholeInstruction irqDue resetStart nmiStart irqStart startOf processorOf withInputs countA countB sentBy heardBy worked readyOf finished clockOf putByte committed plainOf plains putRecord
+unfolding withBit setWhere flipWhere dueCount ticksOf inForce downA countsA clockA lowerA upperA loadCounterA reloadB downB clockB lowerB upperB copyB loadCounterB turnToC transmitterAsynchronous receiverAsynchronous receiverShifting holdsA keepsTransmitter keepsReceiver parityBit frameBits sentBits pace startDetected withLevel receivedByte wrongParity statusAfter keptWith frameEnded lookTaken looked receiveTick shiftedAtRise byteEnded receiveRise receiverClock receiverWithSccr framed taken idleTick frameEnd nextPhase ticked bitTick sendTick transmitterClock line shiftClock transmitterWithSccr decodeOf packed unpacked pushed memoryByte displacement located byteAfter peripheralsRead peripheralsWritten valueRead performed inOrder completing storing modifying branching bitBranching jumping pushing pulling returning resuming interrupting breaking calling executing withRead changedBy byteToStore branchTaken bitBranchTaken byteToPush withPulled withRegister withFlag instructionAccesses resetAccesses interruptAccesses flagsOf modeA modeB withInput driveA driveD drivenWord levelsOf rose fell edges withEdges resetOf sensedAt sensed fresh portValue registerValue afterRead startB startA entering keptFlag keptFlags writeOf wholeInstruction irqDue resetStart nmiStart irqStart startOf processorOf withInputs countA countB sentBy heardBy worked readyOf finished clockOf putByte committed plainOf plains putRecord
 p5-idle = refl
 
 pub p5-edges : plains chip 193 senderStart .outputClocks ≡ 17 ∷ 33 ∷ 49 ∷ 129 ∷ 145 ∷ 161 ∷ []
-unfolding withBit setWhere flipWhere dueCount ticksOf inForce downA countsA clockA lowerA upperA loadCounterA reloadB downB clockB lowerB upperB copyB loadCounterB turnToC transmitterAsynchronous receiverAsynchronous receiverShifting holdsA keepsTransmitter keepsReceiver parityBit frameBits sentBits pace startDetected withLevel receivedByte wrongParity statusAfter keptWith frameEnded lookTaken looked receiveTick shiftedAtRise byteEnded receiveRise receiverClock receiverWithSccr framed taken idleTick frameEnd nextPhase ticked bitTick sendTick transmitterClock line shiftClock transmitterWithSccr decodeOf packed unpacked pushed memoryByte vectorOf askOf readOf readWord fetchOf fetchWord indexedBy zeroPagePointer displacement relativeTo locateOf pushWord pushInterrupt pullOf pullWord writtenOver readAfter completed stored modified branched bitBranched jumped pushedByte pulledByte returned returnedFromInterrupt interrupted breakTaken writesOf withRead changedBy byteToStore branchTaken bitBranchTaken byteToPush withPulled withRegister withFlag workOf resetEntry interruptEntry outcomeOf operandByte carriedOut writesAsked subroutineCall executeOf instructionOf flagsOf modeA modeB withInput driveA driveD drivenWord levelsOf rose fell edges withEdges resetOf sensedAt sensed fresh portValue registerValue afterRead startB startA entering keptFlag keptFlags writeOf putRegister registersAfter answerOf turnOf instructionFrom wholeInstruction irqDue resetStart nmiStart irqStart startOf processorOf withInputs countA countB sentBy heardBy worked readyOf finished clockOf putByte committed plainOf plains putRecord
+unfolding withBit setWhere flipWhere dueCount ticksOf inForce downA countsA clockA lowerA upperA loadCounterA reloadB downB clockB lowerB upperB copyB loadCounterB turnToC transmitterAsynchronous receiverAsynchronous receiverShifting holdsA keepsTransmitter keepsReceiver parityBit frameBits sentBits pace startDetected withLevel receivedByte wrongParity statusAfter keptWith frameEnded lookTaken looked receiveTick shiftedAtRise byteEnded receiveRise receiverClock receiverWithSccr framed taken idleTick frameEnd nextPhase ticked bitTick sendTick transmitterClock line shiftClock transmitterWithSccr decodeOf packed unpacked pushed memoryByte displacement located byteAfter peripheralsRead peripheralsWritten valueRead performed inOrder completing storing modifying branching bitBranching jumping pushing pulling returning resuming interrupting breaking calling executing withRead changedBy byteToStore branchTaken bitBranchTaken byteToPush withPulled withRegister withFlag instructionAccesses resetAccesses interruptAccesses flagsOf modeA modeB withInput driveA driveD drivenWord levelsOf rose fell edges withEdges resetOf sensedAt sensed fresh portValue registerValue afterRead startB startA entering keptFlag keptFlags writeOf wholeInstruction irqDue resetStart nmiStart irqStart startOf processorOf withInputs countA countB sentBy heardBy worked readyOf finished clockOf putByte committed plainOf plains putRecord
 p5-edges = refl

@@ -14,21 +14,19 @@ use Rattle.serial.specs.Receiver.{startDetected, withLevel, receivedByte, wrong
 use Rattle.serial.specs.Transmitter.{framed, taken, idleTick, frameEnd, nextPhase, ticked, bitTick, sendTick, transmitterClock, line, shiftClock, transmitterWithSccr}
 use Rattle.cpu_opcodes.specs.Decode.{decodeOf}
 use Rattle.cpu_alu.specs.Status.{packed, unpacked, pushed}
-use Rattle.cpu_access.specs.Bus.{memoryByte, vectorOf, askOf, readOf, readWord, fetchOf, fetchWord}
-use Rattle.cpu_access.specs.Modes.{indexedBy, zeroPagePointer, displacement, relativeTo, locateOf}
-use Rattle.cpu_access.specs.Stack.{pushWord, pushInterrupt, pullOf, pullWord, writtenOver, readAfter}
-use Rattle.cpu_operations.specs.Effects.{completed, stored, modified, branched, bitBranched, jumped, pushedByte, pulledByte, returned, returnedFromInterrupt, interrupted, breakTaken, writesOf}
+use Rattle.cpu_access.specs.Bus.{memoryByte}
+use Rattle.cpu_access.specs.Accesses.{byteAfter, peripheralsRead, peripheralsWritten, valueRead, performed, inOrder}
+use Rattle.cpu_access.specs.Operands.{located}
+use Rattle.cpu_access.specs.Modes.{displacement}
 use Rattle.cpu_operations.specs.Kinds.{withRead, changedBy, byteToStore, branchTaken, bitBranchTaken, byteToPush, withPulled, withRegister, withFlag}
-use Rattle.cpu_operations.specs.Operations.{workOf}
-use Rattle.cpu.specs.Entries.{resetEntry, interruptEntry}
-use Rattle.cpu.specs.Instruction.{outcomeOf, operandByte, carriedOut, writesAsked, subroutineCall, executeOf, instructionOf}
+use Rattle.cpu.specs.Sequence.{completing, storing, modifying, branching, bitBranching, jumping, pushing, pulling, returning, resuming, interrupting, breaking, calling, executing, instructionAccesses, resetAccesses, interruptAccesses}
 use Rattle.r6501q_state.specs.Control.{flagsOf, modeA, modeB}
 use Rattle.r6501q_state.specs.Inputs.{withInput}
 use Rattle.r6501q_state.specs.Pins.{driveA, driveD, drivenWord, levelsOf, rose, fell, edges, withEdges, resetOf, sensedAt, sensed}
 use Rattle.r6501q_state.specs.State.{fresh}
 use Rattle.r6501q_registers.specs.Read.{portValue, registerValue, afterRead}
 use Rattle.r6501q_registers.specs.Write.{startB, startA, entering, keptFlag, keptFlags, writeOf}
-use Rattle.r6501q_cpu.specs.Processor.{putRegister, registersAfter, answerOf, turnOf, instructionFrom, wholeInstruction, irqDue, resetStart, nmiStart, irqStart, startOf, processorOf}
+use Rattle.r6501q_cpu.specs.Processor.{wholeInstruction, irqDue, resetStart, nmiStart, irqStart, startOf, processorOf}
 use Rattle.r6501q_clock.specs.Clock.{withInputs, countA, countB, sentBy, heardBy, worked, readyOf, finished, clockOf}
 use Rattle.r6501q_clock.specs.Commit.{putByte, committed}
 use Rattle.r6501q_state.specs.declared.state.Levels.{Levels}
@@ -112,7 +110,7 @@ pub record ShiftRegister : Type 0 where
   pub byte-full : plains chip 16 receiverStart .state .peripherals .control .scsr ≡ 0x41
 
 pub shift-register : ShiftRegister
-unfolding withBit setWhere flipWhere dueCount ticksOf inForce downA countsA clockA lowerA upperA loadCounterA reloadB downB clockB lowerB upperB copyB loadCounterB turnToC transmitterAsynchronous receiverAsynchronous receiverShifting holdsA keepsTransmitter keepsReceiver parityBit frameBits sentBits pace startDetected withLevel receivedByte wrongParity statusAfter keptWith frameEnded lookTaken looked receiveTick shiftedAtRise byteEnded receiveRise receiverClock receiverWithSccr framed taken idleTick frameEnd nextPhase ticked bitTick sendTick transmitterClock line shiftClock transmitterWithSccr decodeOf packed unpacked pushed memoryByte vectorOf askOf readOf readWord fetchOf fetchWord indexedBy zeroPagePointer displacement relativeTo locateOf pushWord pushInterrupt pullOf pullWord writtenOver readAfter completed stored modified branched bitBranched jumped pushedByte pulledByte returned returnedFromInterrupt interrupted breakTaken writesOf withRead changedBy byteToStore branchTaken bitBranchTaken byteToPush withPulled withRegister withFlag workOf resetEntry interruptEntry outcomeOf operandByte carriedOut writesAsked subroutineCall executeOf instructionOf flagsOf modeA modeB withInput driveA driveD drivenWord levelsOf rose fell edges withEdges resetOf sensedAt sensed fresh portValue registerValue afterRead startB startA entering keptFlag keptFlags writeOf putRegister registersAfter answerOf turnOf instructionFrom wholeInstruction irqDue resetStart nmiStart irqStart startOf processorOf withInputs countA countB sentBy heardBy worked readyOf finished clockOf putByte committed plainOf plains putRecord
+unfolding withBit setWhere flipWhere dueCount ticksOf inForce downA countsA clockA lowerA upperA loadCounterA reloadB downB clockB lowerB upperB copyB loadCounterB turnToC transmitterAsynchronous receiverAsynchronous receiverShifting holdsA keepsTransmitter keepsReceiver parityBit frameBits sentBits pace startDetected withLevel receivedByte wrongParity statusAfter keptWith frameEnded lookTaken looked receiveTick shiftedAtRise byteEnded receiveRise receiverClock receiverWithSccr framed taken idleTick frameEnd nextPhase ticked bitTick sendTick transmitterClock line shiftClock transmitterWithSccr decodeOf packed unpacked pushed memoryByte displacement located byteAfter peripheralsRead peripheralsWritten valueRead performed inOrder completing storing modifying branching bitBranching jumping pushing pulling returning resuming interrupting breaking calling executing withRead changedBy byteToStore branchTaken bitBranchTaken byteToPush withPulled withRegister withFlag instructionAccesses resetAccesses interruptAccesses flagsOf modeA modeB withInput driveA driveD drivenWord levelsOf rose fell edges withEdges resetOf sensedAt sensed fresh portValue registerValue afterRead startB startA entering keptFlag keptFlags writeOf wholeInstruction irqDue resetStart nmiStart irqStart startOf processorOf withInputs countA countB sentBy heardBy worked readyOf finished clockOf putByte committed plainOf plains putRecord
 shift-register = record {
   sent-clocks = refl;
   sent-words = refl;

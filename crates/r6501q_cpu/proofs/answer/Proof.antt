@@ -1,4 +1,4 @@
-use Rattle.r6501q_cpu.specs.Processor.{answerOf}
+use Rattle.r6501q_cpu.specs.Asking.{answerOf}
 use mathlib.Core.Path.{refl}
 use borrow.Author.Needs.{needs}
 use Rattle.r6501q_cpu.proofs.answer.Statement.{statement}

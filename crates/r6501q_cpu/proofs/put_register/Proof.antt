@@ -1,4 +1,4 @@
-use Rattle.r6501q_cpu.specs.Processor.{putRegister}
+use Rattle.r6501q_cpu.specs.Asking.{putRegister}
 use borrow.Author.Needs.{needs}
 use Rattle.r6501q_cpu.proofs.put_register.Statement.{statement}
 use Rattle.r6501q_cpu.proofs.put_register.Tie as tie

@@ -1,4 +1,4 @@
-use Rattle.r6501q_cpu.specs.Processor.{registersAfter}
+use Rattle.r6501q_cpu.specs.Asking.{registersAfter}
 use borrow.Author.Needs.{needs}
 use Rattle.r6501q_cpu.proofs.registers_after.Statement.{statement}
 use Rattle.r6501q_cpu.proofs.registers_after.Tie as tie

@@ -1,5 +1,5 @@
 use mathlib.Core.Path.{refl}
-use Rattle.r6501q_cpu.specs.Processor.{registersAfter, putRegister}
+use Rattle.r6501q_cpu.specs.Asking.{registersAfter, putRegister}
 use Rattle.cpu_operations.specs.Effects.{writesOf}
 use borrow.Author.Needs.{needs}
 use Rattle.r6501q_cpu.proofs.registers_written.Statement.{statement}

@@ -1,6 +1,7 @@
 use Rattle.r6501q_cpu.specs.Processor.{startOf}
 use mathlib.Core.Path.{ap}
 use Rattle.bits.proofs.Cond.{cond-yes, cond-no}
+use Rattle.r6501q_cpu.proofs.Answered.{instruction-answered}
 use Rattle.r6501q_cpu.specs.declared.Processed.the-variants.{Done}
 use borrow.Author.Needs.{needs}
 use Rattle.r6501q_cpu.proofs.start.Statement.{statement}
@@ -51,7 +52,7 @@ whole-instruction-requires c κs = search needs
 -- src/lib.rt:201:1
 returns-4 : tie.Need-returns-4
 unfolding startOf
-returns-4 c = rw (← (c .before .before .irq-due .ensures), ← (c .whole-instruction .ensures), c .before .if3 .left, c .before .before .before .if2 .left, c .before .before .before .before .if1 .left)
+returns-4 c = rw (← (c .before .before .irq-due .ensures), instruction-answered, ← (c .whole-instruction .ensures), c .before .if3 .left, c .before .before .before .if2 .left, c .before .before .before .before .if1 .left)
 
 pub start-spec : {M : Type 1} → statement M
 start-spec =

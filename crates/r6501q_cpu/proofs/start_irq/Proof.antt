@@ -1,4 +1,5 @@
-use Rattle.r6501q_cpu.specs.Processor.{irqStart}
+use mathlib.Core.Path.{sym}
+use Rattle.r6501q_cpu.proofs.Answered.{irq-answered}
 use borrow.Author.Needs.{needs}
 use Rattle.r6501q_cpu.proofs.start_irq.Statement.{statement}
 use Rattle.r6501q_cpu.proofs.start_irq.Tie as tie
@@ -22,8 +23,7 @@ next-state-requires c κs = search needs
 
 -- src/lib.rt:193:1
 returns : tie.Need-returns
-unfolding irqStart
-returns c = rw (← (c .before .before .registers-of .ensures), ← (c .before .interrupt-entry .ensures), ← (c .next-state .ensures))
+returns c = rw (c .next-state .ensures, c .before .interrupt-entry .ensures, c .before .before .registers-of .ensures) (sym (irq-answered _ _))
 
 pub start-irq-spec : {M : Type 1} → statement M
 start-irq-spec =

@@ -1,5 +1,5 @@
-use Rattle.r6501q_cpu.specs.Processor.{nmiStart}
-use mathlib.Core.Path.{refl}
+use mathlib.Core.Path.{sym}
+use Rattle.r6501q_cpu.proofs.Answered.{nmi-answered}
 use borrow.Author.Needs.{needs}
 use Rattle.r6501q_cpu.proofs.start_nmi.Statement.{statement}
 use Rattle.r6501q_cpu.proofs.start_nmi.Tie as tie
@@ -23,8 +23,7 @@ next-state-requires c κs = search needs
 
 -- src/lib.rt:182:1
 returns : tie.Need-returns
-unfolding nmiStart
-returns c = rw (c .next-state .ensures, c .before .interrupt-entry .ensures, c .before .before .registers-of .ensures) refl
+returns c = rw (c .next-state .ensures, c .before .interrupt-entry .ensures, c .before .before .registers-of .ensures) (sym (nmi-answered _ _))
 
 pub start-nmi-spec : {M : Type 1} → statement M
 start-nmi-spec =

@@ -1,4 +1,5 @@
-use Rattle.r6501q_cpu.specs.Processor.{resetStart}
+use mathlib.Core.Path.{sym}
+use Rattle.r6501q_cpu.proofs.Answered.{reset-answered}
 use borrow.Author.Needs.{needs}
 use Rattle.r6501q_cpu.proofs.start_reset.Statement.{statement}
 use Rattle.r6501q_cpu.proofs.start_reset.Tie as tie
@@ -22,8 +23,7 @@ next-state-requires c κs = search needs
 
 -- src/lib.rt:171:1
 returns : tie.Need-returns
-unfolding resetStart
-returns c = rw (← (c .before .before .registers-of .ensures), ← (c .before .reset-entry .ensures), ← (c .next-state .ensures))
+returns c = rw (c .next-state .ensures, c .before .reset-entry .ensures, c .before .before .registers-of .ensures) (sym (reset-answered _ _))
 
 pub start-reset-spec : {M : Type 1} → statement M
 start-reset-spec =

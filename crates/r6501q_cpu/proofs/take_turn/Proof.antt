@@ -1,4 +1,4 @@
-use Rattle.r6501q_cpu.specs.Processor.{turnOf}
+use Rattle.r6501q_cpu.specs.Asking.{turnOf}
 use borrow.Author.Needs.{needs}
 use Rattle.r6501q_cpu.proofs.take_turn.Statement.{statement}
 use Rattle.r6501q_cpu.proofs.take_turn.Tie as tie

@@ -1,4 +1,3 @@
-use Rattle.r6501q_cpu.specs.Processor.{wholeInstruction}
 use mathlib.Core.Path.{_≡_, refl, sym, _∙_}
 use Prim.Native.Nat.{suc, _≤_, _<_, _-_, _+_}
 use native.Mathlib.Omega.{arith}
@@ -7,7 +6,7 @@ use lib.ListN.{length, take, length-set}
 use lib.Seq.{length-take-le, take-suc-set}
 use borrow.Author.Needs.{needs}
 use Rattle.r6501q_cpu.specs.declared.Processed.the-variants.{Undefined}
-use Rattle.r6501q_cpu.specs.Processor.{instructionFrom}
+use Rattle.r6501q_cpu.specs.Asking.{instructionFrom, answeredInstruction}
 use Rattle.r6501q_cpu.proofs.Asks.{turn-over, turn-answered}
 use Rattle.r6501q_cpu.proofs.whole_instruction.Statement.{statement}
 use Rattle.r6501q_cpu.proofs.whole_instruction.Tie as tie
@@ -17,14 +16,14 @@ use Rattle.r6501q_cpu.proofs.take_turn.Reads as take-turn-reads
 
 abbrev Inv-loop : tie.InvT-loop
 Inv-loop s memory entries answers₀ peripherals₀ count₀ answers peripherals count =
-    (count ≤ 6) × (length answers ≡ 6) × (instructionFrom Undefined (6 - count) s peripherals (take count answers) memory ≡ wholeInstruction s memory)
+    (count ≤ 6) × (length answers ≡ 6) × (instructionFrom Undefined (6 - count) s peripherals (take count answers) memory ≡ answeredInstruction s memory)
 
 abbrev μ-loop : tie.MeasureT-loop
 μ-loop s memory entries answers₀ peripherals₀ count₀ answers peripherals count = 6 - count
 
 -- src/lib.rt:147:5
 loop-holds : tie.Need-loop-holds Inv-loop μ-loop
-unfolding wholeInstruction
+unfolding answeredInstruction
 loop-holds c = (omega arith, refl, refl)
 
 -- src/lib.rt:148:48

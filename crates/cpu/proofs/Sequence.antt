@@ -1,0 +1,303 @@
+-- An instruction worked with the answers so far is its accesses, asked: one lemma for each part of it, by the bus and by its accesses.
+use mathlib.Core.Path.{_≡_, refl, sym, ap, _∙_}
+use mathlib.Core.Bool.{Bool, true, false, not, cond}
+use mathlib.Core.List.{List, [], _∷_, _++_}
+use Prim.Native.Nat.{ℕ, _+_, _%_, _<_}
+use native.Mathlib.Omega.{arith}
+use lib.Dec.{ltb, eqb}
+use lib.ListN.{length, drop}
+use borrow.Author.Tests.{ne-eqb}
+use Rattle.bits.specs.Bits.{bit, low, high, word}
+use Rattle.bits.proofs.Cond.{cond-map, cond-along}
+use Rattle.memory.specs.Memory.{isRegister}
+use Rattle.cpu_opcodes.specs.Decode.{decodeOf}
+use Rattle.cpu_opcodes.specs.declared.Decoded.{Decoded}
+use Rattle.cpu_opcodes.specs.declared.Decoded.the-variants as decoded
+use Rattle.cpu_opcodes.specs.declared.Entry.{Entry}
+use Rattle.cpu_opcodes.specs.declared.Mode.{Mode}
+use Rattle.cpu_opcodes.specs.declared.operation.Operation.{Operation}
+use Rattle.cpu_opcodes.specs.declared.operation.Operation.the-variants as operation
+use Rattle.cpu_opcodes.specs.declared.operation.ModifyOperation.{ModifyOperation}
+use Rattle.cpu_opcodes.specs.declared.operation.PullOperation.{PullOperation}
+use Rattle.cpu_alu.specs.Status.{pushed, unpacked}
+use Rattle.cpu_alu.specs.declared.Computed.{Computed}
+use Rattle.cpu_access.specs.declared.Bus.{Bus}
+use Rattle.cpu_access.specs.declared.Got.{Got}
+use Rattle.cpu_access.specs.declared.CpuRegisters.{CpuRegisters}
+use Rattle.cpu_access.specs.declared.modes.Place.{Place}
+use Rattle.cpu_access.specs.declared.stack.Write.{Write}
+use Rattle.cpu_access.specs.declared.stack.Writes.{Writes}
+use Rattle.cpu_access.specs.Bus.{memoryByte, nextAddress, irqVector, vectorOf, idle, got, answered, asking, askOf, readOf, fetchOf}
+use Rattle.cpu_access.specs.Stack.{writeAt, noWrites, stackAddress, down, up, pushHigh, pushLow, pushAt, pushWord, pushInterrupt, pullOf, pullWord, writtenOver, readAfter}
+use Rattle.cpu_access.specs.Modes.{relativeTo, locateOf}
+use Rattle.cpu_access.specs.Accesses.{Accesses, ends, reads, writes, _>>=_, byteAfter, inOrder}
+use Rattle.cpu_access.specs.Operands.{Located, located}
+use Rattle.cpu_access.proofs.Asked.{Reply, asks, over, asked, onwards, onwards-idle}
+use Rattle.cpu_access.proofs.Follows.{then-then, locatedAt, read-on, read-after-on, fetch-on, pull-on, pull-word-on, locate-on}
+use Rattle.cpu_operations.specs.declared.Worked.{Worked}
+use Rattle.cpu_operations.specs.declared.Operand.{Operand}
+use Rattle.cpu_operations.specs.declared.Executed.{Executed}
+use Rattle.cpu_operations.specs.declared.Written.{Written}
+use Rattle.cpu_operations.specs.declared.Written.the-variants as written
+use Rattle.cpu_operations.specs.Updates.{withSp, withPc, withStatus, intoA}
+use Rattle.cpu_operations.specs.Kinds.{withRead, changedBy, byteToStore, branchTaken, bitBranchTaken, byteToPush, withPulled, withRegister, withFlag}
+use Rattle.cpu_operations.specs.Effects.{writesOf, executed, quiet, completed, stored, modified, branched, branchOperand, bitBranched, jumped, pushedByte, pulledByte, returned, returnedFromInterrupt, interrupted, breakTaken}
+use Rattle.cpu_operations.specs.Operations.{accessOf, workOf}
+use Rattle.cpu.specs.declared.Ask.{Ask}
+use Rattle.cpu.specs.declared.Outcome.{Outcome}
+use Rattle.cpu.specs.declared.Outcome.the-variants.{Undefined, Asked, Done}
+use Rattle.cpu.specs.Instruction.{askWith, outcomeOf, operandByte, operandOf, carriedOut, writesAsked, callTo, subroutineCall, executeOf, decodedTo, instructionOf}
+use Rattle.cpu.specs.Sequence.{Store, none, one, Left, Ending, undefined, leaves, withStore, leaving, completing, storing, storingBack, modifying, branching, bitBranching, jumping, pushing, pulling, returning, resuming, interrupting, breaking, calling, past, executing, opcodeAccesses, instructionAccesses}
+
+-- what was asked, or how it ended, as the code has it
+abbrev pub writtenAs : Store → List Write → Written
+writtenAs none [] = written.Nothing
+writtenAs none (w ∷ ws) = written.Pushed (inOrder (w ∷ ws))
+writtenAs (one x) [] = written.Stored x
+writtenAs (one x) (w ∷ ws) = written.Pushed (inOrder (withStore (w ∷ ws) (one x)))
+
+pub writes-as : (store : Store) (pushes : List Write) → writesOf (writtenAs store pushes) ≡ inOrder (withStore pushes store)
+unfolding writesOf inOrder
+writes-as none [] = refl
+writes-as none (w ∷ ws) = refl
+writes-as (one x) [] = refl
+writes-as (one x) (w ∷ ws) = refl
+
+abbrev pub workedOf : Left → List Write → Worked
+workedOf l pushes = record { registers = l .registers; written = writtenAs (l .store) pushes; length = l .length }
+
+abbrev pub outcomeFrom : Reply Ending → Outcome
+outcomeFrom (asks latch a ws) = Asked (record { address = a; latch = latch; writes = inOrder ws })
+outcomeFrom (over undefined ws) = Undefined
+outcomeFrom (over (leaves l) ws) = Done (workedOf l ws)
+
+abbrev left : Accesses Left → Accesses Ending
+left t = t >>= (λ l. ends (leaves l))
+
+-- an operand as its accesses have it; pc is not looked at
+abbrev placeOf : Operand → ℕ → Located
+placeOf o pc = record { address = o .address; crossed = o .crossed; accumulator = o .accumulator; pc = pc }
+
+-- ---- vectors lie above the stack
+
+above-stack : (sp a : ℕ) → 255 < a → eqb (stackAddress sp) a ≡ false
+above-stack sp a h = ne-eqb (stackAddress sp) a (λ e. omega (arith, e, h))
+
+-- the pushes of an entry
+abbrev pub entryPushes : ℕ → CpuRegisters → List Write
+entryPushes p r = pushHigh (r .sp) (r .pc) ∷ pushLow (r .sp) (r .pc) ∷ pushAt (down (down (r .sp))) p ∷ []
+
+pub unpushed : (p : ℕ) (r : CpuRegisters) (a v : ℕ) → 255 < a → byteAfter (entryPushes p r) a v ≡ v
+unfolding byteAfter
+unpushed p r a v h = rw (above-stack (r .sp) a h, above-stack (down (r .sp)) a h, above-stack (down (down (r .sp))) a h)
+
+module _ (answers memory : List ℕ) where
+  abbrev Same : Bus → Accesses Ending → Outcome → Type 0
+  Same b t o = outcomeFrom (onwards answers memory [] b t) ≡ o
+
+  -- no register is read
+  done-on : (b : Bus) (t : Accesses Ending) (w : Worked) → ((rest : List ℕ) → outcomeFrom (asked memory rest [] t) ≡ Done w)
+      → Same b t (outcomeOf noWrites (record { worked = w; bus = b }))
+  unfolding onwards outcomeOf inOrder
+  done-on b t w h = cond-along outcomeFrom (b .missing) (asks (b .latch) (b .address) []) _ refl (h (drop (b .used) answers))
+
+  ends-after : (before : List Write) (b : Bus) (l : Left)
+      → outcomeFrom (onwards answers memory before b (ends (leaves l))) ≡ outcomeOf (inOrder before) (record { worked = workedOf l before; bus = b })
+  unfolding onwards asked outcomeOf
+  ends-after before b l = cond-map outcomeFrom (b .missing) (asks (b .latch) (b .address) before) (over (leaves l) before)
+
+  ends-on : (b : Bus) (l : Left) → Same b (ends (leaves l)) (outcomeOf noWrites (record { worked = workedOf l []; bus = b }))
+  unfolding inOrder
+  ends-on b l = ends-after [] b l
+
+  -- ---- the operations, by kind
+
+  completed-on : (o : Operand) (r : CpuRegisters) (pc : ℕ) → Same (o .bus) (left (completing (o .length) (placeOf o pc) r)) (outcomeOf noWrites (completed o r))
+  unfolding completing completed inOrder
+  completed-on o r pc = ends-on (o .bus) _
+
+  stored-on : (o : Operand) (r : CpuRegisters) (v pc : ℕ) → Same (o .bus) (left (storing (o .length) (placeOf o pc) r v)) (outcomeOf noWrites (stored o r v))
+  unfolding storing stored inOrder
+  stored-on o r v pc = ends-on (o .bus) _
+
+  branched-on : (o : Operand) (r : CpuRegisters) (taken : Bool) (pc : ℕ)
+      → Same (o .bus) (left (branching (o .length) (placeOf o pc) r taken)) (outcomeOf noWrites (branched o r taken))
+  unfolding branching branched inOrder
+  branched-on o r true pc = ends-on (o .bus) _
+  branched-on o r false pc = ends-on (o .bus) _
+
+  bit-branched-on : (o : Operand) (r : CpuRegisters) (taken : Bool)
+      → Same (o .bus) (left (bitBranching (o .length) r taken)) (outcomeOf noWrites (bitBranched answers memory o r taken))
+  unfolding bitBranching bitBranched relativeTo fetchOf
+  bit-branched-on o r taken =
+      let f = fetchOf answers memory (r .pc) (o .bus) in
+      ap outcomeFrom (fetch-on answers memory (r .pc) (o .bus) _) ∙ branched-on (branchOperand o (relativeTo f)) (withPc (f .pc) r) taken (f .pc)
+
+  jumped-on : (o : Operand) (r : CpuRegisters) (pc : ℕ) → Same (o .bus) (left (jumping (o .length) (placeOf o pc) r)) (outcomeOf noWrites (jumped o r))
+  unfolding jumping jumped inOrder
+  jumped-on o r pc = ends-on (o .bus) _
+
+  pushed-on : (o : Operand) (r : CpuRegisters) (v : ℕ) → Same (o .bus) (left (pushing (o .length) r v)) (outcomeOf noWrites (pushedByte o r v))
+  unfolding pushing pushedByte asked inOrder
+  pushed-on o r v = done-on (o .bus) _ _ (λ rest. refl)
+
+  pulled-on : (operation : PullOperation) (o : Operand) (r : CpuRegisters)
+      → Same (o .bus) (left (pulling operation (o .length) r)) (outcomeOf noWrites (pulledByte answers memory operation o r))
+  unfolding pulling pulledByte pullOf
+  pulled-on operation o r = ap outcomeFrom (pull-on answers memory (r .sp) (o .bus) _) ∙ ends-on _ _
+
+  returned-on : (o : Operand) (r : CpuRegisters) → Same (o .bus) (left (returning (o .length) r)) (outcomeOf noWrites (returned answers memory o r))
+  unfolding returning returned pullWord pullOf inOrder
+  returned-on o r =
+      ap outcomeFrom (pull-word-on answers memory (r .sp) (o .bus)
+      (λ pc. ends (leaves (leaving (withPc (nextAddress pc) (withSp (up (up (r .sp))) r)) (o .length)))))
+      ∙ ends-on _ _
+
+  resumed-on : (o : Operand) (r : CpuRegisters) → Same (o .bus) (left (resuming (o .length) r)) (outcomeOf noWrites (returnedFromInterrupt answers memory o r))
+  unfolding resuming returnedFromInterrupt pullWord pullOf inOrder
+  resumed-on o r =
+      let p = pullOf answers memory (r .sp) (o .bus) in
+      ap outcomeFrom (pull-on answers memory (r .sp) (o .bus) _
+      ∙ pull-word-on answers memory (p .sp) (p .bus)
+      (λ pc. ends (leaves (leaving (withPc pc (withStatus (unpacked (p .value)) (withSp (up (up (up (r .sp)))) r))) (o .length)))))
+      ∙ ends-on _ _
+
+  -- BRK reads its vector after the pushes, which do not reach it
+  break-on : (o : Operand) (r : CpuRegisters) → Same (o .bus) (left (breaking r)) (outcomeOf noWrites (breakTaken memory o r))
+  unfolding breaking breakTaken interrupting interrupted pushInterrupt vectorOf asked inOrder
+  break-on o r =
+      let next = withPc (nextAddress (r .pc)) r in
+      done-on (o .bus) _ _ (λ rest. rw (unpushed (pushed (r .status) true) next 0xFFFE _ (omega arith), unpushed (pushed (r .status) true) next 0xFFFF _ (omega arith)))
+
+  -- ---- the operand and the operation
+
+  -- the accumulator, or a byte in memory
+  modified-on : (operation : ModifyOperation) (n : ℕ) (r : CpuRegisters) (p : Place)
+      → (let g : Got = cond (p .accumulator) (got (r .a) (p .bus)) (readOf answers memory (p .address) true (p .bus)) in
+      Same (p .bus) (left (modifying operation n (locatedAt p) r)) (outcomeOf noWrites (modified (operandOf n p g) r (changedBy operation (g .value) (r .status)))))
+  unfolding modifying modified
+  modified-on operation n r p = by-test (p .accumulator)
+    where
+      by-test : (t : Bool) → (let g : Got = cond t (got (r .a) (p .bus)) (readOf answers memory (p .address) true (p .bus)) in
+          Same (p .bus)
+          (left (cond t (ends (leaving (intoA (changedBy operation (r .a) (r .status)) r) n))
+          (reads true (p .address) (λ v. storingBack n (locatedAt p) r (changedBy operation v (r .status))))))
+          (outcomeOf noWrites (cond t
+          (quiet (intoA (changedBy operation (g .value) (r .status)) r) n (g .bus))
+          (stored (operandOf n p g) (withStatus (changedBy operation (g .value) (r .status) .status) r) (changedBy operation (g .value) (r .status) .value)))))
+      by-test true = ends-on (p .bus) _
+      by-test false =
+          let g = readOf answers memory (p .address) true (p .bus) in
+          let k = changedBy operation (g .value) (r .status) in
+          ap outcomeFrom (read-on answers memory (p .address) true (p .bus) _)
+          ∙ stored-on (operandOf n p g) (withStatus (k .status) r) (k .value) (p .pc)
+
+  -- the operand's place comes first
+  located-first : (mode : Mode) (r : CpuRegisters) (b : Bus) (next : Located → Accesses Left) (o : Outcome)
+      → (let p : Place = locateOf answers memory mode r b in Same (p .bus) (left (next (locatedAt p))) o) → Same b (left (located mode r >>= next)) o
+  located-first mode r b next o same =
+      ap (λ t. outcomeFrom (onwards answers memory [] b t)) (then-then (located mode r) next _)
+      ∙ ap outcomeFrom (locate-on answers memory mode r b (λ p. left (next p))) ∙ same
+
+  -- ---- JSR
+
+  -- a bus that misses an answer goes on missing it
+  missed : (x w : Writes) (worked : Worked) (a : ℕ) (b : Bus) → b .missing ≡ true
+      → Asked (askWith x b) ≡ outcomeOf x (record { worked = worked; bus = readAfter answers memory w a b .bus })
+  unfolding outcomeOf readAfter askOf
+  missed x w worked a b m = by-tests (isRegister a) (ltb (b .used) (length answers))
+    where
+      by-tests : (t u : Bool) → Asked (askWith x b)
+          ≡ (let c : Bus = cond t (cond u (answered answers b) (got 0 (asking a false b))) (got (writtenOver w a (memoryByte memory a)) b) .bus in
+          cond (c .missing) (Asked (askWith x c)) (Done worked))
+      by-tests true true = rw m
+      by-tests true false = rw m
+      by-tests false u = rw m
+
+  none-missing : (before : List Write) (b : Bus) (t : Accesses Ending) → b .missing ≡ false
+      → onwards answers memory before b t ≡ asked memory (drop (b .used) answers) before t
+  unfolding onwards
+  none-missing before b t m = rw m
+
+  -- the pushes, and the high byte after them
+  pushed-call : (r : CpuRegisters) (n l next : ℕ) (b : Bus)
+      → (let w : Writes = pushWord (r .sp) next in let h : Got = readAfter answers memory w next b in
+      Same b
+      (writes (stackAddress (r .sp)) (high next) (writes (stackAddress (down (r .sp))) (low next)
+      (reads false next (λ v. ends (leaves (leaving (withPc (word v l) (withSp (down (down (r .sp))) r)) n))))))
+      (outcomeOf (writesAsked b w) (executed (withPc (word (h .value) l) (withSp (down (down (r .sp))) r)) (written.Pushed w) n (h .bus))))
+  unfolding onwards asked writesAsked inOrder byteAfter writtenOver pushWord
+  pushed-call r n l next b = by-answer (b .missing) refl
+    where
+      by-answer : (t : Bool) → b .missing ≡ t
+          → (let w : Writes = pushWord (r .sp) next in let h : Got = readAfter answers memory w next b in
+          outcomeFrom (cond t (asks (b .latch) (b .address) []) (asked memory (drop (b .used) answers) (pushHigh (r .sp) next ∷ pushLow (r .sp) next ∷ [])
+          (reads false next (λ v. ends (leaves (leaving (withPc (word v l) (withSp (down (down (r .sp))) r)) n))))))
+          ≡ outcomeOf (cond t noWrites w) (executed (withPc (word (h .value) l) (withSp (down (down (r .sp))) r)) (written.Pushed w) n (h .bus)))
+      by-answer true m = missed noWrites (pushWord (r .sp) next) _ next b m
+      by-answer false m =
+          let w = pushWord (r .sp) next in
+          let h = readAfter answers memory w next b in
+          let pushes : List Write = pushHigh (r .sp) next ∷ pushLow (r .sp) next ∷ [] in
+          let go : ℕ → Accesses Ending = λ v. ends (leaves (leaving (withPc (word v l) (withSp (down (down (r .sp))) r)) n)) in
+          ap outcomeFrom (sym (none-missing pushes b (reads false next go) m) ∙ read-after-on answers memory pushes w next b go refl)
+          ∙ ends-after pushes (h .bus) (leaving (withPc (word (h .value) l) (withSp (down (down (r .sp))) r)) n)
+
+  call-on : (r : CpuRegisters) (n : ℕ) (b : Bus) → Same b (left (calling n r)) (subroutineCall answers memory r n b)
+  unfolding calling subroutineCall fetchOf
+  call-on r n b =
+      let l = fetchOf answers memory (r .pc) b in
+      ap outcomeFrom (fetch-on answers memory (r .pc) b _) ∙ pushed-call r n (l .value) (l .pc) (l .bus)
+
+  -- an operand whose byte is not read
+  abbrev unread : ℕ → Place → Operand
+  unread n p = operandOf n p (got 0 (p .bus))
+
+  execute-on : (operation : Operation) (mode : Mode) (n : ℕ) (r : CpuRegisters) (b : Bus)
+      → (let e : Entry = record { operation = operation; mode = mode; length = n } in
+      Same b (left (executing operation mode n r)) (executeOf answers memory e r b))
+  unfolding executing executeOf carriedOut operandByte workOf
+  execute-on (operation.Read o) mode n r b =
+      let p = locateOf answers memory mode r b in
+      let g = readOf answers memory (p .address) false (p .bus) in
+      located-first mode r b _ _ (ap outcomeFrom (read-on answers memory (p .address) false (p .bus) _) ∙ completed-on (operandOf n p g) _ (p .pc))
+  execute-on (operation.Modify o) mode n r b =
+      let p = locateOf answers memory mode r b in
+      located-first mode r b _ _ (modified-on o n (withPc (p .pc) r) p)
+  execute-on (operation.Store o) mode n r b = let p = locateOf answers memory mode r b in located-first mode r b _ _ (stored-on (unread n p) _ _ (p .pc))
+  execute-on (operation.Branch o) mode n r b = let p = locateOf answers memory mode r b in located-first mode r b _ _ (branched-on (unread n p) _ _ (p .pc))
+  execute-on (operation.BitBranch o) mode n r b =
+      let p = locateOf answers memory mode r b in
+      let g = readOf answers memory (p .address) false (p .bus) in
+      located-first mode r b _ _ (ap outcomeFrom (read-on answers memory (p .address) false (p .bus) _) ∙ bit-branched-on (operandOf n p g) _ _)
+  execute-on (operation.Push o) mode n r b = let p = locateOf answers memory mode r b in located-first mode r b _ _ (pushed-on (unread n p) _ _)
+  execute-on (operation.Pull o) mode n r b = let p = locateOf answers memory mode r b in located-first mode r b _ _ (pulled-on o (unread n p) _)
+  execute-on (operation.Register o) mode n r b = let p = locateOf answers memory mode r b in located-first mode r b _ _ (completed-on (unread n p) _ (p .pc))
+  execute-on (operation.Flag o) mode n r b = let p = locateOf answers memory mode r b in located-first mode r b _ _ (completed-on (unread n p) _ (p .pc))
+  execute-on operation.Brk mode n r b = let p = locateOf answers memory mode r b in located-first mode r b _ _ (break-on (unread n p) _)
+  execute-on operation.Jmp mode n r b = let p = locateOf answers memory mode r b in located-first mode r b _ _ (jumped-on (unread n p) _ (p .pc))
+  execute-on operation.Jsr mode n r b = call-on r n b
+  execute-on operation.Nop mode n r b = let p = locateOf answers memory mode r b in located-first mode r b _ _ (completed-on (unread n p) _ (p .pc))
+  execute-on operation.Rti mode n r b = let p = locateOf answers memory mode r b in located-first mode r b _ _ (resumed-on (unread n p) _)
+  execute-on operation.Rts mode n r b = let p = locateOf answers memory mode r b in located-first mode r b _ _ (returned-on (unread n p) _)
+
+  decoded-on : (d : Decoded) (r : CpuRegisters) (b : Bus) → b .missing ≡ false → Same b (opcodeAccesses r d) (decodedTo answers memory r b d)
+  unfolding onwards asked
+  decoded-on decoded.Undefined r b m = rw m
+  decoded-on (decoded.Defined e) r b m = execute-on (e .operation) (e .mode) (e .length) r b
+
+  -- the opcode is fetched, and goes its way
+  opcode-on : (r : CpuRegisters) (b : Bus) (d : Decoded) → Same b (opcodeAccesses r d) (cond (b .missing) (Asked (askWith noWrites b)) (decodedTo answers memory r b d))
+  unfolding onwards inOrder
+  opcode-on r b d = by-answer (b .missing) refl
+    where
+      by-answer : (t : Bool) → b .missing ≡ t → Same b (opcodeAccesses r d) (cond t (Asked (askWith noWrites b)) (decodedTo answers memory r b d))
+      by-answer true m = rw m
+      by-answer false m = decoded-on d r b m
+
+  pub instruction-asked : (r : CpuRegisters) → instructionOf r answers memory ≡ outcomeFrom (asked memory answers [] (instructionAccesses r))
+  unfolding instructionOf instructionAccesses fetchOf
+  instruction-asked r =
+      let f = fetchOf answers memory (r .pc) idle in
+      sym (ap outcomeFrom (sym (onwards-idle answers memory (instructionAccesses r)) ∙ fetch-on answers memory (r .pc) idle _)
+      ∙ opcode-on (withPc (f .pc) r) (f .bus) (decodeOf (f .value)))
