@@ -5,3 +5,4 @@ pub mod Follows
 pub mod Answering
 pub mod Performed
 pub mod Pointers
+pub mod Told

@@ -1,5 +1,6 @@
 pub mod Bus
 pub mod Stack
+pub mod Halt
 pub mod Modes
 pub mod Accesses
 pub mod Operands

@@ -19,6 +19,7 @@ pub const NMI_VECTOR: u16 = 0xFFFA;
 pub const IRQ_VECTOR: u16 = 0xFFFE;
 
 pub mod stack; // stack.rt: the writes of an instruction, and the stack
+pub mod halt; // halt.rt: the halt address
 
 // What an instruction works on.
 pub struct CpuRegisters {

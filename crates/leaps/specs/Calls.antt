@@ -26,9 +26,9 @@ pub record HandedOf (S : Type 0) : Type 0 where
   pub outputClocks : List ℕ
   pub outputWords : List ℕ
 
--- "a stop (6, 7) ends the list": the stops by name; every other number is none
+-- 01, "a stop (6, 7) ends the list"; 02, U4, "12: halted at a write, a stop like the others": the stops by name; every other number is none
 abbrev pub isStop : ℕ → Bool
-isStop number = eqb number 6 || eqb number 7
+isStop number = eqb number 6 || eqb number 7 || eqb number 12
 
 -- the stop that a number is, 0 where it is none
 unfoldable pub stopOf : ℕ → ℕ
@@ -49,7 +49,7 @@ module _ {S : Type 0} where
     stop = 0;
   }
 
-  -- "6, 7 state and lists as reached"; "Number 0: all n clocks done."
+  -- "6, 7 state and lists as reached", and so 12; "Number 0: all n clocks done."
   abbrev pub handedBackOf : ℕ → WorldOf S → HandedOf S
   handedBackOf leaps w = record {
     result = record { number = w .stop; state = w .state; leaps = leaps; read = w .read; written = w .written };

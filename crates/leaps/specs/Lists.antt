@@ -67,7 +67,7 @@ module _ {W H R : Type 0} (M : Machine W H R) where
   callOf singleClock w = stepOf w
   callOf (runFor n) w = runOf n w
 
-  -- the calls one after the other; "a stop (6, 7) ends the list"
+  -- the calls one after the other; "a stop (6, 7) ends the list", and so does 12
   unfoldable pub calls : List Call → W → Listed W R
   calls [] w = record { world = w; results = [] }
   calls (c ∷ cs) w =

@@ -14,7 +14,7 @@ use Rattle.leaps.proofs.Calls.{refusal-no-stop, refused-hands-on}
 use Rattle.r6501q_step.specs.R6501q.{World, Handed, Result, r6501qLimits, machine}
 use Rattle.r6501q_run.proofs.Fair.{fair}
 use Rattle.r6501q.specs.declared.host.HostState.{HostState}
-use Rattle.r6501q.specs.Host.{stateFromHost, flagsFit, hostState}
+use Rattle.r6501q.specs.Host.{stateFromHost, haltOf, flagsFit, hostState}
 use Rattle.r6501q.specs.Calls.{HostWorld, HostHanded, worldFromHost, hostWorld, hostHandedOf, hostRefusalOf, hostCall}
 use Rattle.r6501q.specs.Lists.{HostListed, hostCalled, hostCalls, hostResults, hostPlain, refusedEach, HostFair}
 use Rattle.r6501q.proofs.Laws.{state-kept, state-fits, host-kept}
@@ -22,9 +22,10 @@ use Rattle.r6501q.proofs.Laws.{state-kept, state-fits, host-kept}
 -- ---- each flag is 0 or 1
 
 -- an exported call is the library's
-called : (c : Call) (w : HostWorld) → flagsFit (w .state) ≡ true → hostCalled c (lentOf w) ≡ hostHandedOf (callOf machine c (lentOf (worldFromHost w)))
+called : (halt : ℕ) (c : Call) (w : HostWorld) → flagsFit (w .state) ≡ true
+    → hostCalled halt c (lentOf w) ≡ hostHandedOf (callOf (machine (haltOf halt)) c (lentOf (worldFromHost w)))
 unfolding hostCall
-called c w e = rw e
+called halt c w e = rw e
 
 -- and leaves what the library's leaves
 after-same : (w : HostWorld) (h : Handed) → afterCallOf w (hostHandedOf h) ≡ hostWorld (afterCallOf (worldFromHost w) h)
@@ -41,20 +42,21 @@ back-kept w e = rw (host-kept (w .state) e)
 abbrev hostOf : Listed World Result → HostListed
 hostOf l = record { world = hostWorld (l .world); results = hostResults (l .results) }
 
-host-calls : (cs : List Call) (w : HostWorld) → flagsFit (w .state) ≡ true → hostCalls cs w ≡ hostOf (calls machine cs (worldFromHost w))
+host-calls : (halt : ℕ) (cs : List Call) (w : HostWorld) → flagsFit (w .state) ≡ true
+    → hostCalls halt cs w ≡ hostOf (calls (machine (haltOf halt)) cs (worldFromHost w))
 unfolding hostCalls calls hostResults
-host-calls [] w e = rw (back-kept w e)
-host-calls (c ∷ cs) w e = by-stop (eqb (w .stop) 0) refl (host-calls cs)
+host-calls halt [] w e = rw (back-kept w e)
+host-calls halt (c ∷ cs) w e = by-stop (eqb (w .stop) 0) refl (host-calls halt cs)
   where
     next : World
-    next = afterCallOf (worldFromHost w) (callOf machine c (lentOf (worldFromHost w)))
+    next = afterCallOf (worldFromHost w) (callOf (machine (haltOf halt)) c (lentOf (worldFromHost w)))
 
     by-stop : (t : Bool) → eqb (w .stop) 0 ≡ t
-        → ((v : HostWorld) → flagsFit (v .state) ≡ true → hostCalls cs v ≡ hostOf (calls machine cs (worldFromHost v)))
-        → hostCalls (c ∷ cs) w ≡ hostOf (calls machine (c ∷ cs) (worldFromHost w))
+        → ((v : HostWorld) → flagsFit (v .state) ≡ true → hostCalls halt cs v ≡ hostOf (calls (machine (haltOf halt)) cs (worldFromHost v)))
+        → hostCalls halt (c ∷ cs) w ≡ hostOf (calls (machine (haltOf halt)) (c ∷ cs) (worldFromHost w))
     by-stop true q later =
         rw (q, hostCalls, calls)
-        (rw (called c w e, after-same w (callOf machine c (lentOf (worldFromHost w))), later (hostWorld next) (state-fits (next .state)), world-kept next))
+        (rw (called halt c w e, after-same w (callOf (machine (haltOf halt)) c (lentOf (worldFromHost w))), later (hostWorld next) (state-fits (next .state)), world-kept next))
     by-stop false q later = rw (q, hostCalls, calls) (rw (back-kept w e))
 
 -- ---- a flag is above 1
@@ -65,41 +67,41 @@ flag-number : (clock span : ℕ) (clocks codes : List ℕ) (times words times' w
 unfolding refusalOf
 flag-number clock span clocks codes times words times' words' n = refl
 
-refused-lent : (c : Call) (w : HostWorld) → flagsFit (w .state) ≡ false
-    → hostCalled c (lentOf w) ≡ refusedHanded (hostRefusalOf false (countOf c) w) (lentOf w)
+refused-lent : (halt : ℕ) (c : Call) (w : HostWorld) → flagsFit (w .state) ≡ false
+    → hostCalled halt c (lentOf w) ≡ refusedHanded (hostRefusalOf false (countOf c) w) (lentOf w)
 unfolding hostCall
-refused-lent c w e =
+refused-lent halt c w e =
     rw (
       e,
       flag-number (w .state .clock) (length (w .memory)) (w .inputClocks) (w .inputCodes) (length (lentOf w .outputClocks))
           (length (lentOf w .outputWords)) (length (w .outputClocks)) (length (w .outputWords)) (countOf c),
     )
 
-host-refused : (cs : List Call) (w : HostWorld) → flagsFit (w .state) ≡ false → hostCalls cs w ≡ record { world = w; results = refusedEach cs w }
+host-refused : (halt : ℕ) (cs : List Call) (w : HostWorld) → flagsFit (w .state) ≡ false → hostCalls halt cs w ≡ record { world = w; results = refusedEach cs w }
 unfolding hostCalls refusedEach
-host-refused [] w e = refl
-host-refused (c ∷ cs) w e = by-stop (eqb (w .stop) 0) refl (host-refused cs w e)
+host-refused halt [] w e = refl
+host-refused halt (c ∷ cs) w e = by-stop (eqb (w .stop) 0) refl (host-refused halt cs w e)
   where
-    by-stop : (t : Bool) → eqb (w .stop) 0 ≡ t → hostCalls cs w ≡ record { world = w; results = refusedEach cs w }
-        → hostCalls (c ∷ cs) w ≡ record { world = w; results = refusedEach (c ∷ cs) w }
+    by-stop : (t : Bool) → eqb (w .stop) 0 ≡ t → hostCalls halt cs w ≡ record { world = w; results = refusedEach cs w }
+        → hostCalls halt (c ∷ cs) w ≡ record { world = w; results = refusedEach (c ∷ cs) w }
     by-stop true q later =
         let number = hostRefusalOf false (countOf c) w in
         let none = refusal-no-stop r6501qLimits false (w .state .clock) (length (w .memory)) (w .inputClocks) (w .inputCodes)
         (length (w .outputClocks)) (length (w .outputWords)) (countOf c) in
-        rw (q, hostCalls, refusedEach) (rw (refused-lent c w e, refused-hands-on number w none (eqb-true (w .stop) 0 q), later))
+        rw (q, hostCalls, refusedEach) (rw (refused-lent halt c w e, refused-hands-on number w none (eqb-true (w .stop) 0 q), later))
     by-stop false q later = rw (q, hostCalls, refusedEach)
 
--- ---- Demand 3 of the exported calls, whatever the flags
-pub host-fair : (cs : List Call) (w : HostWorld) → Room w → HostFair cs w
-host-fair cs w room = by-flags (flagsFit (w .state)) refl
+-- ---- Demand 3 of the exported calls, whatever the flags and the number that stands for a halt address
+pub host-fair : (halt : ℕ) (cs : List Call) (w : HostWorld) → Room w → HostFair halt cs w
+host-fair halt cs w room = by-flags (flagsFit (w .state)) refl
   where
-    by-flags : (t : Bool) → flagsFit (w .state) ≡ t → hostCalls cs w ≡ cond t (hostPlain cs w) (record { world = w; results = refusedEach cs w })
+    by-flags : (t : Bool) → flagsFit (w .state) ≡ t → hostCalls halt cs w ≡ cond t (hostPlain halt cs w) (record { world = w; results = refusedEach cs w })
     by-flags true e =
-        host-calls cs w e ∙ ap hostOf (fair cs (worldFromHost w) (record { outputClocks = room .outputClocks; outputWords = room .outputWords }))
-    by-flags false e = host-refused cs w e
+        host-calls halt cs w e ∙ ap hostOf (fair (haltOf halt) cs (worldFromHost w) (record { outputClocks = room .outputClocks; outputWords = room .outputWords }))
+    by-flags false e = host-refused halt cs w e
 
 -- the same from any state, memory and lists
-pub host-fair-start : (cs : List Call) (h : HostState) (memory inputClocks inputCodes outputClocks outputWords : List ℕ)
-    → HostFair cs (callStart h memory inputClocks inputCodes outputClocks outputWords)
-host-fair-start cs h memory inputClocks inputCodes outputClocks outputWords =
-    host-fair cs _ (record { outputClocks = omega arith; outputWords = omega arith })
+pub host-fair-start : (halt : ℕ) (cs : List Call) (h : HostState) (memory inputClocks inputCodes outputClocks outputWords : List ℕ)
+    → HostFair halt cs (callStart h memory inputClocks inputCodes outputClocks outputWords)
+host-fair-start halt cs h memory inputClocks inputCodes outputClocks outputWords =
+    host-fair halt cs _ (record { outputClocks = omega arith; outputWords = omega arith })

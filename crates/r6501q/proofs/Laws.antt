@@ -10,6 +10,7 @@ use borrow.Author.Tests.{leb-true, eqb-true, eqb-false, eq-eqb}
 use Rattle.bits.specs.Bits.{digit}
 use Rattle.bits.proofs.Cond.{and-left, and-right, and-both, cond-both}
 use Rattle.memory.specs.Memory.{memorySpan}
+use Rattle.cpu_access.specs.declared.halt.Halt.{Halt}
 use Rattle.refusals.specs.Refusals.{refusalOf}
 use Rattle.leaps.specs.Lists.{Call, singleClock, runFor, countOf, callOf, stepOf, runOf}
 use Rattle.leaps.specs.Calls.{refusedHanded, refusalIn}
@@ -20,7 +21,7 @@ use Rattle.r6501q.specs.declared.host.HostDue.{HostDue}
 use Rattle.r6501q.specs.declared.host.HostPeripherals.{HostPeripherals}
 use Rattle.r6501q.specs.declared.host.HostLevels.{HostLevels}
 use Rattle.r6501q.specs.declared.host.HostState.{HostState}
-use Rattle.r6501q.specs.Host.{flagOf, isFlag, levelsFromHost, stateFromHost, flagsFit, hostLevels, hostState}
+use Rattle.r6501q.specs.Host.{flagOf, isFlag, levelsFromHost, stateFromHost, flagsFit, haltOf, hostLevels, hostState}
 use Rattle.r6501q.specs.Calls.{HostWorld, hostWellFormed, worldFromHost, hostHandedOf, hostRefusalOf, hostCall}
 use Rattle.r6501q.specs.Lists.{hostCalled}
 
@@ -87,27 +88,27 @@ same-clock : (h : HostState) → stateFromHost h .clock ≡ h .clock
 unfolding stateFromHost
 same-clock h = refl
 
-library-refused : (c : Call) (v : World) → eqb (refusalIn r6501q (countOf c) v) 0 ≡ false
-    → callOf machine c v ≡ refusedHanded (refusalIn r6501q (countOf c) v) v
+library-refused : (halt : Halt) (c : Call) (v : World) → eqb (refusalIn (r6501q halt) (countOf c) v) 0 ≡ false
+    → callOf (machine halt) c v ≡ refusedHanded (refusalIn (r6501q halt) (countOf c) v) v
 unfolding callOf countOf stepOf runOf
-library-refused singleClock v e = rw e
-library-refused (runFor n) v e = rw e
+library-refused halt singleClock v e = rw e
+library-refused halt (runFor n) v e = rw e
 
 -- A refused exported call, single clock or run, hands back the very state that it got, the lists as they were, and the number of the first
--- row of the table that is so, a flag above 1 being a state that is not well-formed.
-pub exported-refused : (c : Call) (w : HostWorld) → eqb (hostRefusalOf (hostWellFormed (w .state)) (countOf c) w) 0 ≡ false
-    → hostCalled c w ≡ refusedHanded (hostRefusalOf (hostWellFormed (w .state)) (countOf c) w) w
+-- row of the table that is so, a flag above 1 being a state that is not well-formed. No halt address changes that.
+pub exported-refused : (halt : ℕ) (c : Call) (w : HostWorld) → eqb (hostRefusalOf (hostWellFormed (w .state)) (countOf c) w) 0 ≡ false
+    → hostCalled halt c w ≡ refusedHanded (hostRefusalOf (hostWellFormed (w .state)) (countOf c) w) w
 unfolding hostCall
-exported-refused c w e = by-flags (flagsFit (w .state)) refl
+exported-refused halt c w e = by-flags (flagsFit (w .state)) refl
   where
     n : ℕ
     n = countOf c
 
-    by-flags : (t : Bool) → flagsFit (w .state) ≡ t → hostCalled c w ≡ refusedHanded (hostRefusalOf (hostWellFormed (w .state)) n w) w
+    by-flags : (t : Bool) → flagsFit (w .state) ≡ t → hostCalled halt c w ≡ refusedHanded (hostRefusalOf (hostWellFormed (w .state)) n w) w
     by-flags true f =
-        let number : refusalIn r6501q n (worldFromHost w) ≡ hostRefusalOf (hostWellFormed (w .state)) n w = rw (f, same-clock (w .state)) in
+        let number : refusalIn (r6501q (haltOf halt)) n (worldFromHost w) ≡ hostRefusalOf (hostWellFormed (w .state)) n w = rw (f, same-clock (w .state)) in
         let v = worldFromHost w in
-        let library : hostCalled c w ≡ hostHandedOf (callOf machine c v) = rw f in
-        let back : hostHandedOf (refusedHanded (refusalIn r6501q n v) v) ≡ refusedHanded (refusalIn r6501q n v) w = rw (host-kept (w .state) f) in
-        library ∙ ap hostHandedOf (library-refused c v (ap (λ (k : ℕ). eqb k 0) number ∙ e)) ∙ back ∙ ap (λ (k : ℕ). refusedHanded k w) number
+        let library : hostCalled halt c w ≡ hostHandedOf (callOf (machine (haltOf halt)) c v) = rw f in
+        let back : hostHandedOf (refusedHanded (refusalIn (r6501q (haltOf halt)) n v) v) ≡ refusedHanded (refusalIn (r6501q (haltOf halt)) n v) w = rw (host-kept (w .state) f) in
+        library ∙ ap hostHandedOf (library-refused (haltOf halt) c v (ap (λ (k : ℕ). eqb k 0) number ∙ e)) ∙ back ∙ ap (λ (k : ℕ). refusedHanded k w) number
     by-flags false f = rw f

@@ -1,5 +1,5 @@
 -- What crosses to and from programs in C and Rust: document 01, "Machine state", with each flag and level as a byte.
-use mathlib.Core.Bool.{Bool, true, false, _&&_}
+use mathlib.Core.Bool.{Bool, true, false, _&&_, cond}
 use Prim.Native.Nat.{ℕ}
 use lib.Dec.{leb, eqb}
 use Rattle.bits.specs.Bits.{digit}
@@ -7,6 +7,8 @@ use Rattle.bit_rate.specs.declared.Found.{Found}
 use Rattle.bit_rate.specs.declared.Found.the-variants.{Fits, Nothing, Refused}
 use Rattle.bit_rate.specs.BitRate.{numberOf}
 use Rattle.counters.specs.declared.b.CounterB.{CounterB}
+use Rattle.cpu_access.specs.declared.halt.Halt.{Halt}
+use Rattle.cpu_access.specs.declared.halt.Halt.the-variants.{Nowhere, At}
 use Rattle.serial.specs.declared.receiver.Receiver.{Receiver}
 use Rattle.r6501q_state.specs.declared.state.Due.{Due}
 use Rattle.r6501q_state.specs.declared.state.Peripherals.{Peripherals}
@@ -77,6 +79,11 @@ flagsFit h =
     && (isFlag (h .peripherals .counterb .turnc) && isFlag (h .peripherals .receiver .half))
     && (isFlag (h .external .nmi) && isFlag (h .external .res))
     && (isFlag (h .last .nmi) && isFlag (h .last .res))
+
+-- 02, U4: "all calls of a list are given the same address, or none": of the host a number, above
+-- 65,535 meaning none
+unfoldable pub haltOf : ℕ → Halt
+haltOf halt = cond (leb halt 65535) (At halt) Nowhere
 
 -- ---- to the host
 

@@ -10,22 +10,22 @@ use Rattle.leaps.specs.Calls as calls
 use Rattle.leaps.specs.Calls.{lentOf, afterCallOf, refusedWith}
 use Rattle.r6501q_step.specs.R6501q.{World, Result, chip, machine}
 use Rattle.r6501q.specs.declared.host.HostState.{HostState}
-use Rattle.r6501q.specs.Host.{flagsFit}
+use Rattle.r6501q.specs.Host.{haltOf, flagsFit}
 use Rattle.r6501q.specs.Calls.{HostWorld, HostHanded, worldFromHost, hostWorld, hostResultOf, hostRefusalOf, hostCall}
 
 abbrev pub HostListed : Type 0
 HostListed = Listed HostWorld (calls.ResultOf HostState)
 
 -- an exported call: the definitions that the contracts of `r6501q_step` and `r6501q_run` cite
-abbrev pub hostCalled : Call → HostWorld → HostHanded
-hostCalled c w = hostCall (callOf machine c) (countOf c) w
+abbrev pub hostCalled : ℕ → Call → HostWorld → HostHanded
+hostCalled halt c w = hostCall (callOf (machine (haltOf halt)) c) (countOf c) w
 
--- the exported calls one after the other; "a stop (6, 7) ends the list"
-unfoldable pub hostCalls : List Call → HostWorld → HostListed
-hostCalls [] w = record { world = w; results = [] }
-hostCalls (c ∷ cs) w =
+-- the exported calls one after the other, each given the same number; "a stop (6, 7) ends the list", and so does 12
+unfoldable pub hostCalls : ℕ → List Call → HostWorld → HostListed
+hostCalls halt [] w = record { world = w; results = [] }
+hostCalls halt (c ∷ cs) w =
     elim (eqb (w .stop) 0) [
-      | true ↦ let h = hostCalled c (lentOf w) in listed (h .result) (hostCalls cs (afterCallOf w h))
+      | true ↦ let h = hostCalled halt c (lentOf w) in listed (h .result) (hostCalls halt cs (afterCallOf w h))
       | false ↦ record { world = w; results = [] }
     ]
 
@@ -37,12 +37,12 @@ hostResults (r ∷ rs) = hostResultOf r ∷ hostResults rs
 -- ---- by plain clocks alone
 
 -- where each flag is 0 or 1: what n plain clocks of the library's world say
-abbrev pub hostPlain : List Call → HostWorld → HostListed
-hostPlain cs w =
+abbrev pub hostPlain : ℕ → List Call → HostWorld → HostListed
+hostPlain halt cs w =
     let v = worldFromHost w in
     record {
-      world = hostWorld (plains chip (clocksAccepted machine cs v) v);
-      results = hostResults (resultsBy machine cs v);
+      world = hostWorld (plains (chip (haltOf halt)) (clocksAccepted (machine (haltOf halt)) cs v) v);
+      results = hostResults (resultsBy (machine (haltOf halt)) cs v);
     }
 
 -- where a flag is above 1: each call is refused and hands on what it got
@@ -54,7 +54,8 @@ refusedEach (c ∷ cs) w =
       | false ↦ []
     ]
 
--- Demand 3 of the exported calls, of a list of them and any start
-abbrev pub HostFair : List Call → HostWorld → Type 0
-HostFair cs w =
-    hostCalls cs w ≡ cond (flagsFit (w .state)) (hostPlain cs w) (record { world = w; results = refusedEach cs w })
+-- Demand 3 of the exported calls, of a list of them, the number that each is given, and any start
+abbrev pub HostFair : ℕ → List Call → HostWorld → Type 0
+HostFair halt cs w =
+    hostCalls halt cs w
+    ≡ cond (flagsFit (w .state)) (hostPlain halt cs w) (record { world = w; results = refusedEach cs w })

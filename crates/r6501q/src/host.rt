@@ -1,11 +1,12 @@
 // The state and what is handed back as the host, a program in C or Rust, holds them: each flag and level is a byte, 0
 // or 1.
 ghost use mathlib.Core.Path.{_≡_};
-ghost use Rattle.r6501q.specs.Host.{dueFromHost, counterBFromHost, receiverFromHost, levelsFromHost, peripheralsFromHost, stateFromHost, flagsFit, hostDue, hostCounterB, hostReceiver, hostLevels, hostPeripherals, hostState, hostResult, hostLoadResult, hostLatchResult};
+ghost use Rattle.r6501q.specs.Host.{dueFromHost, counterBFromHost, receiverFromHost, levelsFromHost, peripheralsFromHost, stateFromHost, flagsFit, haltOf, hostDue, hostCounterB, hostReceiver, hostLevels, hostPeripherals, hostState, hostResult, hostLoadResult, hostLatchResult};
 use bit_rate::Found;
 use bits::digit8;
 use counters::a::CounterA;
 use counters::b::CounterB;
+use cpu_access::halt::Halt;
 use r6501q_state::state::Control;
 use r6501q_state::state::Cpu;
 use r6501q_state::state::Due;
@@ -175,6 +176,16 @@ pub fn flags_fit(h: HostState) -> bool
         & ((h.peripherals.counterb.turnc <= 1) & (h.peripherals.receiver.half <= 1))
         & ((h.external.nmi <= 1) & (h.external.res <= 1))
         & ((h.last.nmi <= 1) & (h.last.res <= 1))
+}
+
+// The halt address that the host's number stands for; none above 65,535.
+pub fn halt_of(halt: u32) -> Halt
+    ensures { λ r. ⌜ r ≡ haltOf halt ⌝ }
+{
+    if halt <= 65535 {
+        return Halt::At(halt as u16);
+    }
+    Halt::Nowhere
 }
 
 // To the host.

@@ -7,7 +7,7 @@ ghost use Rattle.leaps.specs.Lists.{stepOf, runOf, plainRunOf};
 ghost use Rattle.leaps.specs.Calls.{callStart};
 ghost use Rattle.r6501q_state.specs.State.{fresh};
 ghost use Rattle.r6501q_step.specs.R6501q.{r6501qLimits, machine};
-ghost use Rattle.r6501q.specs.Host.{hostState, hostRefused};
+ghost use Rattle.r6501q.specs.Host.{haltOf, hostState, hostRefused};
 ghost use Rattle.r6501q.specs.Calls.{hostWellFormed, hostHanded, hostCall, hostLoad, hostLoaded, hostLatch};
 use bits::digit8;
 use host::HostLatchResult;
@@ -15,6 +15,7 @@ use host::HostLoadResult;
 use host::HostResult;
 use host::HostState;
 use host::flags_fit;
+use host::halt_of;
 use host::host_latch_result;
 use host::host_load_result;
 use host::host_result;
@@ -79,7 +80,7 @@ pub extern "C" fn r6501q_well_formed(state: HostState) -> u8
     digit8(fit)
 }
 
-// The single-clock call.
+// The single-clock call. `halt` is the halt address; above 65,535: none.
 #[no_mangle]
 pub extern "C" fn r6501q_step(
     state: HostState,
@@ -88,9 +89,10 @@ pub extern "C" fn r6501q_step(
     inputcodes: &[u8],
     outputclocks: &mut [u32],
     outputwords: &mut [u32],
+    halt: u32,
 ) -> HostResult
     ensures { λ r. ⌜ hostHanded r (now (memory .exit)) (now (outputclocks .exit)) (now (outputwords .exit))
-        ≡ hostCall (stepOf machine) 1 (callStart state (now (memory .entry)) (now (inputclocks .entry))
+        ≡ hostCall (stepOf (machine (haltOf halt))) 1 (callStart state (now (memory .entry)) (now (inputclocks .entry))
         (now (inputcodes .entry)) (now (outputclocks .entry)) (now (outputwords .entry))) ⌝ }
 {
     if !flags_fit(state) {
@@ -111,11 +113,12 @@ pub extern "C" fn r6501q_step(
         inputcodes,
         outputclocks,
         outputwords,
+        halt_of(halt),
     );
     host_result(result)
 }
 
-// The call for n clocks, by leaps.
+// The call for n clocks, by leaps. `halt` is the halt address; above 65,535: none.
 #[no_mangle]
 pub extern "C" fn r6501q_run(
     state: HostState,
@@ -125,12 +128,13 @@ pub extern "C" fn r6501q_run(
     outputclocks: &mut [u32],
     outputwords: &mut [u32],
     n: u32,
+    halt: u32,
 ) -> HostResult
     ensures { λ r. ⌜ hostHanded r (now (memory .exit)) (now (outputclocks .exit)) (now (outputwords .exit))
-        ≡ hostCall (runOf machine n) n (callStart state (now (memory .entry)) (now (inputclocks .entry))
+        ≡ hostCall (runOf (machine (haltOf halt)) n) n (callStart state (now (memory .entry)) (now (inputclocks .entry))
         (now (inputcodes .entry)) (now (outputclocks .entry)) (now (outputwords .entry))) ⌝ }
     ensures { λ r. ⌜ hostHanded r (now (memory .exit)) (now (outputclocks .exit)) (now (outputwords .exit))
-        ≡ hostCall (plainRunOf machine n) n (callStart state (now (memory .entry)) (now (inputclocks .entry))
+        ≡ hostCall (plainRunOf (machine (haltOf halt)) n) n (callStart state (now (memory .entry)) (now (inputclocks .entry))
         (now (inputcodes .entry)) (now (outputclocks .entry)) (now (outputwords .entry))) ⌝ }
 {
     if !flags_fit(state) {
@@ -152,6 +156,7 @@ pub extern "C" fn r6501q_run(
         outputclocks,
         outputwords,
         n,
+        halt_of(halt),
     );
     host_result(result)
 }

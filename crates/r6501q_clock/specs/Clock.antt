@@ -95,6 +95,10 @@ undefinedStop = 6
 abbrev pub fullStop : ℕ
 fullStop = 7
 
+-- 02, U4: "12: halted at a write"
+abbrev pub haltStop : ℕ
+haltStop = 12
+
 abbrev pub endedWith : Next → ℕ → Bool → Ended
 endedWith next word differs = record { state = next .state; writes = next .writes; word = word; differs = differs }
 

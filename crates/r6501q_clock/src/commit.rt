@@ -23,6 +23,9 @@ pub fn commit(memory: &mut [u8], w: Writes)
     ensures { λ _. ⌜ now (memory .exit) ≡ committed (now (memory .entry)) w ⌝ }
 {
     put_byte(memory, 0 < w.count, w.first);
+    if w.count < 2 {
+        return;
+    }
     put_byte(memory, 1 < w.count, w.second);
     put_byte(memory, 2 < w.count, w.third);
 }

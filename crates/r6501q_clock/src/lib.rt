@@ -23,6 +23,9 @@ const UNDEFINED: u8 = 6;
 // The next clock needs a record, and no entry is free.
 const FULL: u8 = 7;
 
+// The clock that was done wrote the halt address.
+pub const HALTED: u8 = 12;
+
 // A clock that is done: the state after it, what it writes, and its driven word.
 pub struct Ended {
     pub state: State,

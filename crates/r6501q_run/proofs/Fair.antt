@@ -4,6 +4,7 @@ use mathlib.Core.Bool.{true}
 use mathlib.Core.List.{List, [], _∷_}
 use Prim.Native.Nat.{ℕ, _+_, _≤_, _<_}
 use lib.ListN.{length, getD}
+use Rattle.cpu_access.specs.declared.halt.Halt.{Halt}
 use Rattle.refusals.specs.Refusals.{lastClock}
 use Rattle.leaps.specs.Leaps.{trace, leadingQuiet}
 use Rattle.leaps.specs.World.{runningIn}
@@ -19,30 +20,34 @@ use Rattle.r6501q_run.proofs.Laws.{laws}
 -- DEMAND 3. "Leaping equals stepping, for every well-formed start and every list of calls (single clocks and runs of any count, refused
 -- ones included)" (`calls`): "state, memory, outputs, stop and counts are those of n plain clocks" (`plains`, n being `clocksAccepted`, the
 -- counts of the calls not refused), "and the leap count is document 01's" (`resultsBy`: of each call, with its number). It holds of damaged
--- starts too, whose calls are refused.
-pub fair : (cs : List Call) (w : World) → Room w → Fair cs w
-fair cs w room = theory.fair r6501q laws cs w room
+-- starts too, whose calls are refused, and for every halt address or none: "In demand 3 all calls of a list are given the same address, or
+-- none, and a plain clock with such a write is done, then stops with 12." (02, U4)
+pub fair : (halt : Halt) (cs : List Call) (w : World) → Room w → Fair halt cs w
+fair halt cs w room = theory.fair (r6501q halt) (laws halt) cs w room
 
 -- the same from any state, memory and lists: a start has nothing written, so that it needs no premise
-pub fair-start : (cs : List Call) (s : State) (memory inputClocks inputCodes outputClocks outputWords : List ℕ)
-    → Fair cs (callStart s memory inputClocks inputCodes outputClocks outputWords)
-fair-start cs s memory inputClocks inputCodes outputClocks outputWords =
-    theory.fair-start r6501q laws cs s memory inputClocks inputCodes outputClocks outputWords
+pub fair-start : (halt : Halt) (cs : List Call) (s : State) (memory inputClocks inputCodes outputClocks outputWords : List ℕ)
+    → Fair halt cs (callStart s memory inputClocks inputCodes outputClocks outputWords)
+fair-start halt cs s memory inputClocks inputCodes outputClocks outputWords =
+    theory.fair-start (r6501q halt) (laws halt) cs s memory inputClocks inputCodes outputClocks outputWords
 
 -- the single-clock call is a run of 1
-pub single-run : (w : World) → stepOf machine w ≡ plainRunOf machine 1 w
-single-run w = theory.single-run r6501q laws w
+pub single-run : (halt : Halt) (w : World) → stepOf (machine halt) w ≡ plainRunOf (machine halt) 1 w
+single-run halt w = theory.single-run (r6501q halt) (laws halt) w
 
 -- "the gap (clocks before the next event clock, at most those left)", of the clocks that plain clocks do
-pub gap-leading : (n : ℕ) (w : World) → Fit r6501q w → runningIn w ≡ true → gapOf n (w .state) (w .inputClocks) .0 ≡ leadingQuiet (trace chip n w)
-gap-leading n w f on = theory.gap-leading r6501q laws n w f on
+pub gap-leading : (halt : Halt) (n : ℕ) (w : World) → Fit (r6501q halt) w → runningIn w ≡ true
+    → gapOf n (w .state) (w .inputClocks) .0 ≡ leadingQuiet (trace (chip halt) n w)
+gap-leading halt n w f on = theory.gap-leading (r6501q halt) (laws halt) n w f on
 
 -- a run of a + b that fits the clock, cut into a and then b over the rest of the lists, ends the same in all but the leap count
-pub cut : (a b : ℕ) (w : World) → Fit r6501q w → w .stop ≡ 0 → w .state .clock + (a + b) ≤ lastClock
-    → calls machine (runFor a ∷ runFor b ∷ []) w .world ≡ calls machine (runFor (a + b) ∷ []) w .world
-cut a b w f on h = theory.cut r6501q laws a b w f on h
+pub cut : (halt : Halt) (a b : ℕ) (w : World) → Fit (r6501q halt) w → w .stop ≡ 0 → w .state .clock + (a + b) ≤ lastClock
+    → calls (machine halt) (runFor a ∷ runFor b ∷ []) w .world ≡ calls (machine halt) (runFor (a + b) ∷ []) w .world
+cut halt a b w f on h = theory.cut (r6501q halt) (laws halt) a b w f on h
 
 -- P7, "cut after a clocks from clock 0, an input on clock a is the first half's": none of clock a or before is left to the second
-pub first-half : (a : ℕ) (w : World) → Fit r6501q w → w .state .clock ≡ 0 → a ≤ lastClock → calls machine (runFor a ∷ []) w .world .stop ≡ 0
-    → (k : ℕ) → k < length (calls machine (runFor a ∷ []) w .world .inputClocks) → a < getD (calls machine (runFor a ∷ []) w .world .inputClocks) k 0
-first-half a w f start h on k within = theory.first-half r6501q laws a w f start h on k within
+pub first-half : (halt : Halt) (a : ℕ) (w : World) → Fit (r6501q halt) w → w .state .clock ≡ 0 → a ≤ lastClock
+    → calls (machine halt) (runFor a ∷ []) w .world .stop ≡ 0
+    → (k : ℕ) → k < length (calls (machine halt) (runFor a ∷ []) w .world .inputClocks)
+    → a < getD (calls (machine halt) (runFor a ∷ []) w .world .inputClocks) k 0
+first-half halt a w f start h on k within = theory.first-half (r6501q halt) (laws halt) a w f start h on k within

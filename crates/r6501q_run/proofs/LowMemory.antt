@@ -6,6 +6,7 @@ use Prim.Native.Nat.{ℕ, _≤_}
 use lib.Dec.{eqb}
 use lib.ListN.{length}
 use Rattle.bits.proofs.Cond.{cond-along}
+use Rattle.cpu_access.specs.declared.halt.Halt.{Halt}
 use Rattle.memory.specs.Memory.{registerEnd, withLow}
 use Rattle.memory.proofs.Low.{low-length}
 use Rattle.leaps.specs.Leaps.{plains, movedOf, run}
@@ -25,18 +26,18 @@ loweredHanded low h = record {
 }
 
 -- Two memories that agree from 40h on: the same results and records, the same bytes from 40h on, and each its own bytes below.
-module _ (low : List ℕ) (whole : length low ≡ registerEnd) where
-  pub plains-low : (n : ℕ) (w : World) → plains chip n (lowered low w) ≡ lowered low (plains chip n w)
-  plains-low = plains-along chip (lowered low) (unseen low whole)
+module _ (halt : Halt) (low : List ℕ) (whole : length low ≡ registerEnd) where
+  pub plains-low : (n : ℕ) (w : World) → plains (chip halt) n (lowered low w) ≡ lowered low (plains (chip halt) n w)
+  plains-low = plains-along (chip halt) (lowered low) (unseen low whole halt)
 
-  pub run-low : (n : ℕ) (w : World) → registerEnd ≤ length (w .memory) → runOf machine n (lowered low w) ≡ loweredHanded low (runOf machine n w)
+  pub run-low : (n : ℕ) (w : World) → registerEnd ≤ length (w .memory) → runOf (machine halt) n (lowered low w) ≡ loweredHanded low (runOf (machine halt) n w)
   unfolding runOf
   run-low n w h =
-      rw (low-length low (w .memory) whole h, run-along chip (lowered low) (unseen low whole) n w)
-      (sym (cond-along (loweredHanded low) (eqb (refusalIn r6501q n w) 0) (handedRun machine (run chip n w)) (refusedCall r6501q n w) refl refl))
+      rw (low-length low (w .memory) whole h, run-along (chip halt) (lowered low) (unseen low whole halt) n w)
+      (sym (cond-along (loweredHanded low) (eqb (refusalIn (r6501q halt) n w) 0) (handedRun (machine halt) (run (chip halt) n w)) (refusedCall (r6501q halt) n w) refl refl))
 
-  pub step-low : (w : World) → registerEnd ≤ length (w .memory) → stepOf machine (lowered low w) ≡ loweredHanded low (stepOf machine w)
+  pub step-low : (w : World) → registerEnd ≤ length (w .memory) → stepOf (machine halt) (lowered low w) ≡ loweredHanded low (stepOf (machine halt) w)
   unfolding stepOf
   step-low w h =
-      rw (low-length low (w .memory) whole h, plain-low low whole w, moved-along chip (lowered low) (unseen low whole) w (plain w))
-      (sym (cond-along (loweredHanded low) (eqb (refusalIn r6501q 1 w) 0) (handedBackOf (movedOf chip w (plain w)) (plain w)) (refusedCall r6501q 1 w) refl refl))
+      rw (low-length low (w .memory) whole h, plain-low low whole halt w, moved-along (chip halt) (lowered low) (unseen low whole halt) w (plain halt w))
+      (sym (cond-along (loweredHanded low) (eqb (refusalIn (r6501q halt) 1 w) 0) (handedBackOf (movedOf (chip halt) w (plain halt w)) (plain halt w)) (refusedCall (r6501q halt) 1 w) refl refl))

@@ -10,6 +10,7 @@ use lib.ListN.{length, drop, length-drop}
 use borrow.Author.Tests.{ltb-true, ltb-false, lt-ltb, le-ltb, eq-eqb, ne-eqb, eqb-true}
 use Rattle.bits.proofs.Cond.{cond-both, digit-le, and-left, and-right}
 use Rattle.counters.specs.declared.time.Clocks.{Clocks}
+use Rattle.cpu_access.specs.declared.halt.Halt.{Halt}
 use Rattle.refusals.specs.Refusals.{lastClock, refusalOf}
 use Rattle.refusals.proofs.Accepted.{accepted}
 use Rattle.leaps.specs.Leaps.{Run, leapOf, leftAfter, movedOf, run}
@@ -45,14 +46,14 @@ pub record Leapt (n : ℕ) (w v : World) : Type 0 where
   pub outputWords : length (v .outputWords) ≡ length (w .outputWords)
   pub written : w .written ≤ length (w .outputClocks) → v .written ≤ length (w .outputClocks)
 
-pub leap-goes : (n : ℕ) (w : World) → Leapt n w (leapOf chip n w)
+pub leap-goes : (halt : Halt) (n : ℕ) (w : World) → Leapt n w (leapOf (chip halt) n w)
 unfolding leapOf
-leap-goes n w =
+leap-goes halt n w =
     let g = gapIn n w in
-    let at = passIn r6501q g w in
+    let at = passIn (r6501q halt) g w in
     let passed = pass-clock (w .state) g in
-    cond-both (Leapt n w) (ltb g n) (plain at) at
-    (λ e. let less = ltb-true g n e in let a = plain-advances r6501q laws at in
+    cond-both (Leapt n w) (ltb g n) (plain halt at) at
+    (λ e. let less = ltb-true g n e in let a = plain-advances (r6501q halt) (laws halt) at in
     record {
       clock = omega (arith, a .clock);
       read = a .read;
@@ -65,23 +66,23 @@ leap-goes n w =
     record { clock = omega arith; read = omega arith; memory = refl; outputClocks = refl; outputWords = refl; written = λ h. h })
 
 -- one leap of a run
-pub leap-run : (n leaps : ℕ) (w v : World) → 0 < n → runningIn w ≡ true → v ≡ leapOf chip n w
+pub leap-run : (halt : Halt) (n leaps : ℕ) (w v : World) → 0 < n → runningIn w ≡ true → v ≡ leapOf (chip halt) n w
     → _≡_ {A = Run World}
     (record {
-      world = run chip (n - (gapIn n w + 1)) v .world;
-      leaps = leaps + leapsFrom (w .state .clock) (v .state .clock) + run chip (n - (gapIn n w + 1)) v .leaps;
+      world = run (chip halt) (n - (gapIn n w + 1)) v .world;
+      leaps = leaps + leapsFrom (w .state .clock) (v .state .clock) + run (chip halt) (n - (gapIn n w + 1)) v .leaps;
     })
-    (record { world = run chip n w .world; leaps = leaps + run chip n w .leaps })
+    (record { world = run (chip halt) n w .world; leaps = leaps + run (chip halt) n w .leaps })
 unfolding movedOf
-leap-run n leaps w v h z e = rw (run-leap chip lawful n w h z, e, add-assoc)
+leap-run halt n leaps w v h z e = rw (run-leap (chip halt) (lawful halt) n w h z, e, add-assoc)
 
-module _ (memory clocks codes times words memory' times' words' : List ℕ) (p q : Progress) (n : ℕ) (l : Leaping p n clocks codes times words)
-    (e : worldOf q memory' clocks codes times' words' ≡ leapOf chip n (worldOf p memory clocks codes times words)) where
+module _ (halt : Halt) (memory clocks codes times words memory' times' words' : List ℕ) (p q : Progress) (n : ℕ) (l : Leaping p n clocks codes times words)
+    (e : worldOf q memory' clocks codes times' words' ≡ leapOf (chip halt) n (worldOf p memory clocks codes times words)) where
   abbrev w : World
   w = worldOf p memory clocks codes times words
 
   went : Leapt n w (worldOf q memory' clocks codes times' words')
-  went = rw e (leap-goes n w)
+  went = rw e (leap-goes halt n w)
 
   -- and what holds at its end
   pub leaping-on : Leaping q (n - (gapIn n w + 1)) clocks codes times' words'
@@ -94,23 +95,23 @@ module _ (memory clocks codes times words memory' times' words' : List ℕ) (p q
   }
 
 -- a run that goes on no more
-pub run-ended : (l : Leaped) (memory clocks codes times words : List ℕ) → goesOn l ≡ false
-    → runEnded l memory clocks codes times words ≡ runFrom l memory clocks codes times words
-run-ended l memory clocks codes times words e =
-    rw (run-over chip lawful (l .left .0) (worldOf (l .progress) memory clocks codes times words) e, add-zero (l .leaps))
+pub run-ended : (halt : Halt) (l : Leaped) (memory clocks codes times words : List ℕ) → goesOn l ≡ false
+    → runEnded l memory clocks codes times words ≡ runFrom halt l memory clocks codes times words
+run-ended halt l memory clocks codes times words e =
+    rw (run-over (chip halt) (lawful halt) (l .left .0) (worldOf (l .progress) memory clocks codes times words) e, add-zero (l .leaps))
 
 -- the run by leaps is the run by plain clocks, with document 01's count, from any start
-pub runs-plainly : (n : ℕ) (s : State) (memory clocks codes times words : List ℕ)
-    → runOf machine n (callStart s memory clocks codes times words) ≡ plainRunOf machine n (callStart s memory clocks codes times words)
-runs-plainly n s memory clocks codes times words =
-    theory.runs-plainly r6501q laws n (callStart s memory clocks codes times words) (record { outputClocks = omega arith; outputWords = omega arith })
+pub runs-plainly : (halt : Halt) (n : ℕ) (s : State) (memory clocks codes times words : List ℕ)
+    → runOf (machine halt) n (callStart s memory clocks codes times words) ≡ plainRunOf (machine halt) n (callStart s memory clocks codes times words)
+runs-plainly halt n s memory clocks codes times words =
+    theory.runs-plainly (r6501q halt) (laws halt) n (callStart s memory clocks codes times words) (record { outputClocks = omega arith; outputWords = omega arith })
 
 -- a refused call
-pub run-refused : (n : ℕ) (s : State) (memory clocks codes times words : List ℕ) (number : ℕ)
+pub run-refused : (halt : Halt) (n : ℕ) (s : State) (memory clocks codes times words : List ℕ) (number : ℕ)
     → number ≡ refusalOf r6501qLimits (wellFormed s) (s .clock) (length memory) clocks codes (length times) (length words) n → (number ≡ 0 → ⊥)
-    → handed (refusalResult number s) memory times words ≡ runOf machine n (callStart s memory clocks codes times words)
+    → handed (refusalResult number s) memory times words ≡ runOf (machine halt) n (callStart s memory clocks codes times words)
 unfolding runOf
-run-refused n s memory clocks codes times words number e some = rw (← e, ne-eqb number 0 some)
+run-refused halt n s memory clocks codes times words number e some = rw (← e, ne-eqb number 0 some)
 
 module _ (s : State) (n : ℕ) (memory clocks codes times words : List ℕ)
     (good : refusalOf r6501qLimits (wellFormed s) (s .clock) (length memory) clocks codes (length times) (length words) n ≡ 0) where
@@ -130,12 +131,12 @@ module _ (s : State) (n : ℕ) (memory clocks codes times words : List ℕ)
       omega (arith, a .most)
 
   -- and hands back what its leaps leave
-  pub runs : (l : Leaped) (memory' times' words' : List ℕ)
-      → runEnded l memory' clocks codes times' words' ≡ runFrom (beginRun s n) memory clocks codes times words
-      → handed (progressResult (l .leaps) (l .progress)) memory' times' words' ≡ runOf machine n start
+  pub runs : (halt : Halt) (l : Leaped) (memory' times' words' : List ℕ)
+      → runEnded l memory' clocks codes times' words' ≡ runFrom halt (beginRun s n) memory clocks codes times words
+      → handed (progressResult (l .leaps) (l .progress)) memory' times' words' ≡ runOf (machine halt) n start
   unfolding runOf
-  runs l memory' times' words' e =
-      rw (eq-eqb _ 0 good) (ap (handedRun machine) e ∙ ap (λ k. handedBackOf k (run chip n start .world)) (zero-add (run chip n start .leaps)))
+  runs halt l memory' times' words' e =
+      rw (eq-eqb _ 0 good) (ap (handedRun (machine halt)) e ∙ ap (λ k. handedBackOf k (run (chip halt) n start .world)) (zero-add (run (chip halt) n start .leaps)))
 
 -- ---- the code's parts
 
@@ -159,31 +160,33 @@ passed-goes p n clocks codes times words gap l on h = record {
 }
 
 -- a leap that reaches its event clock, and one that ends before
-pub leap-reaches : (n : ℕ) (w : World) (gap : Clocks) → gap ≡ gapOf n (w .state) (w .inputClocks) → gap .0 < n → plain (passIn r6501q (gap .0) w) ≡ leapOf chip n w
+pub leap-reaches : (halt : Halt) (n : ℕ) (w : World) (gap : Clocks) → gap ≡ gapOf n (w .state) (w .inputClocks) → gap .0 < n
+    → plain halt (passIn (r6501q halt) (gap .0) w) ≡ leapOf (chip halt) n w
 unfolding leapOf
-leap-reaches n w gap e h = rw (← e, lt-ltb (gap .0) n h)
+leap-reaches halt n w gap e h = rw (← e, lt-ltb (gap .0) n h)
 
-pub leap-falls-short : (n : ℕ) (w : World) (gap : Clocks) → gap ≡ gapOf n (w .state) (w .inputClocks) → n ≤ gap .0 → passIn r6501q (gap .0) w ≡ leapOf chip n w
+pub leap-falls-short : (halt : Halt) (n : ℕ) (w : World) (gap : Clocks) → gap ≡ gapOf n (w .state) (w .inputClocks) → n ≤ gap .0
+    → passIn (r6501q halt) (gap .0) w ≡ leapOf (chip halt) n w
 unfolding leapOf
-leap-falls-short n w gap e h = rw (← e, le-ltb (gap .0) n h)
+leap-falls-short halt n w gap e h = rw (← e, le-ltb (gap .0) n h)
 
 -- a leap more of a run
-module _ (memory clocks codes times words memory' times' words' : List ℕ) (at r : Leaped)
+module _ (halt : Halt) (memory clocks codes times words memory' times' words' : List ℕ) (at r : Leaped)
     (l : Leaping (at .progress) (at .left .0) clocks codes times words) (some : 0 < at .left .0) (on : at .progress .stop ≡ 0)
     (bound : at .leaps + at .left .0 ≤ lastClock)
-    (e : worldOf (r .progress) memory' clocks codes times' words' ≡ leapOf chip (at .left .0) (worldOf (at .progress) memory clocks codes times words))
-    (left : r .left ≡ clocksOf (leftAfter chip (at .left .0) (worldOf (at .progress) memory clocks codes times words)))
+    (e : worldOf (r .progress) memory' clocks codes times' words' ≡ leapOf (chip halt) (at .left .0) (worldOf (at .progress) memory clocks codes times words))
+    (left : r .left ≡ clocksOf (leftAfter (chip halt) (at .left .0) (worldOf (at .progress) memory clocks codes times words)))
     (leaps : r .leaps ≡ at .leaps + leapsFrom (at .progress .state .clock) (r .progress .state .clock)) where
   abbrev before : World
   before = worldOf (at .progress) memory clocks codes times words
 
-  pub later-run : runFrom r memory' clocks codes times' words' ≡ runFrom at memory clocks codes times words
+  pub later-run : runFrom halt r memory' clocks codes times' words' ≡ runFrom halt at memory clocks codes times words
   later-run =
       rw (left, leaps)
-      (leap-run (at .left .0) (at .leaps) before (worldOf (r .progress) memory' clocks codes times' words') some (eq-eqb (at .progress .stop) 0 on) e)
+      (leap-run halt (at .left .0) (at .leaps) before (worldOf (r .progress) memory' clocks codes times' words') some (eq-eqb (at .progress .stop) 0 on) e)
 
   pub later-leaping : Leaping (r .progress) (r .left .0) clocks codes times' words'
-  later-leaping = rw left (leaping-on memory clocks codes times words memory' times' words' (at .progress) (r .progress) (at .left .0) l e)
+  later-leaping = rw left (leaping-on halt memory clocks codes times words memory' times' words' (at .progress) (r .progress) (at .left .0) l e)
 
   fewer : r .left .0 ≡ at .left .0 - (gapIn (at .left .0) before + 1)
   fewer = ap (λ (k : Clocks). k .0) left
@@ -200,9 +203,9 @@ pub goes-unstopped : (l : Leaped) → goesOn l ≡ true → l .progress .stop �
 goes-unstopped l e = eqb-true (l .progress .stop) 0 (and-right (ltb 0 (l .left .0)) (eqb (l .progress .stop) 0) e)
 
 -- what the loop keeps: the run of what is left is that of the start
-module _ (start : Leaped) (memory₀ clocks codes times₀ words₀ : List ℕ) where
+module _ (halt : Halt) (start : Leaped) (memory₀ clocks codes times₀ words₀ : List ℕ) where
   pub record Running (memory times words : List ℕ) (at : Leaped) : Type 0 where
-    pub run : runFrom at memory clocks codes times words ≡ runFrom start memory₀ clocks codes times₀ words₀
+    pub run : runFrom halt at memory clocks codes times words ≡ runFrom halt start memory₀ clocks codes times₀ words₀
     pub leaping : Leaping (at .progress) (at .left .0) clocks codes times words
     pub bound : at .leaps + at .left .0 ≤ lastClock
     pub memory-kept : length memory ≡ length memory₀

@@ -8,6 +8,8 @@ use lib.ListN.{length, getD}
 use Rattle.bits.specs.Lists.{tabulate}
 use Rattle.cpu_opcodes.specs.Decode.{decodeOf, countDefined}
 use Rattle.cpu_opcodes.proofs.Laws as opcodes
+use Rattle.cpu_access.specs.declared.halt.Halt.{Halt}
+use Rattle.cpu_access.specs.declared.halt.Halt.the-variants.{Nowhere}
 use Rattle.cpu_alu.specs.Arithmetic.{adcOf}
 use Rattle.cpu_alu.proofs.Examples as alu
 use Rattle.bits.specs.Bits.{bit}
@@ -28,13 +30,13 @@ pub record Examples : Type 0 where
   -- "L = 0: underflow each clock.": of whole clocks with RES low, of which step 1 clears the flags of both counters and step 2 sets them again
   pub p1-cleared : (clock : ℕ) → sensed (inputsSet (clocks.heldLow 0x30 clock) []) ≡ clocks.heldLow 0 (clock + 1)
   pub p1 : (n clock : ℕ) (memory times words : List ℕ)
-      → plains chip n (clocks.startWith (clocks.heldLow 0x30 clock) memory [] [] times words)
+      → plains (chip Nowhere) n (clocks.startWith (clocks.heldLow 0x30 clock) memory [] [] times words)
       ≡ clocks.startWith (clocks.heldLow 0x30 (clock + n)) memory [] [] times words
   -- "L = 5 loaded on clock t: underflow on t + 6.": by STA 1Ah on clock 8; IFR4 after clocks 8 to 14; IFR5 of counter B by STA 1Eh
-  pub p2-loaded : plains chip 8 (clocks.timerStart 0x18 0x1A) .state .peripherals .countera ≡ record { count = 5; latch = 5 }
-  pub p2 : tabulate (λ k. bit 4 (plains chip k (clocks.timerStart 0x18 0x1A) .state .peripherals .control .ifr)) 7 8
+  pub p2-loaded : plains (chip Nowhere) 8 (clocks.timerStart 0x18 0x1A) .state .peripherals .countera ≡ record { count = 5; latch = 5 }
+  pub p2 : tabulate (λ k. bit 4 (plains (chip Nowhere) k (clocks.timerStart 0x18 0x1A) .state .peripherals .control .ifr)) 7 8
       ≡ false ∷ false ∷ false ∷ false ∷ false ∷ false ∷ true ∷ []
-  pub p2-b : tabulate (λ k. bit 5 (plains chip k (clocks.timerStart 0x1C 0x1E) .state .peripherals .control .ifr)) 7 8
+  pub p2-b : tabulate (λ k. bit 5 (plains (chip Nowhere) k (clocks.timerStart 0x1C 0x1E) .state .peripherals .control .ifr)) 7 8
       ≡ false ∷ false ∷ false ∷ false ∷ false ∷ false ∷ true ∷ []
   -- "decimal 58h + 46h + C: 05h, C."
   pub p3 : (n v i z : Bool) → adcOf 0x58 0x46 (record { n = n; v = v; d = true; i = i; z = z; c = true })
@@ -44,14 +46,14 @@ pub record Examples : Type 0 where
       ≡ record { value = 0x80; status = record { n = true; v = true; d = false; i = i; z = false; c = false } }
   -- "41h, 8 bits, no parity, latch 0: 176 clocks from start to idle.": STA 17h on clock 16; the start bit is on the line after clock 17, one
   -- bit is left after clock 192, and after clock 193 it is idle; the line's edges are the chip's records
-  pub p5-start : plains chip 17 clocks.senderStart .state .peripherals .transmitter ≡ record { left = 11; phase = 0; register = 0x682 }
-  pub p5-last-bit : plains chip 192 clocks.senderStart .state .peripherals .transmitter .left ≡ 1
-  pub p5-idle : plains chip 193 clocks.senderStart .state .peripherals .transmitter ≡ idleTransmitter
-  pub p5-edges : plains chip 193 clocks.senderStart .outputClocks ≡ 17 ∷ 33 ∷ 49 ∷ 129 ∷ 145 ∷ 161 ∷ []
+  pub p5-start : plains (chip Nowhere) 17 clocks.senderStart .state .peripherals .transmitter ≡ record { left = 11; phase = 0; register = 0x682 }
+  pub p5-last-bit : plains (chip Nowhere) 192 clocks.senderStart .state .peripherals .transmitter .left ≡ 1
+  pub p5-idle : plains (chip Nowhere) 193 clocks.senderStart .state .peripherals .transmitter ≡ idleTransmitter
+  pub p5-edges : plains (chip Nowhere) 193 clocks.senderStart .outputClocks ≡ 17 ∷ 33 ∷ 49 ∷ 129 ∷ 145 ∷ 161 ∷ []
   -- "one low sub-interval at the receiver: no start.": PA7 low on clocks 1 and 2 by the pin list, a tick on each clock
-  pub p6-low : (register received : ℕ) (memory : List ℕ) → plains chip 2 (clocks.lineStart register received memory) .state .peripherals .receiver
+  pub p6-low : (register received : ℕ) (memory : List ℕ) → plains (chip Nowhere) 2 (clocks.lineStart register received memory) .state .peripherals .receiver
       ≡ record { subinterval = 1; half = false; left = 0; register = register }
-  pub p6 : (register received : ℕ) (memory : List ℕ) → plains chip 4 (clocks.lineStart register received memory) .state .peripherals .receiver
+  pub p6 : (register received : ℕ) (memory : List ℕ) → plains (chip Nowhere) 4 (clocks.lineStart register received memory) .state .peripherals .receiver
       ≡ record { subinterval = 0; half = false; left = 0; register = register }
   -- 02, U1, 41h sent with SCCR A0h, latch 0: taken on clock 1, shifted on each second clock, PA4 low and high for each bit; after clock 17
   -- an under-run, both lines high
@@ -68,8 +70,10 @@ pub record Examples : Type 0 where
       → serial.risenFor (true ∷ false ∷ false ∷ false ∷ false ∷ false ∷ true ∷ false ∷ []) (receiving idleReceiver 0x40 received)
       ≡ receiving (record { subinterval = 0; half = false; left = 0; register = 0x208 }) 0x41 0x41
   -- "cut after a clocks from clock 0, an input on clock a is the first half's."
-  pub p7 : (a : ℕ) (w : World) → Fit r6501q w → w .state .clock ≡ 0 → a ≤ lastClock → calls machine (runFor a ∷ []) w .world .stop ≡ 0
-      → (k : ℕ) → k < length (calls machine (runFor a ∷ []) w .world .inputClocks) → a < getD (calls machine (runFor a ∷ []) w .world .inputClocks) k 0
+  pub p7 : (halt : Halt) (a : ℕ) (w : World) → Fit (r6501q halt) w → w .state .clock ≡ 0 → a ≤ lastClock
+      → calls (machine halt) (runFor a ∷ []) w .world .stop ≡ 0
+      → (k : ℕ) → k < length (calls (machine halt) (runFor a ∷ []) w .world .inputClocks)
+      → a < getD (calls (machine halt) (runFor a ∷ []) w .world .inputClocks) k 0
   -- "183 opcodes are defined."
   pub p8 : countDefined (tabulate decodeOf 256 0) ≡ 183
 

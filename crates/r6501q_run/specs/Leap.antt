@@ -6,6 +6,7 @@ use Prim.Native.Nat.{ℕ, _+_, _-_, _≤_}
 use lib.Dec.{ltb, eqb}
 use lib.ListN.{length}
 use Rattle.counters.specs.declared.time.Clocks.{Clocks}
+use Rattle.cpu_access.specs.declared.halt.Halt.{Halt}
 use Rattle.refusals.specs.Refusals.{lastClock}
 use Rattle.leaps.specs.Leaps.{Run, run}
 use Rattle.r6501q_state.specs.declared.state.State.{State}
@@ -25,9 +26,9 @@ abbrev pub goesOn : Leaped → Bool
 goesOn l = ltb 0 (l .left .0) && eqb (l .progress .stop) 0
 
 -- what the code has come to, and the run of what is left
-abbrev pub runFrom : Leaped → List ℕ → List ℕ → List ℕ → List ℕ → List ℕ → Run World
-runFrom l memory inputClocks inputCodes outputClocks outputWords =
-    let r = run chip (l .left .0) (worldOf (l .progress) memory inputClocks inputCodes outputClocks outputWords) in
+abbrev pub runFrom : Halt → Leaped → List ℕ → List ℕ → List ℕ → List ℕ → List ℕ → Run World
+runFrom halt l memory inputClocks inputCodes outputClocks outputWords =
+    let r = run (chip halt) (l .left .0) (worldOf (l .progress) memory inputClocks inputCodes outputClocks outputWords) in
     record { world = r .world; leaps = l .leaps + r .leaps }
 
 -- and what it has come to once it goes on no more

@@ -7,6 +7,7 @@ use lib.Dec.{eqb}
 use lib.ListN.{drop}
 use Rattle.counters.specs.declared.time.Clocks.{Clocks}
 use Rattle.leaps.specs.Leaps.{ByLeaps}
+use Rattle.cpu_access.specs.declared.halt.Halt.{Halt}
 use Rattle.cpu.specs.declared.quiet.Work.{Work}
 use Rattle.r6501q_gaps.specs.Gaps.{clocksOf}
 use Rattle.r6501q_spans.specs.Spans.{spanOf, workingState}
@@ -36,10 +37,10 @@ spannedTo at w = record {
 -- `r` is reached from `at` by so many whole leaps of document 01's, each the gap, the gap passed and the event clock,
 -- and the count is raised by as many. How many leaps, none at least, is left free. They are the same for any codes
 -- and output lists.
-pub record Spanned (at : Leaped) (memory : List ℕ) (r : Leaped) (memory' inputClocks : List ℕ) : Type 0 where
+pub record Spanned (halt : Halt) (at : Leaped) (memory : List ℕ) (r : Leaped) (memory' inputClocks : List ℕ) : Type 0 where
   pub made : ℕ
   pub byLeaps : (inputCodes outputClocks outputWords : List ℕ)
-      → ByLeaps chip (at .left .0) (worldOf (at .progress) memory inputClocks inputCodes outputClocks outputWords)
+      → ByLeaps (chip halt) (at .left .0) (worldOf (at .progress) memory inputClocks inputCodes outputClocks outputWords)
       made (r .left .0) (worldOf (r .progress) memory' inputClocks inputCodes outputClocks outputWords)
   pub leaps : r .leaps ≡ at .leaps + made
   -- what fits still fits, and no input is read and no record written

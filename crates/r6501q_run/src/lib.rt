@@ -14,6 +14,7 @@ ghost use Rattle.r6501q_run.specs.Leap.{passedBy, goesOn, runFrom, runEn
 ghost use Rattle.r6501q_run.specs.Spanned.{spanFrom, spannedTo, Spanned};
 use counters::time::Clocks;
 use cpu::quiet::Work;
+use cpu_access::halt::Halt;
 use r6501q_spans::begin_work;
 use r6501q_spans::work_once;
 use r6501q_state::state::State;
@@ -77,6 +78,7 @@ fn leap(
     outputclocks: &mut [u32],
     outputwords: &mut [u32],
     entries: &[u16],
+    halt: Halt,
 ) -> Progress
     requires { ⌜ Leaping p (left .0) (now inputclocks) (now inputcodes) (now outputclocks) (now outputwords) ⌝ }
     requires { ⌜ p .stop ≡ 0 ⌝ }
@@ -84,7 +86,7 @@ fn leap(
     requires { ⌜ now entries ≡ opcodeTable ⌝ }
     ensures { λ r. ⌜ worldOf r (now (memory .exit)) (now (inputclocks .entry)) (now (inputcodes .entry))
         (now (outputclocks .exit)) (now (outputwords .exit))
-        ≡ leapOf chip (left .0) (worldOf p (now (memory .entry)) (now (inputclocks .entry)) (now (inputcodes .entry))
+        ≡ leapOf (chip halt) (left .0) (worldOf p (now (memory .entry)) (now (inputclocks .entry)) (now (inputcodes .entry))
         (now (outputclocks .entry)) (now (outputwords .entry))) ⌝ }
 {
     let passed = pass_progress(p, gap);
@@ -97,6 +99,7 @@ fn leap(
             outputclocks,
             outputwords,
             entries,
+            halt,
         );
     }
     passed
@@ -118,6 +121,7 @@ fn leap_once(
     outputclocks: &mut [u32],
     outputwords: &mut [u32],
     entries: &[u16],
+    halt: Halt,
 ) -> Leaped
     requires { ⌜ Leaping (at .progress) (at .left .0) (now inputclocks) (now inputcodes) (now outputclocks)
         (now outputwords) ⌝ }
@@ -126,9 +130,9 @@ fn leap_once(
     requires { ⌜ now entries ≡ opcodeTable ⌝ }
     ensures { λ r. ⌜ worldOf (r .progress) (now (memory .exit)) (now (inputclocks .entry)) (now (inputcodes .entry))
         (now (outputclocks .exit)) (now (outputwords .exit))
-        ≡ leapOf chip (at .left .0) (worldOf (at .progress) (now (memory .entry)) (now (inputclocks .entry))
+        ≡ leapOf (chip halt) (at .left .0) (worldOf (at .progress) (now (memory .entry)) (now (inputclocks .entry))
         (now (inputcodes .entry)) (now (outputclocks .entry)) (now (outputwords .entry))) ⌝ }
-    ensures { λ r. ⌜ r .left ≡ clocksOf (leftAfter chip (at .left .0) (worldOf (at .progress) (now (memory .entry))
+    ensures { λ r. ⌜ r .left ≡ clocksOf (leftAfter (chip halt) (at .left .0) (worldOf (at .progress) (now (memory .entry))
         (now (inputclocks .entry)) (now (inputcodes .entry)) (now (outputclocks .entry))
         (now (outputwords .entry)))) ⌝ }
     ensures { λ r. ⌜ r .leaps ≡ at .leaps + leapsFrom (at .progress .state .clock) (r .progress .state .clock) ⌝ }
@@ -146,6 +150,7 @@ fn leap_once(
         outputclocks,
         outputwords,
         entries,
+        halt,
     );
     let moved = leaps_from(p.state.clock, q.state.clock);
     Leaped {
@@ -194,16 +199,17 @@ fn leap_within(
     memory: &mut [u8],
     inputclocks: &[u32],
     entries: &[u16],
+    halt: Halt,
 ) -> Leaped
     requires { ⌜ (at .progress .state .clock + at .left .0 ≤ 4294967295) × (at .leaps + at .left .0 ≤ 4294967295) ⌝ }
     requires { ⌜ (span ≡ spanFrom at (now inputclocks)) × (0 < span .0) ⌝ }
     requires { ⌜ now entries ≡ opcodeTable ⌝ }
-    ensures { λ r. ⌜ Spanned at (now (memory .entry)) r (now (memory .exit)) (now (inputclocks .entry)) ⌝ }
+    ensures { λ r. ⌜ Spanned halt at (now (memory .entry)) r (now (memory .exit)) (now (inputclocks .entry)) ⌝ }
 {
     let mut w = begin_work(at.progress.state);
     let mut on = true;
     while on {
-        let next = work_once(w, span, memory, entries);
+        let next = work_once(w, span, memory, entries, halt);
         on = w.gone.0 < next.gone.0;
         w = next;
     }
@@ -211,17 +217,23 @@ fn leap_within(
 }
 
 // The leaps of a span, if there is one.
-fn leap_span(at: Leaped, memory: &mut [u8], inputclocks: &[u32], entries: &[u16]) -> Leaped
+fn leap_span(
+    at: Leaped,
+    memory: &mut [u8],
+    inputclocks: &[u32],
+    entries: &[u16],
+    halt: Halt,
+) -> Leaped
     requires { ⌜ (at .progress .state .clock + at .left .0 ≤ 4294967295) × (at .leaps + at .left .0 ≤ 4294967295) ⌝ }
     requires { ⌜ at .progress .read ≤ length (now inputclocks) ⌝ }
     requires { ⌜ now entries ≡ opcodeTable ⌝ }
-    ensures { λ r. ⌜ Spanned at (now (memory .entry)) r (now (memory .exit)) (now (inputclocks .entry)) ⌝ }
+    ensures { λ r. ⌜ Spanned halt at (now (memory .entry)) r (now (memory .exit)) (now (inputclocks .entry)) ⌝ }
 {
     let span = span_from(at, inputclocks);
     if span.0 == 0 {
         return at;
     }
-    leap_within(at, span, memory, inputclocks, entries)
+    leap_within(at, span, memory, inputclocks, entries, halt)
 }
 
 // Leaps, until no clock is left or one stops.
@@ -233,6 +245,7 @@ fn leap_on(
     outputclocks: &mut [u32],
     outputwords: &mut [u32],
     entries: &[u16],
+    halt: Halt,
 ) -> Leaped
     requires { ⌜ Leaping (start .progress) (start .left .0) (now inputclocks) (now inputcodes) (now outputclocks)
         (now outputwords) ⌝ }
@@ -240,7 +253,7 @@ fn leap_on(
     requires { ⌜ now entries ≡ opcodeTable ⌝ }
     ensures { λ r. ⌜ runEnded r (now (memory .exit)) (now (inputclocks .entry)) (now (inputcodes .entry))
         (now (outputclocks .exit)) (now (outputwords .exit))
-        ≡ runFrom start (now (memory .entry)) (now (inputclocks .entry)) (now (inputcodes .entry))
+        ≡ runFrom halt start (now (memory .entry)) (now (inputclocks .entry)) (now (inputcodes .entry))
         (now (outputclocks .entry)) (now (outputwords .entry)) ⌝ }
 {
     let mut at = start;
@@ -253,8 +266,9 @@ fn leap_on(
             outputclocks,
             outputwords,
             entries,
+            halt,
         );
-        at = leap_span(at, memory, inputclocks, entries);
+        at = leap_span(at, memory, inputclocks, entries, halt);
     }
     at
 }
@@ -270,7 +284,7 @@ fn begin_run(state: State, n: u32) -> Leaped
     }
 }
 
-// The call for n clocks.
+// The call for n clocks, which halts after a clock that writes the halt address.
 pub fn run(
     state: State,
     memory: &mut [u8],
@@ -279,12 +293,13 @@ pub fn run(
     outputclocks: &mut [u32],
     outputwords: &mut [u32],
     n: u32,
+    halt: Halt,
 ) -> CallResult
     ensures { λ r. ⌜ handed r (now (memory .exit)) (now (outputclocks .exit)) (now (outputwords .exit))
-        ≡ runOf machine n (callStart state (now (memory .entry)) (now (inputclocks .entry)) (now (inputcodes .entry))
+        ≡ runOf (machine halt) n (callStart state (now (memory .entry)) (now (inputclocks .entry)) (now (inputcodes .entry))
         (now (outputclocks .entry)) (now (outputwords .entry))) ⌝ }
     ensures { λ r. ⌜ handed r (now (memory .exit)) (now (outputclocks .exit)) (now (outputwords .exit))
-        ≡ plainRunOf machine n (callStart state (now (memory .entry)) (now (inputclocks .entry))
+        ≡ plainRunOf (machine halt) n (callStart state (now (memory .entry)) (now (inputclocks .entry))
         (now (inputcodes .entry)) (now (outputclocks .entry)) (now (outputwords .entry))) ⌝ }
 {
     let number = call_refusal(
@@ -308,6 +323,7 @@ pub fn run(
         outputclocks,
         outputwords,
         &entries,
+        halt,
     );
     result_of(end.leaps, end.progress)
 }

@@ -45,6 +45,7 @@ use Rattle.r6501q_gaps.proofs.Quiet.{Still, workedTo, ahead, ready-still}
 use Rattle.r6501q_gaps.proofs.Gaps.{no-event, not-due}
 use Rattle.r6501q_clock.specs.declared.Clocked.the-variants.{Done}
 use Rattle.r6501q_clock.specs.Clock.{endedWith, finished, recorded, clockOf}
+use Rattle.r6501q_spans.proofs.Ends.{either-false}
 use Rattle.r6501q_spans.specs.Spans.{onlyCpu, nearestEvent, spanOf, workingState, writesRegister}
 
 -- what is known of a state at the start of a span
@@ -123,10 +124,6 @@ alone n s clocks h = by-test (onlyCpu s) refl h
     by-test false e k = absurd (omega arith)
 
 -- ---- no write at a register's address
-
-either-false : (p q : Bool) → (p || q) ≡ false → (p ≡ false) × (q ≡ false)
-either-false true q e = absurd (false≢true (sym e))
-either-false false q e = (refl, e)
 
 no-registers : (p : Peripherals) (w : Writes) → writesRegister w ≡ false → registersAfter p w ≡ p
 unfolding writesRegister registersAfter putRegister

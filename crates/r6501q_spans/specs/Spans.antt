@@ -11,7 +11,9 @@ use Rattle.r6501q_state.specs.declared.state.State.{State}
 use Rattle.r6501q_state.specs.Control.{pending}
 use Rattle.cpu_access.specs.declared.stack.Write.{Write}
 use Rattle.cpu_access.specs.declared.stack.Writes.{Writes}
+use Rattle.cpu_access.specs.declared.halt.Halt.{Halt}
 use Rattle.cpu_access.specs.Stack.{eachWrite}
+use Rattle.cpu_access.specs.Halt.{halts}
 use Rattle.memory.specs.Memory.{isRegister}
 use Rattle.cpu_operations.specs.declared.Worked.{Worked}
 use Rattle.cpu_operations.specs.Effects.{writesOf}
@@ -61,35 +63,40 @@ unfoldable pub writesRegister : Writes → Bool
 writesRegister w =
     eachWrite (λ (there : Bool) (x : Write) (before : Bool). before || (there && isRegister (x .address))) w false
 
-unfoldable pub continuedBy : Work → Worked → Work
-continuedBy w worked = cond (writesRegister (writesOf (worked .written))) w (nextWork w worked)
+-- an instruction with these writes is left to the clock's own rules: one is at a register's or at the halt address
+unfoldable pub endsSpan : Halt → Writes → Bool
+endsSpan halt w = writesRegister w || halts halt w
 
-unfoldable pub committedBy : List ℕ → Worked → List ℕ
-committedBy memory worked = cond (writesRegister (writesOf (worked .written))) memory (committed memory (writesOf (worked .written)))
+unfoldable pub continuedBy : Halt → Work → Worked → Work
+continuedBy halt w worked = cond (endsSpan halt (writesOf (worked .written))) w (nextWork w worked)
+
+unfoldable pub committedBy : Halt → List ℕ → Worked → List ℕ
+committedBy halt memory worked = cond (endsSpan halt (writesOf (worked .written))) memory (committed memory (writesOf (worked .written)))
 
 -- with no answer about a register: an instruction that asks for one, or is undefined, is left to the clock's own rules
-abbrev pub workBy : Work → Outcome → Work
-workBy w Undefined = w
-workBy w (Asked ask) = w
-workBy w (Done worked) = continuedBy w worked
+abbrev pub workBy : Halt → Work → Outcome → Work
+workBy halt w Undefined = w
+workBy halt w (Asked ask) = w
+workBy halt w (Done worked) = continuedBy halt w worked
 
-abbrev pub memoryBy : List ℕ → Outcome → List ℕ
-memoryBy memory Undefined = memory
-memoryBy memory (Asked ask) = memory
-memoryBy memory (Done worked) = committedBy memory worked
+abbrev pub memoryBy : Halt → List ℕ → Outcome → List ℕ
+memoryBy halt memory Undefined = memory
+memoryBy halt memory (Asked ask) = memory
+memoryBy halt memory (Done worked) = committedBy halt memory worked
 
 -- the next instruction, if it starts within the span
-unfoldable pub workAfter : ℕ → Work → List ℕ → Work
-workAfter span w memory = cond (leb (span - w .gone .0) (w .wait)) w (workBy w (instructionOf (w .registers) [] memory))
+unfoldable pub workAfter : Halt → ℕ → Work → List ℕ → Work
+workAfter halt span w memory =
+    cond (leb (span - w .gone .0) (w .wait)) w (workBy halt w (instructionOf (w .registers) [] memory))
 
-unfoldable pub memoryAfter : ℕ → Work → List ℕ → List ℕ
-memoryAfter span w memory =
-    cond (leb (span - w .gone .0) (w .wait)) memory (memoryBy memory (instructionOf (w .registers) [] memory))
+unfoldable pub memoryAfter : Halt → ℕ → Work → List ℕ → List ℕ
+memoryAfter halt span w memory =
+    cond (leb (span - w .gone .0) (w .wait)) memory (memoryBy halt memory (instructionOf (w .registers) [] memory))
 
 -- the instructions that write nothing, and the one after them. How many of those there are is left free, none at least:
 -- the work may stop at once, and what is left over is done by the next leap.
-pub record WorkedOn (span : ℕ) (w : Work) (memory : List ℕ) (r : Work) (memory' : List ℕ) : Type 0 where
+pub record WorkedOn (halt : Halt) (span : ℕ) (w : Work) (memory : List ℕ) (r : Work) (memory' : List ℕ) : Type 0 where
   pub at : Work
   pub quietly : Quietly span [] memory w at
-  pub work : r ≡ workAfter span at memory
-  pub stored : memory' ≡ memoryAfter span at memory
+  pub work : r ≡ workAfter halt span at memory
+  pub stored : memory' ≡ memoryAfter halt span at memory

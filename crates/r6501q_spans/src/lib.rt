@@ -10,6 +10,8 @@ use cpu::Outcome;
 use cpu::quiet::Work;
 use cpu::quiet::next_work;
 use cpu::quiet::run_instructions;
+use cpu_access::halt::Halt;
+use cpu_access::halt::halts;
 use cpu_access::stack::Writes;
 use cpu_operations::Worked;
 use cpu_operations::writes_of;
@@ -79,27 +81,30 @@ fn writes_register(w: Writes) -> bool
     first | second | third
 }
 
-// An instruction that was worked out: it is done where it writes to memory alone.
-fn continue_work(w: Work, worked: Worked, memory: &mut [u8]) -> Work
+// An instruction that was worked out: it is done where it writes to memory alone, and not at the halt address.
+fn continue_work(w: Work, worked: Worked, memory: &mut [u8], halt: Halt) -> Work
     requires { ⌜ (w .gone .0 + w .wait + 1 ≤ 4294967295) × (w .leaps + 1 ≤ 4294967295) ⌝ }
-    ensures { λ r. ⌜ r ≡ continuedBy w worked ⌝ }
-    ensures { λ _. ⌜ now (memory .exit) ≡ committedBy (now (memory .entry)) worked ⌝ }
+    ensures { λ r. ⌜ r ≡ continuedBy halt w worked ⌝ }
+    ensures { λ _. ⌜ now (memory .exit) ≡ committedBy halt (now (memory .entry)) worked ⌝ }
 {
     let written = worked.written;
     let writes = writes_of(written);
     if writes_register(writes) {
         return w;
     }
+    if halts(writes, halt) {
+        return w;
+    }
     commit(memory, writes);
     next_work(w, worked)
 }
 
-// The instructions that write nothing, and the one that comes next, if it starts within the span and neither reads nor writes a
-// register of the chip. `entries` is what `cpu_opcodes::opcode_table` gave.
-pub fn work_once(w: Work, span: Clocks, memory: &mut [u8], entries: &[u16]) -> Work
+// The instructions that write nothing, and the one that comes next, if it starts within the span, neither reads nor writes a
+// register of the chip, and does not write the halt address. `entries` is what `cpu_opcodes::opcode_table` gave.
+pub fn work_once(w: Work, span: Clocks, memory: &mut [u8], entries: &[u16], halt: Halt) -> Work
     requires { ⌜ WithinSpan w (span .0) ⌝ }
     requires { ⌜ now entries ≡ opcodeTable ⌝ }
-    ensures { λ r. ⌜ WorkedOn (span .0) w (now (memory .entry)) r (now (memory .exit)) ⌝ }
+    ensures { λ r. ⌜ WorkedOn halt (span .0) w (now (memory .entry)) r (now (memory .exit)) ⌝ }
 {
     let answers = [0u8; 0];
     let stopped = run_instructions(w, span, &answers, memory, entries);
@@ -111,6 +116,6 @@ pub fn work_once(w: Work, span: Clocks, memory: &mut [u8], entries: &[u16]) -> W
     match outcome {
         Outcome::Undefined => at,
         Outcome::Asked(_) => at,
-        Outcome::Done(worked) => continue_work(at, worked, memory),
+        Outcome::Done(worked) => continue_work(at, worked, memory, halt),
     }
 }

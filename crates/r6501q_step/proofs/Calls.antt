@@ -7,6 +7,7 @@ use native.Mathlib.Omega.{arith}
 use lib.Dec.{eqb}
 use lib.ListN.{length}
 use borrow.Author.Tests.{eq-eqb, ne-eqb}
+use Rattle.cpu_access.specs.declared.halt.Halt.{Halt}
 use Rattle.refusals.specs.Refusals.{lastClock, refusalOf}
 use Rattle.refusals.proofs.Accepted.{accepted}
 use Rattle.leaps.specs.Leaps.{movedOf}
@@ -35,17 +36,17 @@ module _ (s : State) (memory clocks codes times words : List ℕ)
       }
 
   -- and hands back what its clock leaves
-  pub steps : (p : Progress) (memory' times' words' : List ℕ)
-      → worldOf p memory' clocks codes times' words' ≡ plain (callStart s memory clocks codes times words)
+  pub steps : (halt : Halt) (p : Progress) (memory' times' words' : List ℕ)
+      → worldOf p memory' clocks codes times' words' ≡ plain halt (callStart s memory clocks codes times words)
       → handed (progressResult (leapsFrom (s .clock) (p .state .clock)) p) memory' times' words'
-      ≡ stepOf machine (callStart s memory clocks codes times words)
+      ≡ stepOf (machine halt) (callStart s memory clocks codes times words)
   unfolding stepOf movedOf
-  steps p memory' times' words' e =
+  steps halt p memory' times' words' e =
       rw (eq-eqb _ 0 good) (ap (λ (w : World). handedBackOf (leapsFrom (s .clock) (w .state .clock)) w) e)
 
 -- a call that is refused hands back what it got
-pub refuses : (s : State) (memory clocks codes times words : List ℕ) (number : ℕ)
+pub refuses : (halt : Halt) (s : State) (memory clocks codes times words : List ℕ) (number : ℕ)
     → number ≡ refusalOf r6501qLimits (wellFormed s) (s .clock) (length memory) clocks codes (length times) (length words) 1 → (number ≡ 0 → ⊥)
-    → handed (refusalResult number s) memory times words ≡ stepOf machine (callStart s memory clocks codes times words)
+    → handed (refusalResult number s) memory times words ≡ stepOf (machine halt) (callStart s memory clocks codes times words)
 unfolding stepOf
-refuses s memory clocks codes times words number e some = rw (← e, ne-eqb number 0 some)
+refuses halt s memory clocks codes times words number e some = rw (← e, ne-eqb number 0 some)

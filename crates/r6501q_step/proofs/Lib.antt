@@ -2,5 +2,6 @@ pub mod Worlds
 pub mod Calls
 pub mod LowMemory
 pub mod Stops
+pub mod Halted
 pub mod Examples
 pub mod ShiftRegister

@@ -23,6 +23,7 @@ use Rattle.r6501q_clock.specs.Clock.{readyOf, recorded, clockOf}
 use Rattle.r6501q_clock.specs.Commit.{putByte, committed}
 use Rattle.leaps.specs.World.{after, dueIn, runningIn, plainOf}
 use Rattle.leaps.proofs.Along.{Unseen}
+use Rattle.cpu_access.specs.declared.halt.Halt.{Halt}
 use Rattle.r6501q_step.specs.R6501q.{World, clockOutcome, r6501q, plain, chip}
 
 module _ (m m' : List ℕ) (same : SameAbove m m') where
@@ -81,27 +82,28 @@ module _ (low : List ℕ) (whole : length low ≡ registerEnd) where
   unfolding committed
   committed-low m w = rw (put-low (ltb 0 (w .count)) (w .first) m, put-low (ltb 1 (w .count)) (w .second), put-low (ltb 2 (w .count)) (w .third))
 
-  after-low : (w : World) (due : ℕ) (c : Clocked)
-      → after r6501q (lowered low w) due (clockOutcome (withLow low (w .memory)) c) ≡ lowered low (after r6501q w due (clockOutcome (w .memory) c))
-  after-low w due (Stopped number) = refl
-  after-low w due (Done e) = rw (committed-low (w .memory) (e .writes))
+  after-low : (halt : Halt) (w : World) (due : ℕ) (c : Clocked)
+      → after (r6501q halt) (lowered low w) due (clockOutcome halt (withLow low (w .memory)) c)
+      ≡ lowered low (after (r6501q halt) w due (clockOutcome halt (w .memory) c))
+  after-low halt w due (Stopped number) = refl
+  after-low halt w due (Done e) = rw (committed-low (w .memory) (e .writes))
 
   -- Memory at 0 to 3Fh is neither read nor written by a plain clock: with other bytes there, all that it comes to is the same, and these
   -- bytes come back as they were.
-  pub plain-low : (w : World) → plain (lowered low w) ≡ lowered low (plain w)
+  pub plain-low : (halt : Halt) (w : World) → plain halt (lowered low w) ≡ lowered low (plain halt w)
   unfolding plainOf
-  plain-low w =
-      let due = dueIn r6501q w in
+  plain-low halt w =
+      let due = dueIn (r6501q halt) w in
       let free = ltb (w .written) (length (w .outputClocks)) in
       let clocked = clockOf (w .state) (take due (w .inputCodes)) (w .memory) free in
-      ap (λ (c : Clocked). cond (runningIn w) (after r6501q (lowered low w) due (clockOutcome (withLow low (w .memory)) c)) (lowered low w))
+      ap (λ (c : Clocked). cond (runningIn w) (after (r6501q halt) (lowered low w) due (clockOutcome halt (withLow low (w .memory)) c)) (lowered low w))
       (clock-same (w .memory) (withLow low (w .memory)) (low-same (w .memory)) (w .state) (take due (w .inputCodes)) free)
-      ∙ sym (cond-along (lowered low) (runningIn w) (after r6501q w due (clockOutcome (w .memory) clocked)) w (sym (after-low w due clocked)) refl)
+      ∙ sym (cond-along (lowered low) (runningIn w) (after (r6501q halt) w due (clockOutcome halt (w .memory) clocked)) w (sym (after-low halt w due clocked)) refl)
 
   -- nor by gaps
-  pub unseen : Unseen chip (lowered low)
-  unseen = record {
-    plain = plain-low;
+  pub unseen : (halt : Halt) → Unseen (chip halt) (lowered low)
+  unseen halt = record {
+    plain = plain-low halt;
     pass = λ g w. refl;
     gap = λ n w. refl;
     running = λ w. refl;

@@ -7,6 +7,8 @@ use lib.Dec.{ltb, eqb}
 use lib.ListN.{length, take}
 use borrow.Author.Tests.{eq-eqb}
 use Rattle.bits.proofs.Cond.{cond-yes}
+use Rattle.cpu_access.specs.declared.halt.Halt.{Halt}
+use Rattle.cpu_access.specs.Halt.{halts}
 use Rattle.cpu_opcodes.specs.declared.Decoded.{Decoded}
 use Rattle.cpu_opcodes.specs.declared.Decoded.the-variants as decoded
 use Rattle.cpu_opcodes.specs.declared.Entry.{Entry}
@@ -20,7 +22,7 @@ use Rattle.r6501q_cpu.specs.declared.Processed.the-variants as processed
 use Rattle.r6501q_cpu.specs.Processor.{wholeInstruction, opcodeAt, irqDue, startOf, processorOf}
 use Rattle.r6501q_cpu.proofs.Undefined.{undefined-opcode, defined-opcode}
 use Rattle.r6501q_clock.specs.declared.Clocked.{Clocked}
-use Rattle.r6501q_clock.specs.Clock.{readyOf, finished, recorded, clockOf}
+use Rattle.r6501q_clock.specs.Clock.{haltStop, readyOf, finished, recorded, clockOf}
 use Rattle.r6501q_step.specs.R6501q.{World, clockOutcome, r6501q, plain}
 
 abbrev pub isUndefined : Decoded → Bool
@@ -63,26 +65,30 @@ processor-undefined s memory =
     by-tests true false false false false a b c d e i u = u
 
 -- a clock that is not undefined does not stop with 6
-by-record : (w : World) (due : ℕ) (n : Next) (word : ℕ) (differs free : Bool)
-    → eqb (after r6501q w due (clockOutcome (w .memory) (finished n word differs free)) .stop) 6 ≡ false
-unfolding finished
-by-record w due n word true true = refl
-by-record w due n word true false = refl
-by-record w due n word false free = refl
+halt-not-six : (t : Bool) → eqb (cond t haltStop 0) 6 ≡ false
+halt-not-six true = refl
+halt-not-six false = refl
 
-by-end : (w : World) (due : ℕ) (free : Bool) (p : Processed)
-    → eqb (after r6501q w due (clockOutcome (w .memory) (recorded (drivenWord (w .state .peripherals)) free p)) .stop) 6 ≡ notDone p
-by-end w due free processed.Undefined = refl
-by-end w due free (processed.Done n) = by-record w due n _ _ free
+by-record : (halt : Halt) (w : World) (due : ℕ) (n : Next) (word : ℕ) (differs free : Bool)
+    → eqb (after (r6501q halt) w due (clockOutcome halt (w .memory) (finished n word differs free)) .stop) 6 ≡ false
+unfolding finished
+by-record halt w due n word true true = halt-not-six (halts halt (n .writes))
+by-record halt w due n word true false = refl
+by-record halt w due n word false free = halt-not-six (halts halt (n .writes))
+
+by-end : (halt : Halt) (w : World) (due : ℕ) (free : Bool) (p : Processed)
+    → eqb (after (r6501q halt) w due (clockOutcome halt (w .memory) (recorded (drivenWord (w .state .peripherals)) free p)) .stop) 6 ≡ notDone p
+by-end halt w due free processed.Undefined = refl
+by-end halt w due free (processed.Done n) = by-record halt w due n _ _ free
 
 -- A plain clock stops with 6 just where its steps 1 to 3 leave such a state.
-pub stop-six : (w : World) → w .stop ≡ 0
-    → eqb (plain w .stop) 6 ≡ startsUndefined (readyOf (w .state) (take (dueIn r6501q w) (w .inputCodes))) (w .memory)
+pub stop-six : (halt : Halt) (w : World) → w .stop ≡ 0
+    → eqb (plain halt w .stop) 6 ≡ startsUndefined (readyOf (w .state) (take (dueIn (r6501q halt) w) (w .inputCodes))) (w .memory)
 unfolding plainOf clockOf
-stop-six w running =
-    let due = dueIn r6501q w in
+stop-six halt w running =
+    let due = dueIn (r6501q halt) w in
     let free = ltb (w .written) (length (w .outputClocks)) in
     let s = readyOf (w .state) (take due (w .inputCodes)) in
     let clocked = clockOf (w .state) (take due (w .inputCodes)) (w .memory) free in
-    ap (λ (v : World). eqb (v .stop) 6) (cond-yes (runningIn w) (after r6501q w due (clockOutcome (w .memory) clocked)) w (eq-eqb (w .stop) 0 running))
-    ∙ by-end w due free (processorOf s (w .memory)) ∙ processor-undefined s (w .memory)
+    ap (λ (v : World). eqb (v .stop) 6) (cond-yes (runningIn w) (after (r6501q halt) w due (clockOutcome halt (w .memory) clocked)) w (eq-eqb (w .stop) 0 running))
+    ∙ by-end halt w due free (processorOf s (w .memory)) ∙ processor-undefined s (w .memory)

@@ -10,22 +10,23 @@ use lib.Seq.{take-all}
 use borrow.Author.Tests.{eq-eqb}
 use Rattle.pin_lists.specs.PinLists.{dueCount}
 use Rattle.pin_lists.proofs.PinLists.{due-within}
+use Rattle.cpu_access.specs.declared.halt.Halt.{Halt}
 use Rattle.leaps.specs.World.{stoppedAt, movedTo, dueIn, plainOf}
 use Rattle.r6501q_clock.specs.declared.Ended.{Ended}
 use Rattle.r6501q_clock.specs.declared.Clocked.the-variants.{Stopped, Done}
 use Rattle.r6501q_clock.specs.Clock.{clockOf}
 use Rattle.r6501q_step.specs.R6501q.{World, r6501q, endOf}
 
-module _ (w : World) (due : ℕ) (free : Bool) (on : w .stop ≡ 0) (counted : due ≡ dueIn r6501q w) where
+module _ (halt : Halt) (w : World) (due : ℕ) (free : Bool) (on : w .stop ≡ 0) (counted : due ≡ dueIn (r6501q halt) w) where
   -- a clock that stops
   pub plain-stops : (number : ℕ) → clockOf (w .state) (take due (w .inputCodes)) (w .memory) free ≡ Stopped number
-      → free ≡ ltb (w .written) (length (w .outputClocks)) → stoppedAt number w ≡ plainOf r6501q w
+      → free ≡ ltb (w .written) (length (w .outputClocks)) → stoppedAt number w ≡ plainOf (r6501q halt) w
   unfolding plainOf
   plain-stops number e room = rw (eq-eqb (w .stop) 0 on, ← counted, ← room, e)
 
   -- a clock that is done
   pub plain-moves : (e : Ended) → clockOf (w .state) (take due (w .inputCodes)) (w .memory) free ≡ Done e
-      → free ≡ ltb (w .written) (length (w .outputClocks)) → movedTo r6501q (endOf (w .memory) e) due w ≡ plainOf r6501q w
+      → free ≡ ltb (w .written) (length (w .outputClocks)) → movedTo (r6501q halt) (endOf halt (w .memory) e) due w ≡ plainOf (r6501q halt) w
   unfolding plainOf
   plain-moves ended e room = rw (eq-eqb (w .stop) 0 on, ← counted, ← room, e)
 

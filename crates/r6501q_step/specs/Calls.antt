@@ -29,7 +29,7 @@ begin s = record { state = s; read = 0; written = 0; stop = 0 }
 abbrev pub refusalResult : ℕ → State → CallResult
 refusalResult number s = record { number = number; state = s; leaps = 0; read = 0; written = 0 }
 
--- "6, 7 state and lists as reached"; "Number 0: all n clocks done."
+-- "6, 7 state and lists as reached", and so 12; "Number 0: all n clocks done."
 abbrev pub progressResult : ℕ → Progress → CallResult
 progressResult leaps p = record {
   number = p .stop;

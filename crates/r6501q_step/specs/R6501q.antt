@@ -1,10 +1,13 @@
 -- The R6501Q as an instance of the theory of leaps: the definitions of its parts, under the theory's names.
-use mathlib.Core.Bool.{Bool, true, false}
+use mathlib.Core.Bool.{Bool, true, false, cond}
 use mathlib.Core.List.{List}
 use Prim.Native.Nat.{ℕ}
 use Rattle.memory.specs.Memory.{memorySpan}
 use Rattle.refusals.specs.declared.Limits.{Limits}
 use Rattle.leaps.specs.Leaps.{System}
+use Rattle.cpu_access.specs.declared.stack.Writes.{Writes}
+use Rattle.cpu_access.specs.declared.halt.Halt.{Halt}
+use Rattle.cpu_access.specs.Halt.{halts}
 use Rattle.leaps.specs.Chip.{Chip, ClockEnd, ClockOutcome, stopped, done}
 use Rattle.leaps.specs.World as leaps
 use Rattle.leaps.specs.Lists.{Machine}
@@ -15,7 +18,7 @@ use Rattle.r6501q_state.specs.Inputs.{lastPin}
 use Rattle.r6501q_clock.specs.declared.Ended.{Ended}
 use Rattle.r6501q_clock.specs.declared.Clocked.{Clocked}
 use Rattle.r6501q_clock.specs.declared.Clocked.the-variants.{Stopped, Done}
-use Rattle.r6501q_clock.specs.Clock.{clockOf}
+use Rattle.r6501q_clock.specs.Clock.{haltStop, clockOf}
 use Rattle.r6501q_clock.specs.Commit.{committed}
 use Rattle.r6501q_gaps.specs.Events.{eventOf}
 use Rattle.r6501q_gaps.specs.Gaps.{clocksOf, gapOf, passOf}
@@ -24,26 +27,32 @@ use Rattle.r6501q_gaps.specs.Gaps.{clocksOf, gapOf, passOf}
 abbrev pub r6501qLimits : Limits
 r6501qLimits = record { memory = memorySpan; pin = lastPin }
 
--- a clock that is done: its writes are put into memory
-abbrev pub endOf : List ℕ → Ended → ClockEnd State
-endOf memory e = record {
+-- 02, U4: "a plain clock with such a write is done, then stops with 12"
+abbrev pub stopAfter : Halt → Writes → ℕ
+stopAfter halt writes = cond (halts halt writes) haltStop 0
+
+-- a clock that is done: its writes are put into memory, and one at the halt address stops it
+abbrev pub endOf : Halt → List ℕ → Ended → ClockEnd State
+endOf halt memory e = record {
   state = e .state;
   memory = committed memory (e .writes);
   differs = e .differs;
   word = e .word;
-  stop = 0;
+  stop = stopAfter halt (e .writes);
 }
 
-abbrev pub clockOutcome : List ℕ → Clocked → ClockOutcome State
-clockOutcome memory (Stopped number) = stopped number
-clockOutcome memory (Done e) = done (endOf memory e)
+-- "6 and 7 for that same clock come first"
+abbrev pub clockOutcome : Halt → List ℕ → Clocked → ClockOutcome State
+clockOutcome halt memory (Stopped number) = stopped number
+clockOutcome halt memory (Done e) = done (endOf halt memory e)
 
-abbrev pub r6501q : Chip State
-r6501q = record {
+-- by the halt address, or none, that "all calls of a list are given"
+abbrev pub r6501q : Halt → Chip State
+r6501q halt = record {
   limits = r6501qLimits;
   wellFormed = wellFormed;
   clock = λ (s : State). s .clock;
-  outcome = λ (s : State) (codes memory : List ℕ) (free : Bool). clockOutcome memory (clockOf s codes memory free);
+  outcome = λ (s : State) (codes memory : List ℕ) (free : Bool). clockOutcome halt memory (clockOf s codes memory free);
   event = eventOf;
   gap = λ (n : ℕ) (s : State) (clocks : List ℕ). gapOf n s clocks .0;
   pass = λ (g : ℕ) (s : State). passOf s (clocksOf g);
@@ -60,12 +69,12 @@ abbrev pub Result : Type 0
 Result = calls.ResultOf State
 
 -- one plain clock
-abbrev pub plain : World → World
-plain = leaps.plainOf r6501q
+abbrev pub plain : Halt → World → World
+plain halt = leaps.plainOf (r6501q halt)
 
 -- as a machine that leaps, and as one that calls move
-abbrev pub chip : System World
-chip = leaps.systemOf r6501q
+abbrev pub chip : Halt → System World
+chip halt = leaps.systemOf (r6501q halt)
 
-abbrev pub machine : Machine World Handed Result
-machine = calls.machineOf r6501q
+abbrev pub machine : Halt → Machine World Handed Result
+machine halt = calls.machineOf (r6501q halt)

@@ -5,9 +5,10 @@ use Prim.Native.Nat.{ℕ, _+_, _≤_, _<_}
 use lib.ListN.{length, drop}
 use Rattle.bits.specs.Bits.{digit}
 use Rattle.refusals.specs.Refusals.{lastClock}
+use Rattle.cpu_access.specs.declared.halt.Halt.{Halt}
 use Rattle.r6501q_clock.specs.declared.Ended.{Ended}
 use Rattle.r6501q_step.specs.declared.Progress.{Progress}
-use Rattle.r6501q_step.specs.R6501q.{World}
+use Rattle.r6501q_step.specs.R6501q.{World, stopAfter}
 
 -- the lent lists, and how far a call has come with them
 abbrev pub worldOf : Progress → List ℕ → List ℕ → List ℕ → List ℕ → List ℕ → World
@@ -28,12 +29,12 @@ worldOf p memory inputClocks inputCodes outputClocks outputWords = record {
 abbrev pub stoppedWith : ℕ → Progress → Progress
 stoppedWith number p = record { state = p .state; read = p .read; written = p .written; stop = number }
 
-abbrev pub progressTo : Ended → ℕ → Progress → Progress
-progressTo e due p = record {
+abbrev pub progressTo : Halt → Ended → ℕ → Progress → Progress
+progressTo halt e due p = record {
   state = e .state;
   read = p .read + due;
   written = p .written + digit (e .differs);
-  stop = 0;
+  stop = stopAfter halt (e .writes);
 }
 
 -- what a clock in code starts from

@@ -12,13 +12,17 @@ ghost use Rattle.cpu_opcodes.specs.Table.{opcodeTable};
 ghost use Rattle.r6501q_state.specs.State.{wellFormed};
 ghost use Rattle.r6501q_clock.specs.Clock.{clockOf};
 ghost use Rattle.r6501q_clock.specs.Commit.{committed};
-ghost use Rattle.r6501q_step.specs.R6501q.{r6501qLimits, plain, machine};
+ghost use Rattle.r6501q_step.specs.R6501q.{r6501qLimits, stopAfter, plain, machine};
 ghost use Rattle.r6501q_step.specs.World.{worldOf, progressTo, stoppedWith, Going};
 ghost use Rattle.r6501q_step.specs.Calls.{handed, begin, refusalResult, progressResult, leapsFrom};
+use cpu_access::halt::Halt;
+use cpu_access::halt::halts;
+use cpu_access::stack::Writes;
 use memory::MEMORY_SPAN;
 use pin_lists::inputs_due;
 use r6501q_clock::Clocked;
 use r6501q_clock::Ended;
+use r6501q_clock::HALTED;
 use r6501q_clock::commit::commit;
 use r6501q_state::inputs::LAST_PIN;
 use r6501q_state::state::State;
@@ -91,7 +95,17 @@ fn outcome_from(
     r6501q_clock::clock(p.state, &inputcodes[from..upto], memory, free, entries)
 }
 
-// A clock that is done: its writes, its record and its inputs.
+// The stop that a clock with these writes ends in, or 0.
+fn stop_after(writes: Writes, halt: Halt) -> u8
+    ensures { λ r. ⌜ r ≡ stopAfter halt writes ⌝ }
+{
+    if halts(writes, halt) {
+        return HALTED;
+    }
+    0
+}
+
+// A clock that is done: its writes, its record, its inputs, and the stop where it wrote the halt address.
 fn complete(
     p: Progress,
     due: usize,
@@ -99,9 +113,10 @@ fn complete(
     memory: &mut [u8],
     outputclocks: &mut [u32],
     outputwords: &mut [u32],
+    halt: Halt,
 ) -> Progress
     requires { ⌜ (p .read + due < 2 ^ 64) × (p .written + 1 < 2 ^ 64) ⌝ }
-    ensures { λ r. ⌜ r ≡ progressTo ended due p ⌝ }
+    ensures { λ r. ⌜ r ≡ progressTo halt ended due p ⌝ }
     ensures { λ _. ⌜ now (memory .exit) ≡ committed (now (memory .entry)) (ended .writes) ⌝ }
     ensures { λ _. ⌜ now (outputclocks .exit)
         ≡ putRecord (ended .differs) (p .written) (ended .state .clock) (now (outputclocks .entry)) ⌝ }
@@ -118,7 +133,7 @@ fn complete(
         state: state,
         read: p.read + due,
         written: written_after(written, differs),
-        stop: 0,
+        stop: stop_after(ended.writes, halt),
     }
 }
 
@@ -144,12 +159,13 @@ pub fn advance(
     outputclocks: &mut [u32],
     outputwords: &mut [u32],
     entries: &[u16],
+    halt: Halt,
 ) -> Progress
     requires { ⌜ Going p (now inputclocks) (now inputcodes) (now outputclocks) (now outputwords) ⌝ }
     requires { ⌜ now entries ≡ opcodeTable ⌝ }
     ensures { λ r. ⌜ worldOf r (now (memory .exit)) (now (inputclocks .entry)) (now (inputcodes .entry))
         (now (outputclocks .exit)) (now (outputwords .exit))
-        ≡ plain (worldOf p (now (memory .entry)) (now (inputclocks .entry)) (now (inputcodes .entry))
+        ≡ plain halt (worldOf p (now (memory .entry)) (now (inputclocks .entry)) (now (inputcodes .entry))
         (now (outputclocks .entry)) (now (outputwords .entry))) ⌝ }
 {
     let due = due_from(inputclocks, p.read, p.state.clock + 1);
@@ -157,7 +173,7 @@ pub fn advance(
     let clocked = outcome_from(p, due, memory, inputcodes, free, entries);
     match clocked {
         Clocked::Stopped(number) => stop_at(number, p),
-        Clocked::Done(ended) => complete(p, due, ended, memory, outputclocks, outputwords),
+        Clocked::Done(ended) => complete(p, due, ended, memory, outputclocks, outputwords, halt),
     }
 }
 
@@ -244,7 +260,7 @@ pub fn begin(state: State) -> Progress
     }
 }
 
-// The single-clock call.
+// The single-clock call, which says so where its clock writes the halt address.
 pub fn step(
     state: State,
     memory: &mut [u8],
@@ -252,9 +268,10 @@ pub fn step(
     inputcodes: &[u8],
     outputclocks: &mut [u32],
     outputwords: &mut [u32],
+    halt: Halt,
 ) -> CallResult
     ensures { λ r. ⌜ handed r (now (memory .exit)) (now (outputclocks .exit)) (now (outputwords .exit))
-        ≡ stepOf machine (callStart state (now (memory .entry)) (now (inputclocks .entry)) (now (inputcodes .entry))
+        ≡ stepOf (machine halt) (callStart state (now (memory .entry)) (now (inputclocks .entry)) (now (inputcodes .entry))
         (now (outputclocks .entry)) (now (outputwords .entry))) ⌝ }
 {
     let number = call_refusal(
@@ -278,6 +295,7 @@ pub fn step(
         outputclocks,
         outputwords,
         &entries,
+        halt,
     );
     let leaps = leaps_from(state.clock, end.state.clock);
     result_of(leaps, end)

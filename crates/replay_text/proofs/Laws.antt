@@ -6,6 +6,7 @@ use Prim.Native.Nat.{ℕ, _≤_}
 use native.Mathlib.Omega.{arith}
 use lib.ListN.{length, take, replicate}
 use borrow.Author.Tests.{eq-eqb, ne-eqb}
+use Rattle.cpu_access.specs.declared.halt.Halt.the-variants.{Nowhere}
 use Rattle.memory.specs.Memory.{memorySpan}
 use Rattle.pin_lists.specs.PinLists.{pinsRight}
 use Rattle.refusals.proofs.Accepted.{accepts}
@@ -42,26 +43,26 @@ none-right = refl
 module _ (memory : List ℕ) (whole : length memory ≡ memorySpan) where
   -- where the clocks lead to
   abbrev ended : World
-  ended = plains chip 100 (replayStart memory)
+  ended = plains (chip Nowhere) 100 (replayStart memory)
 
-  not-refused : refusalIn r6501q 100 (replayStart memory) ≡ 0
+  not-refused : refusalIn (r6501q Nowhere) 100 (replayStart memory) ≡ 0
   not-refused =
       accepts r6501qLimits (wellFormed fresh) (fresh .clock) (length memory) [] [] (length freeRecords) (length freeRecords) 100
       (record { memory = whole; state = fresh-formed; inputs = refl; outputs = refl; most = omega (arith, fresh-clock); pins = none-right })
 
-  start-fits : Fit r6501q (replayStart memory)
+  start-fits : Fit (r6501q Nowhere) (replayStart memory)
   start-fits = record { memory = whole; state = fresh-formed; pins = none-right; outputs = refl; written = omega arith }
 
   -- every plain clock keeps it so
-  ended-fits : Fit r6501q ended
-  ended-fits = plains-kept chip lawful (Fit r6501q) (plain-fits r6501q laws) (no-gap-event r6501q laws) 100 (replayStart memory) start-fits
+  ended-fits : Fit (r6501q Nowhere) ended
+  ended-fits = plains-kept (chip Nowhere) (lawful Nowhere) (Fit (r6501q Nowhere)) (plain-fits (r6501q Nowhere) (laws Nowhere)) (no-gap-event (r6501q Nowhere) (laws Nowhere)) 100 (replayStart memory) start-fits
 
   module _ (s : State) (result : CallResult) (memory' times words : List ℕ) (new : s ≡ fresh)
-      (e : handed result memory' times words ≡ plainRunOf machine 100 (callStart s memory [] [] (replicate 100 0) (replicate 100 0))) where
+      (e : handed result memory' times words ≡ plainRunOf (machine Nowhere) 100 (callStart s memory [] [] (replicate 100 0) (replicate 100 0))) where
     -- what the call hands back
-    back : handed result memory' times words ≡ handedBackOf (leapCount chip 100 (replayStart memory)) ended
+    back : handed result memory' times words ≡ handedBackOf (leapCount (chip Nowhere) 100 (replayStart memory)) ended
     unfolding plainRunOf freeRecords
-    back = (rw new at e) ∙ rw (eq-eqb (refusalIn r6501q 100 (replayStart memory)) 0 not-refused)
+    back = (rw new at e) ∙ rw (eq-eqb (refusalIn (r6501q Nowhere) 100 (replayStart memory)) 0 not-refused)
 
     pub written-clocks : result .written ≤ length times
     written-clocks =

@@ -7,6 +7,7 @@ use Prim.Native.Nat.{ℕ}
 use lib.Dec.{eqb}
 use lib.ListN.{take, replicate}
 use Rattle.memory.specs.Memory.{memorySpan}
+use Rattle.cpu_access.specs.declared.halt.Halt.the-variants.{Nowhere}
 use Rattle.r6501q_state.specs.State.{fresh}
 use Rattle.leaps.specs.Leaps.{plains}
 use Rattle.leaps.specs.Calls.{callStart}
@@ -36,9 +37,9 @@ linesOf w =
     outcomeLines (take (w .written) (w .outputClocks)) (take (w .written) (w .outputWords)) (w .state .clock)
     (w .stop)
 
--- "runs 100 clocks", stated by plain clocks
+-- "runs 100 clocks", stated by plain clocks, with no halt address
 unfoldable pub ranOf : List ℕ → List ℕ
-ranOf memory = linesOf (plains chip 100 (replayStart memory))
+ranOf memory = linesOf (plains (chip Nowhere) 100 (replayStart memory))
 
 -- the text for a tape
 unfoldable pub replayOf : List ℕ → List ℕ

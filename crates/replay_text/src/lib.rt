@@ -1,4 +1,5 @@
 // A tape replayed: loaded into a memory of zeros, then 100 clocks from fresh, no inputs.
+use cpu_access::halt::Halt;
 use memory::MEMORY_SPAN;
 use r6501q_state::state::fresh_state;
 use record_text::LINE_LENGTH;
@@ -43,6 +44,7 @@ fn run_loaded(memory: &mut [u8], text: &mut [u8]) -> usize
         &mut outputclocks,
         &mut outputwords,
         CLOCKS,
+        Halt::Nowhere,
     );
     let written = result.written;
     put_outcome(

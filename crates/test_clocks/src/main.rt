@@ -9,6 +9,7 @@
 // out from the documents (which clock starts which instruction, when a counter underflows, when a frame's bits change), and an
 // independent model, written from the documents alone, which does one plain clock after another, gives the same. "By the plain-clock
 // model": by that model alone.
+use cpu_access::halt::Halt;
 use libc::STDIN_FILENO;
 use libc::STDOUT_FILENO;
 use memory::MEMORY_SPAN;
@@ -89,6 +90,7 @@ fn single_clock(
         &codes[read..],
         &mut times[written..],
         &mut words[written..],
+        Halt::Nowhere,
     );
     let state = result.state;
     Progress {

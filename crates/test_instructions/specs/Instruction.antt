@@ -9,6 +9,7 @@ use Rattle.r6501q_state.specs.State.{freshControl, freshLevels, freshPeripheral
 use Rattle.serial.specs.Transmitter.{idleTransmitter}
 use Rattle.serial.specs.Receiver.{idleReceiver}
 use Rattle.cpu_access.specs.declared.stack.Writes.{Writes}
+use Rattle.cpu_access.specs.declared.halt.Halt.the-variants.{Nowhere}
 use Rattle.cpu_access.specs.Stack.{noWrites}
 use Rattle.r6501q_clock.specs.declared.Clocked.{Clocked}
 use Rattle.r6501q_clock.specs.declared.Clocked.the-variants.{Stopped, Done}
@@ -50,9 +51,9 @@ oneLater c = record {
   clock = 1;
 }
 
--- the single-clock call with no inputs and one free output entry
+-- the single-clock call with no inputs, one free output entry and no halt address
 abbrev pub stepAlone : Cpu → List ℕ → Handed
-stepAlone c memory = stepOf machine (callStart (prepared c) memory [] [] (0 ∷ []) (0 ∷ []))
+stepAlone c memory = stepOf (machine Nowhere) (callStart (prepared c) memory [] [] (0 ∷ []) (0 ∷ []))
 
 -- the clock is done, with no record, and leaves these registers
 abbrev pub doneWith : Cpu → Result

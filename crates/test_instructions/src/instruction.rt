@@ -6,6 +6,7 @@ ghost use Rattle.r6501q_clock.specs.Clock.{clockOf};
 ghost use Rattle.r6501q_step.specs.Calls.{resultFrom};
 ghost use Rattle.test_instructions.specs.Instruction.{prepared, oneLater, stepAlone, doneWith, writesIn};
 use crate::same::same_state;
+use cpu_access::halt::Halt;
 use cpu_access::stack::Writes;
 use cpu_access::stack::no_writes;
 use r6501q_clock::Clocked;
@@ -36,14 +37,22 @@ fn one_later(cpu: Cpu) -> State
     state
 }
 
-// The single-clock call with no inputs and one free output entry.
+// The single-clock call with no inputs, one free output entry and no halt address.
 pub(crate) fn step_alone(cpu: Cpu, memory: &mut [u8]) -> CallResult
     ensures { λ r. ⌜ stepAlone cpu (now (memory .entry)) .result ≡ resultFrom r ⌝ }
     ensures { λ _. ⌜ stepAlone cpu (now (memory .entry)) .memory ≡ now (memory .exit) ⌝ }
 {
     let mut times = [0u32; 1];
     let mut words = [0u32; 1];
-    r6501q_step::step(prepared(cpu), memory, &[], &[], &mut times, &mut words)
+    r6501q_step::step(
+        prepared(cpu),
+        memory,
+        &[],
+        &[],
+        &mut times,
+        &mut words,
+        Halt::Nowhere,
+    )
 }
 
 // Whether a call did its clock, with no record, and left these registers, and all else as it has to be.

@@ -36,14 +36,14 @@ returns : tie.Need-returns
 returns c =
     let root = c .before .before .before .before .before .before .before .before .before .before .before .before .before .before .before .before .before .before .before .before in
     rw (c .before .before .before .before .before .before .advance .ensures, c .before .before .before .before .before .before .before .before .before .before .before .before .before .pass-progress .ensures)
-    (leap-reaches (root .args .left .0) (worldOf (root .args .p) (now (root .args .memory)) (now (root .args .inputclocks)) (now (root .args .inputcodes)) (now (root .args .outputclocks)) (now (root .args .outputwords))) (root .args .gap) (root .pre .1 .1 .0) (c .before .before .before .before .before .before .before .before .before .before .if1 .taken))
+    (leap-reaches (root .args .halt) (root .args .left .0) (worldOf (root .args .p) (now (root .args .memory)) (now (root .args .inputclocks)) (now (root .args .inputcodes)) (now (root .args .outputclocks)) (now (root .args .outputwords))) (root .args .gap) (root .pre .1 .1 .0) (c .before .before .before .before .before .before .before .before .before .before .if1 .taken))
 
 -- src/lib.rt:67:1
 returns-2 : tie.Need-returns-2
 returns-2 c =
     let root = c .before .before .before .before .before .before .before .before .before .before in
     rw (c .before .before .before .pass-progress .ensures)
-    (leap-falls-short (root .args .left .0) (worldOf (root .args .p) (now (root .args .memory)) (now (root .args .inputclocks)) (now (root .args .inputcodes)) (now (root .args .outputclocks)) (now (root .args .outputwords))) (root .args .gap) (root .pre .1 .1 .0) (c .if1 .left))
+    (leap-falls-short (root .args .halt) (root .args .left .0) (worldOf (root .args .p) (now (root .args .memory)) (now (root .args .inputclocks)) (now (root .args .inputcodes)) (now (root .args .outputclocks)) (now (root .args .outputwords))) (root .args .gap) (root .pre .1 .1 .0) (c .if1 .left))
 
 pub leap-spec : {M : Type 1} → statement M
 leap-spec =

@@ -13,10 +13,10 @@ use Rattle.r6501q_run.proofs.leap_once.Reads as leap-once-reads
 use Rattle.r6501q_run.proofs.leap_span.Reads as leap-span-reads
 
 abbrev Inv-loop : tie.InvT-loop
-Inv-loop memory₀ clocks codes times₀ words₀ entries at₀ memory times words at = Running at₀ memory₀ clocks codes times₀ words₀ memory times words at
+Inv-loop memory₀ clocks codes times₀ words₀ entries halt at₀ memory times words at = Running halt at₀ memory₀ clocks codes times₀ words₀ memory times words at
 
 abbrev μ-loop : tie.MeasureT-loop
-μ-loop memory₀ clocks codes times₀ words₀ entries at₀ memory times words at = at .left .0
+μ-loop memory₀ clocks codes times₀ words₀ entries halt at₀ memory times words at = at .left .0
 
 -- src/lib.rt:144:5
 loop-holds : tie.Need-loop-holds Inv-loop μ-loop
@@ -44,8 +44,8 @@ leap-span-requires c κs =
     let on = sym (c .before .before .before .before .before .before .before .before .before .before .before .before .goes-on .ensures) ∙ c .before .before .before .before .before .before .before .before .before .before .before .if1 .taken in
     let some = goes-some (at .at) on in
     let unstopped = goes-unstopped (at .at) on in
-    let l = later-leaping (at .memory) (now (root .args .inputclocks)) (now (root .args .inputcodes)) (at .outputclocks) (at .outputwords) _ _ _ (at .at) (done .result) (at .inv .leaping) some unstopped (at .inv .bound) (done .ensures .0) (done .ensures .1 .0) (done .ensures .1 .1) in
-    ((l .clock, later-bound (at .memory) (now (root .args .inputclocks)) (now (root .args .inputcodes)) (at .outputclocks) (at .outputwords) _ _ _ (at .at) (done .result) (at .inv .leaping) some unstopped (at .inv .bound) (done .ensures .0) (done .ensures .1 .0) (done .ensures .1 .1) .0), (l .read, root .pre .1 .1))
+    let l = later-leaping (root .args .halt) (at .memory) (now (root .args .inputclocks)) (now (root .args .inputcodes)) (at .outputclocks) (at .outputwords) _ _ _ (at .at) (done .result) (at .inv .leaping) some unstopped (at .inv .bound) (done .ensures .0) (done .ensures .1 .0) (done .ensures .1 .1) in
+    ((l .clock, later-bound (root .args .halt) (at .memory) (now (root .args .inputclocks)) (now (root .args .inputcodes)) (at .outputclocks) (at .outputwords) _ _ _ (at .at) (done .result) (at .inv .leaping) some unstopped (at .inv .bound) (done .ensures .0) (done .ensures .1 .0) (done .ensures .1 .1) .0), (l .read, root .pre .1 .1))
 
 -- src/lib.rt:144:5
 loop-less : tie.Need-loop-less Inv-loop μ-loop
@@ -56,7 +56,7 @@ loop-less c =
     let on = sym (c .before .before .before .before .before .before .before .before .before .before .before .before .before .before .before .goes-on .ensures) ∙ c .before .before .before .before .before .before .before .before .before .before .before .before .before .before .if1 .taken in
     let some = goes-some (at .at) on in
     let unstopped = goes-unstopped (at .at) on in
-    omega (arith, c .before .before .leap-span .ensures .left, later-bound (at .memory) (now (root .args .inputclocks)) (now (root .args .inputcodes)) (at .outputclocks) (at .outputwords) _ _ _ (at .at) (done .result) (at .inv .leaping) some unstopped (at .inv .bound) (done .ensures .0) (done .ensures .1 .0) (done .ensures .1 .1) .1)
+    omega (arith, c .before .before .leap-span .ensures .left, later-bound (root .args .halt) (at .memory) (now (root .args .inputclocks)) (now (root .args .inputcodes)) (at .outputclocks) (at .outputwords) _ _ _ (at .at) (done .result) (at .inv .leaping) some unstopped (at .inv .bound) (done .ensures .0) (done .ensures .1 .0) (done .ensures .1 .1) .1)
 
 -- src/lib.rt:144:5
 loop-again : tie.Need-loop-again Inv-loop μ-loop
@@ -69,9 +69,9 @@ loop-again c =
     let unstopped = goes-unstopped (at .at) on in
     let span = c .before .before .leap-span in
     record {
-      run = run-later (done .result) (span .result) _ _ (now (root .args .inputclocks)) (now (root .args .inputcodes)) _ _ (span .ensures) ∙ later-run (at .memory) (now (root .args .inputclocks)) (now (root .args .inputcodes)) (at .outputclocks) (at .outputwords) _ _ _ (at .at) (done .result) (at .inv .leaping) some unstopped (at .inv .bound) (done .ensures .0) (done .ensures .1 .0) (done .ensures .1 .1) ∙ at .inv .run;
-      leaping = leaping-later (done .result) (span .result) _ _ (now (root .args .inputclocks)) (now (root .args .inputcodes)) _ _ (span .ensures) (later-leaping (at .memory) (now (root .args .inputclocks)) (now (root .args .inputcodes)) (at .outputclocks) (at .outputwords) _ _ _ (at .at) (done .result) (at .inv .leaping) some unstopped (at .inv .bound) (done .ensures .0) (done .ensures .1 .0) (done .ensures .1 .1));
-      bound = omega (arith, span .ensures .bound, later-bound (at .memory) (now (root .args .inputclocks)) (now (root .args .inputcodes)) (at .outputclocks) (at .outputwords) _ _ _ (at .at) (done .result) (at .inv .leaping) some unstopped (at .inv .bound) (done .ensures .0) (done .ensures .1 .0) (done .ensures .1 .1) .0);
+      run = run-later (root .args .halt) (done .result) (span .result) _ _ (now (root .args .inputclocks)) (now (root .args .inputcodes)) _ _ (span .ensures) ∙ later-run (root .args .halt) (at .memory) (now (root .args .inputclocks)) (now (root .args .inputcodes)) (at .outputclocks) (at .outputwords) _ _ _ (at .at) (done .result) (at .inv .leaping) some unstopped (at .inv .bound) (done .ensures .0) (done .ensures .1 .0) (done .ensures .1 .1) ∙ at .inv .run;
+      leaping = leaping-later (root .args .halt) (done .result) (span .result) _ _ (now (root .args .inputclocks)) (now (root .args .inputcodes)) _ _ (span .ensures) (later-leaping (root .args .halt) (at .memory) (now (root .args .inputclocks)) (now (root .args .inputcodes)) (at .outputclocks) (at .outputwords) _ _ _ (at .at) (done .result) (at .inv .leaping) some unstopped (at .inv .bound) (done .ensures .0) (done .ensures .1 .0) (done .ensures .1 .1));
+      bound = omega (arith, span .ensures .bound, later-bound (root .args .halt) (at .memory) (now (root .args .inputclocks)) (now (root .args .inputcodes)) (at .outputclocks) (at .outputwords) _ _ _ (at .at) (done .result) (at .inv .leaping) some unstopped (at .inv .bound) (done .ensures .0) (done .ensures .1 .0) (done .ensures .1 .1) .0);
       memory-kept = span .kept .1 .0 ∙ done .kept .1 .0 ∙ at .inv .memory-kept;
       times-kept = done .kept .1 .1 .1 .1 .0 ∙ at .inv .times-kept;
       words-kept = done .kept .1 .1 .1 .1 .1 .0 ∙ at .inv .words-kept;
@@ -94,7 +94,7 @@ returns : tie.Need-returns Inv-loop μ-loop
 returns c =
     let at = c .before .before .loop in
     let over = sym (c .before .goes-on .ensures) ∙ c .if1 .left in
-    run-ended (at .at) (at .memory) (now (c .before .before .before .before .before .before .before .before .before .args .inputclocks)) (now (c .before .before .before .before .before .before .before .before .before .args .inputcodes)) (at .outputclocks) (at .outputwords) over ∙ at .inv .run
+    run-ended (c .before .before .before .before .before .before .before .before .before .args .halt) (at .at) (at .memory) (now (c .before .before .before .before .before .before .before .before .before .args .inputclocks)) (now (c .before .before .before .before .before .before .before .before .before .args .inputcodes)) (at .outputclocks) (at .outputwords) over ∙ at .inv .run
 
 pub leap-on-spec : {M : Type 1} → statement M
 leap-on-spec =

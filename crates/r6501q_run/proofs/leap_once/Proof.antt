@@ -31,8 +31,8 @@ left-after-requires : tie.Need-left-after-requires
 left-after-requires c κs = search needs
 
 -- src/lib.rt:124:16
-add-t20 : tie.Need-add-t20
-add-t20 c =
+add-t21 : tie.Need-add-t21
+add-t21 c =
     let root = c .before .before .before .before .before .before .before .before .before .before .before .before .before .before .before .before .before .before .before .before .before .before in
     omega (arith, digit-le (ltb (root .args .at .progress .state .clock) (c .before .before .before .before .before .before .before .before .before .leap .result .state .clock)), c .before .before .leaps-from .ensures, root .pre .1 .0 .0, root .pre .1 .1 .0)
 
@@ -61,7 +61,7 @@ leap-once-spec =
     leap-requires
     leaps-from-requires
     left-after-requires
-    add-t20
+    add-t21
     same-length
     same-length-2
     same-length-3

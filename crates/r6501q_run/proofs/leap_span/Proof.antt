@@ -14,7 +14,7 @@ span-from-requires c κs = search needs
 
 -- src/lib.rt:194:9
 returns : tie.Need-returns
-returns c = no-span _ _ _
+returns c = no-span _ _ _ _
 
 -- src/lib.rt:196:5
 leap-within-requires : tie.Need-leap-within-requires

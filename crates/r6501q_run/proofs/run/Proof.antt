@@ -32,8 +32,8 @@ returns c =
     let words = now (root .args .outputwords) in
     let s = root .args .state in
     let n = root .args .n in
-    let left = run-refused n s memory clocks codes times words (c .before .before .call-refusal .result) (c .before .before .call-refusal .ensures) (c .before .if1 .taken) in
-    (rw (c .refused .ensures) left, rw (c .refused .ensures) (left ∙ runs-plainly n s memory clocks codes times words))
+    let left = run-refused (root .args .halt) n s memory clocks codes times words (c .before .before .call-refusal .result) (c .before .before .call-refusal .ensures) (c .before .if1 .taken) in
+    (rw (c .refused .ensures) left, rw (c .refused .ensures) (left ∙ runs-plainly (root .args .halt) n s memory clocks codes times words))
 
 -- src/lib.rt:178:19
 opcode-table-requires : tie.Need-opcode-table-requires
@@ -91,8 +91,8 @@ returns-2 c =
     let n = root .args .n in
     let good = sym (c .before .before .before .before .before .before .before .before .before .before .before .before .before .before .before .call-refusal .ensures) ∙ c .before .before .before .before .before .before .before .before .before .before .before .before .before .before .if1 .left in
     let went = rw (c .before .before .before .before .before .before .before .before .before .before .before .before .begin-run .ensures) at (c .before .before .before .before .before .before .before .leap-on .ensures) in
-    let left = runs s n memory clocks codes times words good (c .before .before .before .before .before .before .before .leap-on .result) _ _ _ went in
-    (rw (c .result-of .ensures) left, rw (c .result-of .ensures) (left ∙ runs-plainly n s memory clocks codes times words))
+    let left = runs s n memory clocks codes times words good (root .args .halt) (c .before .before .before .before .before .before .before .leap-on .result) _ _ _ went in
+    (rw (c .result-of .ensures) left, rw (c .result-of .ensures) (left ∙ runs-plainly (root .args .halt) n s memory clocks codes times words))
 
 pub run-spec : {M : Type 1} → statement M
 run-spec =

@@ -60,7 +60,7 @@ returns : tie.Need-returns
 returns c =
     let root = c .before .before .before .before .before .before .before .before .before .before .before .before .before .before .before in
     rw (c .stop-at .ensures)
-    (plain-stops _ _ _ (root .pre .0 .stop) (c .before .before .before .before .before .before .before .due-from .ensures) _ (sym (c .before .before .before .before .outcome-from .ensures) ∙ c .before .before .clocked .given .1) refl)
+    (plain-stops (root .args .halt) _ _ _ (root .pre .0 .stop) (c .before .before .before .before .before .before .before .due-from .ensures) _ (sym (c .before .before .before .before .outcome-from .ensures) ∙ c .before .before .clocked .given .1) refl)
 
 -- src/lib.rt:128:1
 same-length-2 : tie.Need-same-length-2
@@ -80,7 +80,7 @@ returns-2 c =
     let root = c .before .before .before .before .before .before .before .before .before .before .before .before .before .before .before .before .before .before .before .before .before .before .before .before in
     let done = c .before .before .before .before .before .before .complete .ensures in
     rw (done .0, done .1 .0, done .1 .1 .0, done .1 .1 .1, ← (drop-drop (c .before .before .before .before .before .before .before .before .before .before .before .before .before .before .before .before .due-from .result) (root .args .p .read) (now (root .args .inputclocks))), ← (drop-drop (c .before .before .before .before .before .before .before .before .before .before .before .before .before .before .before .before .due-from .result) (root .args .p .read) (now (root .args .inputcodes))))
-    (plain-moves _ _ _ (root .pre .0 .stop) (c .before .before .before .before .before .before .before .before .before .before .before .before .before .before .before .before .due-from .ensures) _ (sym (c .before .before .before .before .before .before .before .before .before .before .before .before .before .outcome-from .ensures) ∙ c .before .before .before .before .before .before .before .before .before .before .before .clocked2 .given .1) refl)
+    (plain-moves (root .args .halt) _ _ _ (root .pre .0 .stop) (c .before .before .before .before .before .before .before .before .before .before .before .before .before .before .before .before .due-from .ensures) _ (sym (c .before .before .before .before .before .before .before .before .before .before .before .before .before .outcome-from .ensures) ∙ c .before .before .before .before .before .before .before .before .before .before .before .clocked2 .given .1) refl)
 
 pub advance-spec : {M : Type 1} → statement M
 advance-spec =

@@ -9,44 +9,49 @@ use Rattle.r6501q_step.proofs.complete.Reads as reads
 use Rattle.r6501q_step.proofs.complete.Lts as lts
 use Rattle.r6501q_clock.proofs.commit.commit.Reads as commit-reads
 use Rattle.r6501q_step.proofs.put_record.Reads as put-record-reads
+use Rattle.r6501q_step.proofs.stop_after.Reads as stop-after-reads
 use Rattle.r6501q_step.proofs.written_after.Reads as written-after-reads
 
--- src/lib.rt:94:5
+-- src/lib.rt:129:5
 commit-requires : tie.Need-commit-requires
 commit-requires c κs = search needs
 
--- src/lib.rt:95:5
+-- src/lib.rt:130:5
 put-record-requires : tie.Need-put-record-requires
 put-record-requires c κs = search needs
 
--- src/lib.rt:96:5
+-- src/lib.rt:131:5
 put-record-requires-2 : tie.Need-put-record-requires-2
 put-record-requires-2 c κs = search needs
 
--- src/lib.rt:99:15
-add-t17 : tie.Need-add-t17
-add-t17 c = omega (arith, c .before .before .before .before .before .before .before .before .before .before .before .before .before .before .before .before .before .pre)
+-- src/lib.rt:134:15
+add-t18 : tie.Need-add-t18
+add-t18 c = omega (arith, c .before .before .before .before .before .before .before .before .before .before .before .before .before .before .before .before .before .pre)
 
--- src/lib.rt:100:18
+-- src/lib.rt:135:18
 written-after-requires : tie.Need-written-after-requires
 written-after-requires c κs = omega (arith, c .before .before .before .before .before .before .before .before .before .before .before .before .before .before .before .before .before .pre)
 
--- src/lib.rt:77:1
+-- src/lib.rt:136:15
+stop-after-requires : tie.Need-stop-after-requires
+stop-after-requires c κs = search needs
+
+-- src/lib.rt:109:1
 same-length : tie.Need-same-length
 same-length c = search needs
 
--- src/lib.rt:77:1
+-- src/lib.rt:109:1
 same-length-2 : tie.Need-same-length-2
 same-length-2 c = search needs
 
--- src/lib.rt:77:1
+-- src/lib.rt:109:1
 same-length-3 : tie.Need-same-length-3
 same-length-3 c = search needs
 
--- src/lib.rt:77:1
+-- src/lib.rt:109:1
 returns : tie.Need-returns
 returns c =
-    (rw (c .written-after .ensures) refl, (c .before .before .before .before .before .before .before .before .before .before .before .before .commit .ensures, (c .before .before .before .before .before .before .before .before .put-record .ensures, c .before .before .before .before .put-record2 .ensures)))
+    (rw (c .before .written-after .ensures, c .stop-after .ensures) refl, (c .before .before .before .before .before .before .before .before .before .before .before .before .before .commit .ensures, (c .before .before .before .before .before .before .before .before .before .put-record .ensures, c .before .before .before .before .before .put-record2 .ensures)))
 
 pub complete-spec : {M : Type 1} → statement M
 complete-spec =
@@ -55,8 +60,9 @@ complete-spec =
     commit-requires
     put-record-requires
     put-record-requires-2
-    add-t17
+    add-t18
     written-after-requires
+    stop-after-requires
     same-length
     same-length-2
     same-length-3

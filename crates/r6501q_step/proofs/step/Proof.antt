@@ -27,7 +27,7 @@ returns : tie.Need-returns
 returns c =
     let root = c .before .before .before .before .before .before .before .before .args in
     rw (c .refused .ensures)
-    (refuses (root .state) (now (root .memory)) (now (root .inputclocks)) (now (root .inputcodes)) (now (root .outputclocks)) (now (root .outputwords)) _ (c .before .before .call-refusal .ensures) (c .before .if1 .taken))
+    (refuses (root .halt) (root .state) (now (root .memory)) (now (root .inputclocks)) (now (root .inputcodes)) (now (root .outputclocks)) (now (root .outputwords)) _ (c .before .before .call-refusal .ensures) (c .before .if1 .taken))
 
 -- src/lib.rt:159:19
 opcode-table-requires : tie.Need-opcode-table-requires
@@ -74,7 +74,7 @@ returns-2 c =
     let good = sym (c .before .before .before .before .before .before .before .before .before .before .before .before .before .before .before .before .call-refusal .ensures) ∙ c .before .before .before .before .before .before .before .before .before .before .before .before .before .before .before .if1 .left in
     let went = rw (c .before .before .before .before .before .before .before .before .before .before .before .before .before .begin .ensures) at (c .before .before .before .before .before .before .before .before .advance .ensures) in
     rw (c .result-of .ensures, c .before .leaps-from .ensures)
-    (steps (root .state) (now (root .memory)) (now (root .inputclocks)) (now (root .inputcodes)) (now (root .outputclocks)) (now (root .outputwords)) good _ _ _ _ went)
+    (steps (root .state) (now (root .memory)) (now (root .inputclocks)) (now (root .inputcodes)) (now (root .outputclocks)) (now (root .outputwords)) good (root .halt) _ _ _ _ went)
 
 pub step-spec : {M : Type 1} → statement M
 step-spec =
