@@ -8,7 +8,8 @@
  * may be written, and while a call goes on nobody else writes any of the lists, the memory or the tape, or reads those
  * three.
  *
- * Rules and numbers are those of document 01, those of r6501q_latch document 02's. Hexadecimal ends in h.
+ * Rules and numbers are those of document 01, those of the halt address and of r6501q_latch document 02's. Hexadecimal
+ * ends in h.
  */
 #ifndef R6501Q_H
 #define R6501Q_H
@@ -27,6 +28,9 @@ extern "C" {
 
 /* Added to a pin's number in an input code where the new level is high. */
 #define R6501Q_HIGH 64
+
+/* A halt address that is none. So is any other above 65,535. */
+#define R6501Q_NO_HALT 0xFFFFFFFFu
 
 /* The highest clock rate and bit rate, and the highest tolerance in thousandths, of r6501q_latch. */
 #define R6501Q_HIGHEST_RATE 10000000
@@ -55,7 +59,11 @@ enum r6501q_number {
     R6501Q_WRONG_LAST_RECORD = 10, /* the last record's count is wrong; or it is missing, `place` the tape's length */
 
     /* A refused latch call (document 02, U2). */
-    R6501Q_RATE_OUT_OF_LIMITS = 11 /* a rate is 0, or a rate or the tolerance is above its limit */
+    R6501Q_RATE_OUT_OF_LIMITS = 11, /* a rate is 0, or a rate or the tolerance is above its limit */
+
+    /* Halted after the state's clock (document 02, U4), a stop like 6 and 7: state, memory and lists are as reached,
+     * that clock done, its inputs read and its record written. */
+    R6501Q_HALTED_AT_WRITE = 12 /* the clock wrote at the halt address */
 };
 
 /* The machine state (document 01, "Machine state"). The range of a field is that of its type where none is given. */
@@ -161,7 +169,7 @@ typedef struct r6501q_state {
 
 /* What a run or a step hands back. */
 typedef struct r6501q_call_result {
-    uint8_t number; /* R6501Q_DONE, or 1 to 7 of enum r6501q_number */
+    uint8_t number; /* R6501Q_DONE, or 1 to 7 or 12 of enum r6501q_number */
     r6501q_state state;
     uint32_t leaps; /* event clocks done, and 1 more where the last clock done is none; 0 if no clock is done */
     size_t read; /* the input entries read: the first so many of input_clocks and input_codes */
@@ -197,14 +205,21 @@ uint8_t r6501q_well_formed(r6501q_state state);
  *       output_clocks  space for records: the clock after which the driven word differs
  *       output_words   for each the driven word, PA0 in bit 0, PD7 in bit 31
  *       n              how many clocks; with 0 all checks are made and nothing is done
+ *       halt           the halt address, 0 to 65,535; none where it is above (R6501Q_NO_HALT). Every write of the CPU
+ *                      counts: stores and pushes, those of the NMI and IRQ entries too, and writes of registers, also
+ *                      of one that ignores the byte
  *
  * Back: 0              all n clocks done: state, memory and records are those of n single clocks
  *       1 to 5         refused: the state given, leaps, read and written 0, everything unchanged
  *       6, 7           stopped: state, memory, leaps, read and written as reached
+ *       12             halted: the last clock done wrote at the halt address, be it the last of the n or not; state,
+ *                      memory, leaps, read and written as reached, with that clock. 6 and 7 for that clock come first,
+ *                      and the clock behind it is not looked at
  *
  * Entries of the output lists from `written` on are never changed. The next call is lent the rest, input_clocks + read
- * and output_clocks + written with their pairs, and the state handed back. Where no call is refused, all but the leaps
- * come out the same however a stretch of clocks is cut into calls.
+ * and output_clocks + written with their pairs, and the state handed back; after a halt it goes on behind the write and
+ * does not halt for it again. Where no call is refused and all are given the same halt address, or none, all but the
+ * leaps come out the same however a stretch of clocks, up to its first stop, is cut into calls.
  */
 r6501q_call_result r6501q_run(r6501q_state state,
     uint8_t *memory, size_t memory_length,
@@ -212,15 +227,18 @@ r6501q_call_result r6501q_run(r6501q_state state,
     const uint8_t *input_codes, size_t input_codes_length,
     uint32_t *output_clocks, size_t output_clocks_length,
     uint32_t *output_words, size_t output_words_length,
-    uint32_t n);
+    uint32_t n,
+    uint32_t halt);
 
-/* A single clock: what r6501q_run hands back and leaves for n = 1, `leaps` 1 where the clock is done and else 0. */
+/* A single clock: what r6501q_run hands back and leaves for n = 1, `leaps` 1 where the clock is done (0 or 12) and else
+ * 0. */
 r6501q_call_result r6501q_step(r6501q_state state,
     uint8_t *memory, size_t memory_length,
     const uint32_t *input_clocks, size_t input_clocks_length,
     const uint8_t *input_codes, size_t input_codes_length,
     uint32_t *output_clocks, size_t output_clocks_length,
-    uint32_t *output_words, size_t output_words_length);
+    uint32_t *output_words, size_t output_words_length,
+    uint32_t halt);
 
 /* A paper tape into memory (document 01, "Tape"). The tape is checked whole before a byte is stored.
  *

@@ -18,7 +18,7 @@ const ENOUGH_CALLS: u32 = 100_000;
 
 // No inputs, and no records, as the program writes no port.
 fn call(state: State, memory: &mut [u8], n: u32) -> CallResult {
-    run(state, memory, &[], &[], &mut [], &mut [], n)
+    run(state, memory, &[], &[], &mut [], &mut [], n, None)
 }
 
 fn done(number: Number) -> Result<(), String> {

@@ -47,7 +47,7 @@ impl Row {
         let (result, time) = processor_time::of(|| {
             let mut leaps = Ok(0);
             for _ in 0..runs {
-                let result = run(start.state, &mut memory, clocks, codes, &mut [], &mut [], n);
+                let result = run(start.state, &mut memory, clocks, codes, &mut [], &mut [], n, None);
                 if (result.number, result.read) != (Number::Done, read) {
                     return Err(format!("{}, {} inputs read", result.number, result.read));
                 }

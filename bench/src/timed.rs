@@ -57,7 +57,7 @@ pub fn steps(chip: &mut Chip, clocks: u32) -> Result<Duration, String> {
 
 // So many clocks of the model. It checks the inputs that are left and walks each clock.
 pub fn walk(world: &mut World, clocks: u32) -> Result<Duration, String> {
-    let (outcome, time) = processor_time::of(|| plain_clock::run(world, u64::from(clocks)));
+    let (outcome, time) = processor_time::of(|| plain_clock::run(world, u64::from(clocks), None));
     match outcome.number {
         0 => Ok(time),
         number => Err(format!("the model ends with {number}")),

@@ -33,7 +33,8 @@ static void place(const uint8_t *program, size_t length)
 
 static r6501q_call_result run(r6501q_state state, uint32_t n)
 {
-    return r6501q_run(state, memory, sizeof memory, NULL, 0, NULL, 0, output_clocks, 100, output_words, 100, n);
+    return r6501q_run(state, memory, sizeof memory, NULL, 0, NULL, 0, output_clocks, 100, output_words, 100, n,
+        R6501Q_NO_HALT);
 }
 
 /* Document 01, "Fresh". */
@@ -252,8 +253,8 @@ static void check_inputs(void)
     static const uint8_t input_codes[] = {31, R6501Q_PIN_NMI, R6501Q_PIN_RES, 31 + R6501Q_HIGH};
     r6501q_call_result result;
     memset(memory, 0, sizeof memory);
-    result = r6501q_run(
-        r6501q_fresh(), memory, sizeof memory, input_clocks, 4, input_codes, 4, output_clocks, 0, output_words, 0, 3);
+    result = r6501q_run(r6501q_fresh(), memory, sizeof memory, input_clocks, 4, input_codes, 4, output_clocks, 0,
+        output_words, 0, 3, R6501Q_NO_HALT);
     SAME(result.number, 0);
     SAME(result.read, 2);
     SAME(result.state.external.ports, 0x7FFFFFFF);
@@ -265,7 +266,7 @@ static void check_inputs(void)
     SAME(result.state.due.reset, 0);
     SAME(result.state.due.nmi, 1);
     result = r6501q_run(result.state, memory, sizeof memory, input_clocks + 2, 2, input_codes + 2, 2, output_clocks, 0,
-        output_words, 0, 2);
+        output_words, 0, 2, R6501Q_NO_HALT);
     SAME(result.number, 0);
     SAME(result.read, 1);
     SAME(result.state.external.res, 0);
@@ -310,7 +311,8 @@ static void check_example(void)
 
     result.state = r6501q_fresh();
     for (clock = 1; clock <= 100; clock++) {
-        result = r6501q_step(result.state, memory, sizeof memory, NULL, 0, NULL, 0, output_clocks, 1, output_words, 1);
+        result = r6501q_step(result.state, memory, sizeof memory, NULL, 0, NULL, 0, output_clocks, 1, output_words, 1,
+            R6501Q_NO_HALT);
         SAME(result.number, R6501Q_DONE);
         SAME(result.state.clock, clock);
         SAME(result.leaps, 1);
@@ -319,7 +321,8 @@ static void check_example(void)
     SAME(result.state.cpu.pc, 0x204);
     SAME(result.state.cpu.wait, 2);
 
-    result = r6501q_run(r6501q_fresh(), memory, sizeof memory, NULL, 0, NULL, 0, NULL, 0, NULL, 0, 100);
+    result = r6501q_run(
+        r6501q_fresh(), memory, sizeof memory, NULL, 0, NULL, 0, NULL, 0, NULL, 0, 100, R6501Q_NO_HALT);
     SAME(result.number, R6501Q_NO_FREE_RECORD);
     SAME(result.state.clock, 9);
 
@@ -341,33 +344,75 @@ static void check_example(void)
     SAME(loaded.place, 0);
 }
 
-/* Each refusal of a run, and the order. */
+/* Each refusal of a run, and the order; a halt address makes no difference to them. */
 static void check_refusals(void)
 {
     static const uint32_t input_clocks[] = {7, 6};
     static const uint8_t input_codes[] = {1, 2};
     r6501q_state s = r6501q_fresh();
     memset(memory, 0, sizeof memory);
-    SAME(r6501q_run(s, memory, 65535, input_clocks, 2, input_codes, 1, output_clocks, 2, output_words, 2, 5).number,
-        R6501Q_WRONG_MEMORY_LENGTH);
-    SAME(r6501q_run(s, memory, 65536, input_clocks, 2, input_codes, 1, output_clocks, 2, output_words, 2, 5).number,
-        R6501Q_UNEQUAL_LISTS);
-    SAME(r6501q_run(s, memory, 65536, input_clocks, 2, input_codes, 2, output_clocks, 1, output_words, 2, 5).number,
-        R6501Q_UNEQUAL_LISTS);
-    SAME(r6501q_run(s, memory, 65536, input_clocks, 2, input_codes, 2, output_clocks, 2, output_words, 2, 5).number,
-        R6501Q_WRONG_PIN_LIST);
+#define REFUSED(memory_length, clocks_length, codes_length, free_clocks, free_words, n, expected) \
+    SAME(r6501q_run(s, memory, (memory_length), input_clocks, (clocks_length), input_codes, (codes_length), \
+             output_clocks, (free_clocks), output_words, (free_words), (n), 0xFF).number, (expected))
+    REFUSED(65535, 2, 1, 2, 2, 5, R6501Q_WRONG_MEMORY_LENGTH);
+    REFUSED(65536, 2, 1, 2, 2, 5, R6501Q_UNEQUAL_LISTS);
+    REFUSED(65536, 2, 2, 1, 2, 5, R6501Q_UNEQUAL_LISTS);
+    REFUSED(65536, 2, 2, 2, 2, 5, R6501Q_WRONG_PIN_LIST);
     s.clock = 0xFFFFFFF0;
-    SAME(r6501q_run(s, memory, 65536, input_clocks, 2, input_codes, 2, output_clocks, 2, output_words, 2, 16).number,
-        R6501Q_CLOCK_TOO_HIGH);
-    SAME(r6501q_run(s, memory, 65536, input_clocks, 0, input_codes, 0, output_clocks, 2, output_words, 2, 15).number,
-        R6501Q_DONE);
+    REFUSED(65536, 2, 2, 2, 2, 16, R6501Q_CLOCK_TOO_HIGH);
+    REFUSED(65536, 0, 0, 2, 2, 7, R6501Q_DONE); /* not refused: the reset entry, which pushes nothing */
     s.due.nmi = 2;
-    SAME(r6501q_run(s, memory, 65536, input_clocks, 2, input_codes, 1, output_clocks, 2, output_words, 2, 16).number,
-        R6501Q_STATE_NOT_WELL_FORMED);
+    REFUSED(65536, 2, 1, 2, 2, 16, R6501Q_STATE_NOT_WELL_FORMED);
+#undef REFUSED
     memory[0xFFFD] = 2;
     memory[0x200] = 2;
     SAME(run(r6501q_fresh(), 7).number, R6501Q_DONE);
     SAME(run(r6501q_fresh(), 8).number, R6501Q_UNDEFINED_OPCODE);
+}
+
+/* Document 02, U4: STA port A of 55h on clock 10, JSR on clock 13 with pushes at FFh and FEh, a store at 3Fh, which no
+ * register takes, on clock 19, one at FFFFh on clock 22. */
+static void check_halts(void)
+{
+    static const uint8_t program[]
+        = {0xA9, 0x55, 0x85, 0x00, 0x20, 0x07, 0x02, 0x85, 0x3F, 0x8D, 0xFF, 0xFF, 0x4C, 0x0C, 0x02};
+    static const struct {
+        uint32_t halt, clock;
+    } halts[] = {{0x0000, 10}, {0x00FF, 13}, {0x00FE, 13}, {0x003F, 19}, {0xFFFF, 22}};
+    static const uint32_t nowhere[] = {R6501Q_NO_HALT, 65536, 65536 + 0x00FF, 0x0000FFFFu + 65536, 0x7FFFFFFF,
+        0x80000000u, 0xFFFF0000u, 0x0001, 0x00FD, 0x0200, 0xFFFC};
+    r6501q_call_result result;
+    size_t i;
+    for (i = 0; i < sizeof halts / sizeof *halts; i++) {
+        place(program, sizeof program);
+        result = r6501q_run(r6501q_fresh(), memory, sizeof memory, NULL, 0, NULL, 0, output_clocks, 100, output_words,
+            100, 40, halts[i].halt);
+        SAME(result.number, R6501Q_HALTED_AT_WRITE);
+        SAME(result.state.clock, halts[i].clock);
+        SAME(result.written, 1);
+        result = r6501q_run(result.state, memory, sizeof memory, NULL, 0, NULL, 0, output_clocks, 100, output_words,
+            100, 40, halts[i].halt);
+        SAME(result.number, R6501Q_DONE);
+        SAME(result.state.clock, halts[i].clock + 40);
+        place(program, sizeof program);
+        result = run(r6501q_fresh(), halts[i].clock - 1);
+        result = r6501q_step(result.state, memory, sizeof memory, NULL, 0, NULL, 0, output_clocks, 100, output_words,
+            100, halts[i].halt);
+        SAME(result.number, R6501Q_HALTED_AT_WRITE);
+        SAME(result.leaps, 1);
+    }
+    for (i = 0; i < sizeof nowhere / sizeof *nowhere; i++) {
+        place(program, sizeof program);
+        result = r6501q_run(r6501q_fresh(), memory, sizeof memory, NULL, 0, NULL, 0, output_clocks, 100, output_words,
+            100, 40, nowhere[i]);
+        SAME(result.number, R6501Q_DONE);
+        SAME(result.state.clock, 40);
+    }
+    place(program, sizeof program);
+    result = r6501q_run(
+        r6501q_fresh(), memory, sizeof memory, NULL, 0, NULL, 0, NULL, 0, NULL, 0, 100, 0x0000);
+    SAME(result.number, R6501Q_NO_FREE_RECORD);
+    SAME(result.state.clock, 9);
 }
 
 /* Document 02's two examples of U2, and its limits. */
@@ -404,6 +449,7 @@ int main(void)
     check_inputs();
     check_example();
     check_refusals();
+    check_halts();
     check_latch();
     if (faults != 0) {
         printf("%d faults\n", faults);

@@ -40,7 +40,7 @@ pub const fn code(pin: u8, high: bool) -> u8 {
 #[must_use]
 #[derive(Clone, Copy, PartialEq, Eq, Debug)]
 pub struct CallResult {
-    /// [`Number::Done`]; or 1 to 5, refused, nothing changed; or 6 or 7, stopped, all as reached.
+    /// [`Number::Done`]; or 1 to 5, refused, nothing changed; or 6, 7 or 12, stopped, all as reached.
     pub number: Number,
     /// The chip afterwards; of a refused call the state given.
     pub state: State,
@@ -63,10 +63,16 @@ pub struct LoadResult {
     pub place: usize,
 }
 
-// The number that a byte of the library stands for: it is proved to give none above 11.
+// The number that a byte of the library stands for: it is proved to give none above 12.
 #[inline]
 pub(crate) fn number(byte: u8) -> Number {
-    Number::try_from(byte).expect("the library gives 0 to 11")
+    Number::try_from(byte).expect("the library gives 0 to 12")
+}
+
+// The halt address as the library takes it: any above 65,535 is none.
+#[inline]
+fn host_halt(halt: Option<u16>) -> u32 {
+    halt.map_or(u32::MAX, u32::from)
 }
 
 #[inline]
@@ -80,13 +86,14 @@ fn call_result(host: HostCallResult) -> CallResult {
     }
 }
 
-/// A single clock: what [`run`] hands back and leaves for `n` = 1, `leaps` 1 where the clock is done and else 0.
+/// A single clock: what [`run`] hands back and leaves for `n` = 1, `leaps` 1 where the clock is done (0 or 12) and else
+/// 0.
 ///
 /// ```
 /// use r6501q::{step, Number, State, MEMORY_LENGTH};
 ///
 /// let mut memory = vec![0; MEMORY_LENGTH];
-/// let result = step(State::fresh(), &mut memory, &[], &[], &mut [], &mut []);
+/// let result = step(State::fresh(), &mut memory, &[], &[], &mut [], &mut [], None);
 /// assert_eq!((result.number, result.leaps), (Number::Done, 1));
 /// assert_eq!((result.state.clock, result.state.cpu.wait), (1, 6)); // the reset entry takes 7 clocks
 /// ```
@@ -98,8 +105,10 @@ pub fn step(
     input_codes: &[u8],
     output_clocks: &mut [u32],
     output_words: &mut [u32],
+    halt: Option<u16>,
 ) -> CallResult {
-    call_result(library::step(state, memory, input_clocks, input_codes, output_clocks, output_words))
+    let halt = host_halt(halt);
+    call_result(library::step(state, memory, input_clocks, input_codes, output_clocks, output_words, halt))
 }
 
 /// `n` clocks, by leaps from event to event.
@@ -111,21 +120,32 @@ pub fn step(
 /// - `output_clocks`, `output_words`: space for a record, clock and driven word, after each clock that changes the
 ///   driven word (PA0 in bit 0, PD7 in bit 31). Entries from `written` on are never changed.
 /// - `n`: how many clocks. With 0 all checks are made and nothing is done.
+/// - `halt`: an address, or none. After the first clock in which the CPU writes there, be it the last of the `n`, the
+///   run ends with [`Number::HaltedAtWrite`]; that clock is done and recorded. Every write counts: stores, pushes, those
+///   of the NMI and IRQ entries too, and registers, also one that ignores the byte. 6 and 7 for that clock come first. A
+///   call with the state handed back goes on behind the write.
 ///
 /// ```
 /// use r6501q::{run, Number, State, MEMORY_LENGTH};
 ///
 /// // A memory of zeros holds BRK alone, which goes on forever; 02h is undefined.
 /// let mut memory = vec![0; MEMORY_LENGTH];
-/// let result = run(State::fresh(), &mut memory, &[], &[], &mut [], &mut [], 1_000);
+/// let result = run(State::fresh(), &mut memory, &[], &[], &mut [], &mut [], 1_000, None);
 /// assert_eq!((result.number, result.state.clock), (Number::Done, 1_000));
 ///
 /// let mut memory = vec![2; MEMORY_LENGTH];
-/// let result = run(State::fresh(), &mut memory, &[], &[], &mut [], &mut [], 1_000);
+/// let result = run(State::fresh(), &mut memory, &[], &[], &mut [], &mut [], 1_000, None);
 /// assert_eq!((result.number, result.state.clock), (Number::UndefinedOpcode, 7));
 ///
+/// // PHA alone: a push on clocks 8, 11, 14, .. at 00FFh, 00FEh, 00FDh, ..
+/// let mut memory = vec![0x48; MEMORY_LENGTH];
+/// let result = run(State::fresh(), &mut memory, &[], &[], &mut [], &mut [], 1_000, Some(0x00FD));
+/// assert_eq!((result.number, result.state.clock), (Number::HaltedAtWrite, 14));
+/// let result = run(result.state, &mut memory, &[], &[], &mut [], &mut [], 100, Some(0x00FD));
+/// assert_eq!((result.number, result.state.clock), (Number::Done, 114));
+///
 /// // A memory of another length is refused, and the state given comes back.
-/// let result = run(State::fresh(), &mut [0; 100], &[], &[], &mut [], &mut [], 1_000);
+/// let result = run(State::fresh(), &mut [0; 100], &[], &[], &mut [], &mut [], 1_000, None);
 /// assert_eq!((result.number, result.state), (Number::WrongMemoryLength, State::fresh()));
 /// ```
 #[inline]
@@ -137,8 +157,10 @@ pub fn run(
     output_clocks: &mut [u32],
     output_words: &mut [u32],
     n: u32,
+    halt: Option<u16>,
 ) -> CallResult {
-    call_result(library::run(state, memory, input_clocks, input_codes, output_clocks, output_words, n))
+    let halt = host_halt(halt);
+    call_result(library::run(state, memory, input_clocks, input_codes, output_clocks, output_words, n, halt))
 }
 
 /// A paper tape into memory (document 01, "Tape"). The tape is checked whole before a byte is stored; a refused tape

@@ -29,12 +29,35 @@ const SPACE: usize = 4_096;
 /// assert_eq!(chip.take_records().len(), 12);
 /// # Ok::<(), Number>(())
 /// ```
+///
+/// With a [halt address](Chip#structfield.halt) a run ends after the clock of the next write there. The next run goes on
+/// behind it:
+///
+/// ```
+/// use r6501q::{Chip, Number};
+///
+/// // INC 40h, then again: a write each 8 clocks.
+/// let mut chip = Chip::new();
+/// chip.memory[0x0200..0x0205].copy_from_slice(&[0xE6, 0x40, 0x4C, 0x00, 0x02]);
+/// chip.memory[0xFFFC..0xFFFE].copy_from_slice(&0x0200u16.to_le_bytes());
+/// chip.halt = Some(0x0040);
+///
+/// let mut clocks = Vec::new();
+/// while let Err(number) = chip.run(30 - chip.state.clock) {
+///     assert_eq!(number, Number::HaltedAtWrite);
+///     clocks.push(chip.state.clock);
+/// }
+/// assert_eq!((clocks, chip.state.clock), (vec![8, 16, 24], 30));
+/// ```
 #[derive(Clone, Debug)]
 pub struct Chip {
     /// The state. One that is not well-formed is refused with 2.
     pub state: State,
     /// The memory. One that is not 65,536 bytes is refused with 1.
     pub memory: Vec<u8>,
+    /// The halt address, none at first: each run and step ends with 12 after the clock of a write there, that clock done
+    /// and recorded. The next one goes on behind that write; set it to `None` to go on without halts.
+    pub halt: Option<u16>,
     input_clocks: Vec<u32>,
     input_codes: Vec<u8>,
     read: usize,
@@ -64,6 +87,7 @@ impl Chip {
         Chip {
             state,
             memory,
+            halt: None,
             input_clocks: Vec::new(),
             input_codes: Vec::new(),
             read: 0,
@@ -122,8 +146,8 @@ impl Chip {
     /// `n` clocks. The records stay in the chip until [`take_records`](Chip::take_records).
     ///
     /// # Errors
-    /// 1 to 5, refused, nothing changed; 6, stopped, all as reached. Lists set by [`set_inputs`](Chip::set_inputs) are
-    /// checked up to the last of these clocks.
+    /// 1 to 5, refused, nothing changed; 6, stopped, and 12, halted, all as reached. Lists set by
+    /// [`set_inputs`](Chip::set_inputs) are checked up to the last of these clocks.
     pub fn run(&mut self, n: u32) -> Result<(), Number> {
         self.go_on(n, |chip| chip.make_space(chip.written))
     }
@@ -208,9 +232,10 @@ impl Chip {
         let codes = &self.input_codes[self.read..codes_end];
         let output_clocks = &mut self.output_clocks[self.written..];
         let output_words = &mut self.output_words[self.written..];
+        let (state, memory, halt) = (self.state, &mut self.memory, self.halt);
         let result = match call {
-            Call::Run(n) => run(self.state, &mut self.memory, clocks, codes, output_clocks, output_words, n),
-            Call::Step => step(self.state, &mut self.memory, clocks, codes, output_clocks, output_words),
+            Call::Run(n) => run(state, memory, clocks, codes, output_clocks, output_words, n, halt),
+            Call::Step => step(state, memory, clocks, codes, output_clocks, output_words, halt),
         };
         self.state = result.state;
         self.read += result.read;

@@ -31,16 +31,19 @@
 //! let (mut output_clocks, mut output_words) = ([0; 8], [0; 8]);
 //!
 //! let first =
-//!     run(State::fresh(), &mut memory, &input_clocks, &input_codes, &mut output_clocks, &mut output_words, 8);
+//!     run(State::fresh(), &mut memory, &input_clocks, &input_codes, &mut output_clocks, &mut output_words, 8, None);
 //! assert_eq!((first.number, first.read), (Number::Done, 2));
 //! assert_eq!(first.state.external.ports, 0xFFFF_FFFC);
 //!
 //! let (input_clocks, input_codes) = (&input_clocks[first.read..], &input_codes[first.read..]);
 //! let (output_clocks, output_words) = (&mut output_clocks[first.written..], &mut output_words[first.written..]);
-//! let next = step(first.state, &mut memory, input_clocks, input_codes, output_clocks, output_words);
+//! let next = step(first.state, &mut memory, input_clocks, input_codes, output_clocks, output_words, None);
 //! assert_eq!((next.number, next.read), (Number::Done, 1));
 //! assert_eq!(next.state.peripherals.control.ifr & 1, 1); // the rise of PA0 set IFR0
 //! ```
+//!
+//! A run halts after the first clock that writes at a chosen address (document 02, U4): the last parameter of [`run`]
+//! and [`step`], or [`Chip::halt`](Chip#structfield.halt).
 //!
 //! [`latch`] finds a latch value of counter A for a wanted bit rate; it needs no chip:
 //!

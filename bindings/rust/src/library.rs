@@ -51,6 +51,7 @@ extern "C" {
         output_clocks_length: usize,
         output_words: *mut u32,
         output_words_length: usize,
+        halt: u32,
     ) -> HostCallResult;
     fn r6501q_run(
         state: State,
@@ -65,6 +66,7 @@ extern "C" {
         output_words: *mut u32,
         output_words_length: usize,
         n: u32,
+        halt: u32,
     ) -> HostCallResult;
     fn r6501q_load(tape: *const u8, tape_length: usize, memory: *mut u8, memory_length: usize) -> HostLoadResult;
     fn r6501q_latch(clock_rate: u32, bit_rate: u32, tolerance: u32) -> HostLatchResult;
@@ -90,6 +92,7 @@ pub(crate) fn step(
     input_codes: &[u8],
     output_clocks: &mut [u32],
     output_words: &mut [u32],
+    halt: u32,
 ) -> HostCallResult {
     // SAFETY: see the module's text.
     unsafe {
@@ -105,6 +108,7 @@ pub(crate) fn step(
             output_clocks.len(),
             output_words.as_mut_ptr(),
             output_words.len(),
+            halt,
         )
     }
 }
@@ -118,6 +122,7 @@ pub(crate) fn run(
     output_clocks: &mut [u32],
     output_words: &mut [u32],
     n: u32,
+    halt: u32,
 ) -> HostCallResult {
     // SAFETY: see the module's text.
     unsafe {
@@ -134,6 +139,7 @@ pub(crate) fn run(
             output_words.as_mut_ptr(),
             output_words.len(),
             n,
+            halt,
         )
     }
 }

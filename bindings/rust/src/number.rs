@@ -2,15 +2,16 @@
 use std::error::Error;
 use std::fmt;
 
-/// Why a call ended. 1 to 5 are refusals: the state given comes back, nothing is read, counted or changed. 6 and 7 are
-/// stops: all is as reached. 8 to 10 are refused tapes: memory is unchanged. 11 is a refused latch call.
+/// Why a call ended. 1 to 5 are refusals: the state given comes back, nothing is read, counted or changed. 6, 7 and 12
+/// are stops: all is as reached, and with 12 the clock of the write is done. 8 to 10 are refused tapes: memory is
+/// unchanged. 11 is a refused latch call.
 ///
 /// ```
 /// use r6501q::Number;
 ///
 /// assert_eq!(u8::from(Number::WrongPinList), 5);
 /// assert_eq!(Number::try_from(6), Ok(Number::UndefinedOpcode));
-/// assert!(Number::try_from(12).is_err());
+/// assert!(Number::try_from(13).is_err());
 /// assert_eq!(Number::NoFreeRecord.to_string(), "the next clock needs a record and none is free (7)");
 /// ```
 #[repr(u8)]
@@ -40,11 +41,13 @@ pub enum Number {
     WrongLastRecord = 10,
     /// A rate is 0, or a rate or the tolerance is above its limit.
     RateOutOfLimits = 11,
+    /// Halted after the clock of a write at the halt address: that clock is done and recorded.
+    HaltedAtWrite = 12,
 }
 
 impl Number {
     /// Every number, in order.
-    pub const ALL: [Number; 12] = [
+    pub const ALL: [Number; 13] = [
         Number::Done,
         Number::WrongMemoryLength,
         Number::StateNotWellFormed,
@@ -57,6 +60,7 @@ impl Number {
         Number::WrongCheckSum,
         Number::WrongLastRecord,
         Number::RateOutOfLimits,
+        Number::HaltedAtWrite,
     ];
 
     /// `Ok` for [`Number::Done`], the number itself as an error for every other.
@@ -95,6 +99,7 @@ impl Number {
             Number::WrongCheckSum => "a tape record's check sum is wrong",
             Number::WrongLastRecord => "the tape's last record is missing, or its count is wrong",
             Number::RateOutOfLimits => "a rate is 0, or a rate or the tolerance is above its limit",
+            Number::HaltedAtWrite => "the last clock wrote at the halt address",
         }
     }
 }
@@ -123,7 +128,7 @@ impl TryFrom<u8> for Number {
     }
 }
 
-/// A byte above 11, which no call gives.
+/// A byte above 12, which no call gives.
 #[derive(Clone, Copy, PartialEq, Eq, Debug)]
 pub struct NotANumber(
     /// The byte.
@@ -132,7 +137,7 @@ pub struct NotANumber(
 
 impl fmt::Display for NotANumber {
     fn fmt(&self, f: &mut fmt::Formatter<'_>) -> fmt::Result {
-        write!(f, "{} is above 11, the highest number that a call gives", self.0)
+        write!(f, "{} is above 12, the highest number that a call gives", self.0)
     }
 }
 
@@ -147,7 +152,7 @@ mod tests {
         for byte in 0..=u8::MAX {
             match Number::try_from(byte) {
                 Ok(number) => assert_eq!(u8::from(number), byte),
-                Err(NotANumber(other)) => assert_eq!((other, byte > 11), (byte, true)),
+                Err(NotANumber(other)) => assert_eq!((other, byte > 12), (byte, true)),
             }
         }
     }

@@ -28,7 +28,7 @@ fn plainly(n: u32) -> (State, Vec<u8>, Vec<Record>) {
     let (clocks, codes): (Vec<u32>, Vec<u8>) =
         inputs(n / 7 + 10).map(|(clock, level)| (clock, Pin::PB0.code(level))).unzip();
     let (mut output_clocks, mut output_words) = (vec![0; n as usize], vec![0; n as usize]);
-    let result = run(State::fresh(), &mut memory, &clocks, &codes, &mut output_clocks, &mut output_words, n);
+    let result = run(State::fresh(), &mut memory, &clocks, &codes, &mut output_clocks, &mut output_words, n, None);
     assert_eq!(result.number, Number::Done);
     let records = output_clocks.into_iter().zip(output_words).take(result.written);
     (result.state, memory, records.map(|(clock, word)| Record { clock, word }).collect())
@@ -78,6 +78,39 @@ fn a_stop_keeps_what_was_reached() {
     assert_eq!(chip.run_with(100, |record| taken.push(record)), Err(Number::UndefinedOpcode));
     assert_eq!((chip.state.clock, taken), (12, vec![Record { clock: 8, word: 0xFFFF_FF00 }]));
     assert_eq!(chip.step(), Err(Number::UndefinedOpcode));
+}
+
+#[test]
+fn a_halt_ends_a_run_and_the_next_goes_on() {
+    let mut chip = with_inputs(3);
+    chip.halt = Some(0x0000);
+    for clock in [8, 16, 24] {
+        assert_eq!(chip.run(100), Err(Number::HaltedAtWrite));
+        assert_eq!((chip.state.clock, chip.written()), (clock, (clock / 8) as usize));
+    }
+    for _ in 0..7 {
+        assert_eq!(chip.step(), Ok(()));
+    }
+    assert_eq!(chip.step(), Err(Number::HaltedAtWrite)); // the single clock is done too
+    assert_eq!((chip.state.clock, chip.read(), chip.written()), (32, 3, 4));
+    assert_eq!(chip.run(8), Err(Number::HaltedAtWrite)); // on the last clock
+    chip.halt = Some(0x0001);
+    assert_eq!(chip.run(8), Ok(()));
+    chip.halt = None;
+    assert_eq!(chip.run(1_000), Ok(()));
+    assert_eq!(chip.take_records().len(), 1_048 / 8);
+}
+
+#[test]
+fn space_is_made_for_the_record_of_a_halt() {
+    let mut chip = Chip::with(State::fresh(), counting());
+    chip.halt = Some(0x0000);
+    chip.set_space(&[], &[]);
+    assert_eq!(chip.call_run(100).number, Number::NoFreeRecord);
+    assert_eq!(chip.state.clock, 7);
+    let mut taken = Vec::new();
+    assert_eq!(chip.run_with(100, |record| taken.push(record)), Err(Number::HaltedAtWrite));
+    assert_eq!((chip.state.clock, taken), (8, vec![Record { clock: 8, word: 0xFFFF_FF00 }]));
 }
 
 #[test]

@@ -1,4 +1,4 @@
-//! Each number of document 01 from a call that earns it, and what stays unchanged.
+//! Each number of document 01, and 12 of document 02, from a call that earns it, and what stays unchanged.
 use r6501q::{code, load, run, step, CallResult, LoadResult, Number, State, MEMORY_LENGTH, PIN_NMI, PIN_RES};
 
 // What a call is lent. Memory and output space are filled so that a change shows.
@@ -9,6 +9,7 @@ struct Lent {
     input_codes: Vec<u8>,
     output_clocks: Vec<u32>,
     output_words: Vec<u32>,
+    halt: Option<u16>,
 }
 
 impl Lent {
@@ -20,6 +21,7 @@ impl Lent {
             input_codes: vec![code(0, false), code(PIN_NMI, false), code(PIN_NMI, true)],
             output_clocks: vec![0xAAAA_AAAA; 4],
             output_words: vec![0x5555_5555; 4],
+            halt: None,
         }
     }
 
@@ -32,6 +34,7 @@ impl Lent {
             &mut self.output_clocks,
             &mut self.output_words,
             n,
+            self.halt,
         )
     }
 
@@ -43,21 +46,26 @@ impl Lent {
             &self.input_codes,
             &mut self.output_clocks,
             &mut self.output_words,
+            self.halt,
         )
     }
 }
 
-// Both calls refuse with the number, give back the state and leave everything unchanged; n = 0 is checked alike.
+// Both calls refuse with the number, give back the state and leave everything unchanged, whatever the halt address; n =
+// 0 is checked alike.
 fn refused(number: Number, state: State, lent: Lent) {
     let expected = CallResult { number, state, leaps: 0, read: 0, written: 0 };
-    for n in [0, 1, 1000] {
+    for halt in [None, Some(0x0000), Some(0x00FF), Some(0xFFFF)] {
+        let lent = Lent { halt, ..lent.clone() };
+        for n in [0, 1, 1000] {
+            let mut after = lent.clone();
+            assert_eq!(after.run(state, n), expected, "run of {n}");
+            assert_eq!(after, lent);
+        }
         let mut after = lent.clone();
-        assert_eq!(after.run(state, n), expected, "run of {n}");
+        assert_eq!(after.step(state), expected, "step");
         assert_eq!(after, lent);
     }
-    let mut after = lent.clone();
-    assert_eq!(after.step(state), expected, "step");
-    assert_eq!(after, lent);
 }
 
 #[test]
@@ -241,6 +249,51 @@ fn a_record_without_space_is_7() {
     assert_eq!((lent.output_clocks, lent.output_words), (vec![8, 1], vec![0xFFFF_FF00, 1]));
 }
 
+// STA port A of 00h on clock 8, INC 40h on clock 11, then again; PB0 falls on clock 8.
+fn writing() -> Lent {
+    let mut lent = Lent { input_clocks: vec![8], input_codes: vec![code(8, false)], ..Lent::good() };
+    lent.memory[0x200..0x207].copy_from_slice(&[0x85, 0x00, 0xE6, 0x40, 0x4C, 0x00, 0x02]);
+    lent.memory[0xFFFD] = 2;
+    lent
+}
+
+#[test]
+fn a_write_at_the_halt_address_is_12() {
+    let mut lent = Lent { halt: Some(0x0000), ..writing() };
+    let result = lent.run(State::fresh(), 100);
+    assert_eq!((result.number, result.state.clock, result.leaps), (Number::HaltedAtWrite, 8, 2));
+    assert_eq!((result.read, result.written, result.state.cpu.wait), (1, 1, 2));
+    assert_eq!((lent.output_clocks[0], lent.output_words[0]), (8, 0xFFFF_FF00));
+    (lent.input_clocks, lent.input_codes, lent.halt) = (vec![], vec![], Some(0x0040));
+    let result = lent.run(result.state, 3);
+    assert_eq!((result.number, result.state.clock, lent.memory[0x40]), (Number::HaltedAtWrite, 11, 1));
+    let result = lent.step(result.state);
+    assert_eq!((result.number, result.state.clock), (Number::Done, 12));
+
+    let mut lent = Lent { halt: Some(0x0000), ..writing() };
+    assert_eq!(lent.run(State::fresh(), 8).number, Number::HaltedAtWrite);
+    let mut lent = Lent { halt: Some(0x0000), ..writing() };
+    let result = lent.run(State::fresh(), 7);
+    assert_eq!(result.number, Number::Done);
+    assert_eq!(lent.run(result.state, 0).number, Number::Done);
+    let result = lent.step(result.state);
+    assert_eq!((result.number, result.leaps, result.state.clock), (Number::HaltedAtWrite, 1, 8));
+    for halt in [None, Some(0x0200), Some(0xFFFD)] {
+        assert_eq!(Lent { halt, ..writing() }.run(State::fresh(), 100).number, Number::Done);
+    }
+}
+
+#[test]
+fn a_full_list_comes_before_a_halt() {
+    let mut lent = Lent { halt: Some(0x0000), output_clocks: vec![], output_words: vec![], ..writing() };
+    let result = lent.run(State::fresh(), 100);
+    assert_eq!((result.number, result.state.clock, result.read), (Number::NoFreeRecord, 7, 0));
+    (lent.output_clocks, lent.output_words) = (vec![1; 2], vec![1; 2]);
+    let result = lent.run(result.state, 100);
+    assert_eq!((result.number, result.state.clock, result.read), (Number::HaltedAtWrite, 8, 1));
+    assert_eq!((lent.output_clocks, lent.output_words), (vec![8, 1], vec![0xFFFF_FF00, 1]));
+}
+
 #[test]
 fn tapes() {
     let cases: [(&[u8], Number, usize); 13] = [
@@ -293,6 +346,7 @@ fn a_run_and_its_single_clocks_end_the_same() {
             &cut.input_codes[read..],
             &mut cut.output_clocks[written..],
             &mut cut.output_words[written..],
+            cut.halt,
         );
         assert_eq!((result.number, result.leaps), (Number::Done, 1));
         state = result.state;

@@ -195,6 +195,35 @@ static uint32_t random_count(void)
     }
 }
 
+/* A halt address near what firmware writes: the stack, the registers, page zero, anywhere; or none, with such an
+ * address in its lower half. */
+static uint32_t random_halt(const r6501q_state *s)
+{
+    uint32_t address;
+    switch (below(8)) {
+    case 0:
+    case 1:
+    case 2:
+        address = (uint8_t)(s->cpu.sp - below(6));
+        break;
+    case 3:
+    case 4:
+        address = (uint32_t)below(0x40);
+        break;
+    case 5:
+        address = (uint32_t)below(0x100);
+        break;
+    case 6:
+        address = chance(50) ? 0x0000 : 0xFFFF;
+        break;
+    default:
+        address = (uint32_t)below(65536);
+    }
+    if (chance(20))
+        return R6501Q_NO_HALT;
+    return chance(20) ? address + 65536 * (1 + (uint32_t)below(65535)) : address;
+}
+
 /* A count that lets an accepted call end soon, whatever the firmware. */
 static void reduce_count(given *g)
 {
@@ -253,11 +282,11 @@ static r6501q_call_result call_lent(tally *t, const given *g, int single)
     if (single)
         back = lib.step(place, g->state, pointer_of(&memory), g->memory_length, pointer_of(&input_clocks),
             g->input_clocks_length, pointer_of(&input_codes), g->input_codes_length, pointer_of(&output_clocks),
-            g->output_clocks_length, pointer_of(&output_words), g->output_words_length);
+            g->output_clocks_length, pointer_of(&output_words), g->output_words_length, g->halt);
     else
         back = lib.run(place, g->state, pointer_of(&memory), g->memory_length, pointer_of(&input_clocks),
             g->input_clocks_length, pointer_of(&input_codes), g->input_codes_length, pointer_of(&output_clocks),
-            g->output_clocks_length, pointer_of(&output_words), g->output_words_length, g->n);
+            g->output_clocks_length, pointer_of(&output_words), g->output_words_length, g->n, g->halt);
     after_call();
     DEMAND(back == place, "what is handed back is elsewhere");
     return *place;
@@ -307,7 +336,11 @@ static void judge_state(const given *g, const r6501q_call_result *result)
     DEMAND(well_formed(s), "the state is not well-formed");
     DEMAND(lib.well_formed(*s) == 1, "the library finds its own state not well-formed");
     DEMAND(s->clock >= g->state.clock && done <= g->n, "%u clocks done of %u", done, g->n);
-    DEMAND((result->number == 0) == (done == g->n), "number %d and %u clocks done of %u", result->number, done, g->n);
+    if (result->number == 12)
+        DEMAND(done > 0, "halted, and no clock is done");
+    else
+        DEMAND((result->number == 0) == (done == g->n), "number %d and %u clocks done of %u", result->number, done,
+            g->n);
     DEMAND(result->read == entries_up_to(g, s->clock), "%zu inputs read up to clock %u", result->read, s->clock);
     DEMAND(s->external.ports == external.ports && s->external.nmi == external.nmi && s->external.res == external.res,
         "the external levels are not as the inputs set them");
@@ -322,35 +355,74 @@ static void judge_state(const given *g, const r6501q_call_result *result)
         s->last.res == 1 || (s->cpu.wait == 0 && s->due.reset == 1 && s->due.nmi == 0), "RES low, and no reset is due");
 }
 
-/* A stop again from where it stopped: the same one, and nothing is done; where space was missing, one entry is enough.
- * */
+/* A single clock from where a call stopped, with one entry where space was missing: after 6 it stops again and nothing
+ * is done; after 7 it is done, and may be the clock of a halt; after 12 it is done, and is not. */
 static void judge_stop(tally *t, const given *g, const r6501q_call_result *result)
 {
     static uint8_t copy[MEMORY];
     uint32_t time = 0, word = 0;
     const size_t r = result->read, left = g->input_clocks_length - result->read;
-    const int space = result->number == 7;
+    const int space = result->number != 6;
     r6501q_call_result again;
     if (result->number == 6) {
         const uint16_t pc = result->state.cpu.pc;
         DEMAND(result->state.cpu.wait == 0 && result->state.due.reset == 0 && result->state.due.nmi == 0,
             "6 where nothing starts");
         DEMAND(pc < 0x40 || !is_defined(memory.data[pc]), "6 at a defined opcode");
+    } else if (result->number == 12) {
+        /* Writes come with the start of an instruction or of an entry. */
+        DEMAND(g->halt <= 0xFFFF, "12 with no halt address");
+        DEMAND(result->state.cpu.wait > 0 && result->state.last.res == 1, "12 where nothing has started");
     } else {
         DEMAND(result->written == g->output_words_length, "7 with space left");
     }
     memcpy(copy, memory.data, MEMORY);
     before_call(t);
     lib.step(&again, result->state, copy, MEMORY, (const uint32_t *)input_clocks.data + r, left, input_codes.data + r,
-        left, &time, space, &word, space);
+        left, &time, space, &word, space, g->halt);
     after_call();
     if (result->number == 6) {
         DEMAND(again.number == 6 && same_state(&again.state, &result->state), "6, and then not 6");
         DEMAND(memcmp(copy, memory.data, MEMORY) == 0, "a stopped clock changed memory");
+    } else if (result->number == 12) {
+        DEMAND(again.number == 0 && again.state.clock == result->state.clock + 1, "12, and the next clock is not done");
     } else {
-        DEMAND(again.number == 0 && again.written == 1, "7, and no record is written where there is space");
+        DEMAND((again.number == 0 || again.number == 12) && again.written == 1,
+            "7, and no record is written where there is space");
         DEMAND(time == result->state.clock + 1 && word == driven_word(&again.state), "the record that had no space");
     }
+}
+
+/* Whether a single clock that ends with this number is done. */
+static uint32_t clock_done(int number)
+{
+    return number == 0 || number == 12;
+}
+
+/* The same clocks, up to a halt, with no halt address, from copies: all is the same, but a halt is 0. */
+static void judge_without_halt(tally *t, const given *g, const r6501q_call_result *result)
+{
+    static uint8_t copy[MEMORY];
+    static uint32_t output_clocks_copy[MOST_RECORDS], output_words_copy[MOST_RECORDS];
+    const int halted = result->number == 12;
+    const uint32_t none = 65536 + (chance(50) ? g->halt : (uint32_t)below(UINT32_MAX - 65536));
+    r6501q_call_result whole;
+    memcpy(copy, memory.before, MEMORY);
+    memcpy(output_clocks_copy, output_clocks.before, output_clocks.length);
+    memcpy(output_words_copy, output_words.before, output_words.length);
+    before_call(t);
+    lib.run(&whole, g->state, copy, MEMORY, g->input_clocks, g->input_clocks_length, g->input_codes,
+        g->input_codes_length, output_clocks_copy, g->output_clocks_length, output_words_copy, g->output_words_length,
+        halted ? result->state.clock - g->state.clock : g->n, none);
+    after_call();
+    DEMAND(whole.number == (halted ? 0 : result->number), "without the halt: number %d", whole.number);
+    DEMAND(same_state(&whole.state, &result->state), "without the halt: another state");
+    DEMAND(whole.leaps == result->leaps, "without the halt: %u leaps, not %u", whole.leaps, result->leaps);
+    DEMAND(whole.read == result->read && whole.written == result->written, "without the halt: other counts");
+    DEMAND(memcmp(copy, memory.data, MEMORY) == 0, "without the halt: another memory");
+    DEMAND(memcmp(output_clocks_copy, output_clocks.data, output_clocks.length) == 0
+            && memcmp(output_words_copy, output_words.data, output_words.length) == 0,
+        "without the halt: other records");
 }
 
 /* The same clocks by calls of random lengths, from copies: all but the leaps must be the same. */
@@ -372,13 +444,15 @@ static void judge_cut(tally *t, const given *g, const r6501q_call_result *result
         if (single)
             lib.step(&part, part.state, copy, MEMORY, g->input_clocks + read, g->input_clocks_length - read,
                 g->input_codes + read, g->input_codes_length - read, output_clocks_copy + written,
-                g->output_clocks_length - written, output_words_copy + written, g->output_words_length - written);
+                g->output_clocks_length - written, output_words_copy + written, g->output_words_length - written,
+                g->halt);
         else
             lib.run(&part, part.state, copy, MEMORY, g->input_clocks + read, g->input_clocks_length - read,
                 g->input_codes + read, g->input_codes_length - read, output_clocks_copy + written,
-                g->output_clocks_length - written, output_words_copy + written, g->output_words_length - written, n);
+                g->output_clocks_length - written, output_words_copy + written, g->output_words_length - written, n,
+                g->halt);
         after_call();
-        DEMAND(!single || part.leaps == (part.number == 0), "%u leaps in a single clock", part.leaps);
+        DEMAND(!single || part.leaps == clock_done(part.number), "%u leaps in a single clock", part.leaps);
         read += part.read;
         written += part.written;
         left -= n;
@@ -395,14 +469,18 @@ static void judge_cut(tally *t, const given *g, const r6501q_call_result *result
 
 static void judge_accepted(tally *t, const given *g, const r6501q_call_result *result, int single)
 {
-    DEMAND(result->number == 0 || result->number == 6 || result->number == 7, "number %d of an accepted call",
-        result->number);
+    DEMAND(result->number == 0 || result->number == 6 || result->number == 7 || result->number == 12,
+        "number %d of an accepted call", result->number);
     judge_state(g, result);
     judge_records(g, result);
     DEMAND(memcmp(memory.data, memory.before, 0x40) == 0, "memory below 40h changed");
-    DEMAND(!single || result->leaps == (result->number == 0), "%u leaps in a single clock", result->leaps);
+    DEMAND(!single || result->leaps == clock_done(result->number), "%u leaps in a single clock", result->leaps);
     if (result->number != 0)
         judge_stop(t, g, result);
+    if (result->number != 12 && g->halt >= 0x40 && g->halt <= 0xFFFF)
+        DEMAND(memory.data[g->halt] == memory.before[g->halt], "the byte at the halt address changed without a halt");
+    if (g->halt <= 0xFFFF && result->state.clock - g->state.clock <= 300 && g->n <= MOST_CLOCKS && chance(30))
+        judge_without_halt(t, g, result);
     if (g->n <= 300 && chance(10))
         judge_cut(t, g, result);
     kept_state = result->state;
@@ -417,7 +495,7 @@ static r6501q_call_result judge_call(tally *t, const given *g, int single)
     lend_all(g, expected);
     result = call_lent(t, g, single);
     return_all();
-    DEMAND(result.number <= 10, "number %d", result.number);
+    DEMAND(result.number <= 12, "number %d", result.number);
     t->numbers[result.number]++;
     if (expected != 0) {
         DEMAND(result.number == expected, "number %d, not %d", result.number, expected);
@@ -441,6 +519,7 @@ static given given_lists(r6501q_state state, uint32_t n)
     g.output_clocks_length = output_clocks.length / 4;
     g.output_words_length = output_words.length / 4;
     g.n = n;
+    g.halt = random_halt(&state);
     return g;
 }
 
@@ -482,6 +561,7 @@ void judge_overlong(tally *t)
     r6501q_call_result result;
     memset(&g, 0, sizeof g);
     g.n = n;
+    g.halt = random_halt(&state);
     g.memory_length = MEMORY;
     switch (below(6)) {
     case 0:
@@ -511,7 +591,7 @@ void judge_overlong(tally *t)
     g.state = state;
     before_call(t);
     lib.run(&result, state, here, g.memory_length, list, g.input_clocks_length, here, g.input_codes_length, list,
-        g.output_clocks_length, list, g.output_words_length, g.n);
+        g.output_clocks_length, list, g.output_words_length, g.n, g.halt);
     after_call();
     DEMAND(result.number == refusal(&g), "overlong: number %d, not %d", result.number, refusal(&g));
     DEMAND(same_state(&result.state, &state), "overlong: another state");
@@ -575,7 +655,7 @@ void judge_early_stop(tally *t)
     memset(memory.data, 0x02, MEMORY);
     result = judge_call(t, &g, 0);
     /* What is left of an instruction, then at most an entry for each cause. */
-    DEMAND(result.number == 6 || result.number == 7, "early stop: number %d", result.number);
+    DEMAND(result.number == 6 || result.number == 7 || result.number == 12, "early stop: number %d", result.number);
     DEMAND(
         result.state.clock - state.clock <= 6 + 3 * 7, "early stop after %u clocks", result.state.clock - state.clock);
     close_all();

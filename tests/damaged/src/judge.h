@@ -7,7 +7,7 @@
 /* How many calls were made, and how often each number came back. */
 typedef struct tally {
     unsigned long calls;
-    unsigned long numbers[11];
+    unsigned long numbers[13];
 } tally;
 
 /* Makes the lists ready. A call that is not back after so many seconds is a fault. */
@@ -22,7 +22,7 @@ void judge_overlong(tally *t);
 /* A run of very many clocks with RES low. */
 void judge_long(tally *t);
 
-/* A run of very many clocks that an undefined opcode stops soon, or a full list before it. */
+/* A run of very many clocks that an undefined opcode stops soon, or before it a full list or a halt. */
 void judge_early_stop(tally *t);
 
 /* A load of a random tape. */

@@ -10,11 +10,11 @@
 typedef r6501q_call_result *run_call(r6501q_call_result *result, r6501q_state state, uint8_t *memory,
     size_t memory_length, const uint32_t *input_clocks, size_t input_clocks_length, const uint8_t *input_codes,
     size_t input_codes_length, uint32_t *output_clocks, size_t output_clocks_length, uint32_t *output_words,
-    size_t output_words_length, uint32_t n);
+    size_t output_words_length, uint32_t n, uint32_t halt);
 typedef r6501q_call_result *step_call(r6501q_call_result *result, r6501q_state state, uint8_t *memory,
     size_t memory_length, const uint32_t *input_clocks, size_t input_clocks_length, const uint8_t *input_codes,
     size_t input_codes_length, uint32_t *output_clocks, size_t output_clocks_length, uint32_t *output_words,
-    size_t output_words_length);
+    size_t output_words_length, uint32_t halt);
 typedef r6501q_load_result load_call(const uint8_t *tape, size_t tape_length, uint8_t *memory, size_t memory_length);
 typedef uint8_t well_formed_call(r6501q_state state);
 

@@ -32,7 +32,7 @@ static void print_tally(const char *part, const tally *t)
 {
     int number;
     printf("%s: %lu calls;", part, t->calls);
-    for (number = 0; number <= 10; number++)
+    for (number = 0; number <= 12; number++)
         if (t->numbers[number] > 0)
             printf(" %d: %lu", number, t->numbers[number]);
     printf("\n");
@@ -60,6 +60,7 @@ static void runs(unsigned long count)
     }
     print_tally("runs and steps", &t);
     demand_met("runs and steps", &t, 0, 7);
+    demand_met("runs and steps", &t, 12, 12);
 }
 
 static void tapes(unsigned long count)
@@ -98,6 +99,7 @@ static void long_runs(unsigned long count)
     print_tally("runs of up to 4,294,967,295 clocks", &t);
     demand_met("runs of up to 4,294,967,295 clocks", &t, 0, 0);
     demand_met("runs of up to 4,294,967,295 clocks", &t, 6, 7);
+    demand_met("runs of up to 4,294,967,295 clocks", &t, 12, 12);
 }
 
 int main(int arguments, char **argument)

@@ -1,5 +1,5 @@
-/* What document 01 says of a call before it does anything, and of what it hands back: written from the paper, apart
- * from the library. */
+/* What documents 01 and 02 say of a call before it does anything, and of what it hands back: written from the papers,
+ * apart from the library. */
 #ifndef RULES_H
 #define RULES_H
 
@@ -16,6 +16,7 @@ typedef struct given {
     size_t output_clocks_length;
     size_t output_words_length;
     uint32_t n;
+    uint32_t halt; /* above 65,535: none */
 } given;
 
 /* Document 01, "Machine state": every field within its range. */

@@ -39,6 +39,12 @@ enum fault {
     STORES_A_REFUSED_TAPE,
     READS_BEHIND_TAPE,
     WELL_FORMED_BUT_FOR_A_LEVEL,
+    HALT_MODULO_2_TO_16,
+    NO_HALT_IN_PAGE_ZERO,
+    NO_HALT_ON_THE_LAST_CLOCK,
+    HALTS_A_CLOCK_LATE,
+    HALTED_CLOCK_IS_NO_LEAP,
+    HALT_WITHOUT_ITS_RECORD,
     READS_A_REGISTERS_BYTE,
     DECIDES_BY_FREE_SPACE
 };
@@ -51,14 +57,14 @@ static volatile uint32_t seen;
 static r6501q_call_result *wrong_run(r6501q_call_result *result, r6501q_state state, uint8_t *memory,
     size_t memory_length, const uint32_t *input_clocks, size_t input_clocks_length, const uint8_t *input_codes,
     size_t input_codes_length, uint32_t *output_clocks, size_t output_clocks_length, uint32_t *output_words,
-    size_t output_words_length, uint32_t n)
+    size_t output_words_length, uint32_t n, uint32_t halt)
 {
     const r6501q_state given_state = state;
     size_t inputs = input_clocks_length;
     switch (fault) {
     case STATE_BEFORE_MEMORY:
         if (memory_length != 65536 && !well_formed(&state))
-            return right.run(result, state, NULL, 65536, NULL, 0, NULL, 0, NULL, 0, NULL, 0, 0);
+            return right.run(result, state, NULL, 65536, NULL, 0, NULL, 0, NULL, 0, NULL, 0, 0, halt);
         break;
     case MEMORY_MODULO_2_TO_32:
         memory_length = (uint32_t)memory_length;
@@ -99,6 +105,12 @@ static r6501q_call_result *wrong_run(r6501q_call_result *result, r6501q_state st
     case STOPS_EARLY:
         n = n > 20 ? n - 1 : n;
         break;
+    case HALT_MODULO_2_TO_16:
+        halt %= 65536;
+        break;
+    case NO_HALT_IN_PAGE_ZERO:
+        halt = halt < 0x100 ? R6501Q_NO_HALT : halt;
+        break;
     case DOES_NOT_COME_BACK:
         while (n == 17)
             seen = n;
@@ -107,7 +119,7 @@ static r6501q_call_result *wrong_run(r6501q_call_result *result, r6501q_state st
         break;
     }
     right.run(result, state, memory, memory_length, input_clocks, input_clocks_length, input_codes, input_codes_length,
-        output_clocks, output_clocks_length, output_words, output_words_length, n);
+        output_clocks, output_clocks_length, output_words, output_words_length, n, halt);
     switch (fault) {
     case REFUSED_CALL_CHANGES_MEMORY:
         if (result->number >= 1 && result->number <= 5 && memory_length > 0)
@@ -159,6 +171,31 @@ static r6501q_call_result *wrong_run(r6501q_call_result *result, r6501q_state st
         if (result->number == 0)
             result->state.cpu.p |= 0x20;
         break;
+    case NO_HALT_ON_THE_LAST_CLOCK:
+        if (result->number == 12 && result->state.clock - given_state.clock == n)
+            result->number = 0;
+        break;
+    case HALTS_A_CLOCK_LATE:
+        if (result->number == 12 && result->state.clock - given_state.clock < n) {
+            const r6501q_call_result first = *result;
+            right.step(result, first.state, memory, memory_length, input_clocks + first.read, inputs - first.read,
+                input_codes + first.read, inputs - first.read, output_clocks + first.written,
+                output_clocks_length - first.written, output_words + first.written, output_words_length - first.written,
+                halt);
+            result->number = 12;
+            result->leaps += first.leaps;
+            result->read += first.read;
+            result->written += first.written;
+        }
+        break;
+    case HALTED_CLOCK_IS_NO_LEAP:
+        if (result->number == 12 && result->leaps > 1)
+            result->leaps--;
+        break;
+    case HALT_WITHOUT_ITS_RECORD:
+        if (result->number == 12 && result->written > 0)
+            result->written--;
+        break;
     case READS_A_REGISTERS_BYTE:
         if (result->number == 0 && n > 0)
             seen = memory[0x3F];
@@ -176,10 +213,11 @@ static r6501q_call_result *wrong_run(r6501q_call_result *result, r6501q_state st
 static r6501q_call_result *wrong_step(r6501q_call_result *result, r6501q_state state, uint8_t *memory,
     size_t memory_length, const uint32_t *input_clocks, size_t input_clocks_length, const uint8_t *input_codes,
     size_t input_codes_length, uint32_t *output_clocks, size_t output_clocks_length, uint32_t *output_words,
-    size_t output_words_length)
+    size_t output_words_length, uint32_t halt)
 {
     return wrong_run(result, state, memory, memory_length, input_clocks, input_clocks_length, input_codes,
-        input_codes_length, output_clocks, output_clocks_length, output_words, output_words_length, 1);
+        input_codes_length, output_clocks, output_clocks_length, output_words, output_words_length, 1,
+        halt);
 }
 
 static r6501q_load_result wrong_load(const uint8_t *tape, size_t tape_length, uint8_t *memory, size_t memory_length)

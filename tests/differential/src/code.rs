@@ -44,10 +44,16 @@ impl Writer<'_> {
     }
 }
 
-fn put_word(memory: &mut [u8], address: u16, word: u16) {
-    let [low, high] = word.to_le_bytes();
+/// A pointer for JMP indirect, its high byte at the address plus 1 within the page (document 02, U5); where that is
+/// another page's address, mostly another byte there.
+fn put_jump_pointer(random: &Random, memory: &mut [u8], address: u16, target: u16) {
+    let [low, high] = target.to_le_bytes();
+    let next = address.wrapping_add(1);
+    if random.percent(80) {
+        memory[usize::from(next)] = random.byte();
+    }
     memory[usize::from(address)] = low;
-    memory[usize::from(address.wrapping_add(1))] = high;
+    memory[usize::from(address & 0xFF00 | next & 0x00FF)] = high;
 }
 
 pub fn interesting_byte(random: &Random) -> u8 {
@@ -126,16 +132,22 @@ fn defined_opcode(random: &Random, style: Style) -> u8 {
     }
 }
 
-/// A pointer for JMP indirect, often with its low byte at a page's end, and a target that it leads to.
+/// A pointer for JMP indirect, often with its low byte at a page's end, and a target that it leads to. At 00FFh the
+/// high byte is port A's, at 003Fh the low byte is a register's.
 fn jump_indirect(random: &Random, writer: &mut Writer, block: u16) {
-    let pointer = match random.below(10) {
+    let pointer = match random.below(14) {
         0..=4 => random.word() | 0xFF,
-        5 => 0xFFFF,
-        6 => random.below(0x40) as u16,
+        5..=6 => 0xFFFF,
+        7..=8 => 0x00FF,
+        9 => 0x003F,
+        10 => random.below(0x40) as u16,
         _ => random.word(),
     };
     if random.percent(85) {
-        put_word(writer.memory, pointer, block);
+        put_jump_pointer(random, writer.memory, pointer, block);
+    }
+    if pointer == 0x00FF && random.percent(70) {
+        writer.bytes(&[0xA9, (block >> 8) as u8, 0x85, 0x00]);
     }
     writer.byte(0x6C);
     writer.word(pointer);
@@ -252,7 +264,7 @@ fn enter_pulse_mode(random: &Random, writer: &mut Writer) {
 }
 
 fn jump_indirect_back(random: &Random, writer: &mut Writer, style: Style, block: u16) {
-    if style == Style::Wild && random.percent(25) {
+    if style == Style::Wild && random.percent(50) {
         jump_indirect(random, writer, block);
     }
 }

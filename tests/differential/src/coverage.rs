@@ -15,7 +15,7 @@ use plain_clock::serial::{
 };
 use plain_clock::shifted::{receiver_shift, sender_tick, ShiftedBytes};
 use plain_clock::state::FLAG_D;
-use plain_clock::{ClockReport, Outcome, State, Turn, World};
+use plain_clock::{run, ClockReport, Outcome, State, Turn, World};
 
 macro_rules! kinds {
     ($($name:ident: $text:literal,)*) => {
@@ -138,6 +138,8 @@ kinds! {
     ManyInputs: "input: three or more on one clock",
     JmpPageEnd: "instruction: JMP indirect, pointer at a page's end",
     JmpTop: "instruction: JMP indirect, pointer at FFFFh",
+    JmpPortA: "instruction: JMP indirect, pointer at 00FFh, high byte from port A",
+    JmpRegisters: "instruction: JMP indirect, pointer at 003Fh",
     DecimalAdc: "instruction: decimal ADC",
     DecimalSbc: "instruction: decimal SBC",
     PushRegister: "instruction or entry: push at a register",
@@ -164,6 +166,35 @@ kinds! {
     Stop7Underflow: "stop 7: for an underflow's inversion",
     Stop7Reset: "stop 7: under RES low",
     Stop7Shift: "stop 7: for the clock of a sender",
+    Stop7Halt: "stop 7: on a clock that would write at the halt address",
+    HaltGiven: "halt: address given, all clocks done",
+    HaltRefused: "halt: address given, call refused",
+    HaltStored: "halt: at a store at 100h or above",
+    HaltStoredZero: "halt: at a store at 40h to FFh",
+    HaltModified: "halt: at a read-modify-write instruction at 40h or above",
+    HaltRegister: "halt: at a write of a register",
+    HaltModifiedRegister: "halt: at a read-modify-write instruction at a register",
+    HaltIgnored: "halt: at a write of a register that ignores it",
+    HaltPushed: "halt: at an instruction's push at 40h or above",
+    HaltEntry: "halt: at a push of NMI or IRQ",
+    HaltPushedRegister: "halt: at a push at a register",
+    HaltSecond: "halt: at the second write of its clock",
+    HaltThird: "halt: at the third write of its clock",
+    HaltSame: "halt: at a byte that the memory held already",
+    HaltZero: "halt: at 0000h",
+    HaltTop: "halt: at FFFFh",
+    HaltRecorded: "halt: on a clock with a record",
+    HaltInput: "halt: on a clock with an input",
+    HaltUnderflow: "halt: on a clock with an underflow",
+    HaltBehindGap: "halt: behind a gap above 0",
+    HaltLast: "halt: on the last of two or more clocks of a call",
+    HaltHuge: "halt: in a run of over 1,000,000 clocks",
+    HaltBeforeFull: "halt: the next clock needs a record, none free",
+    HaltRead: "halt: address read, not written, on a clock done",
+    HaltReset: "halt: reset entry, SP at the address",
+    HaltAfterFull: "halt: in the list behind a stop 7 on that clock",
+    HaltAgain: "halt: in the list behind a halt at the same address",
+    AfterHalt: "call: all clocks done in the list behind a halt",
 }
 
 const KINDS: usize = TEXTS.len();
@@ -177,8 +208,8 @@ const FORMS: usize = 16;
 #[derive(Clone)]
 pub struct Coverage {
     counts: [u64; KINDS],
-    /// By `step` and by `run`, numbers 0 to 7.
-    numbers: [[u64; 8]; 2],
+    /// By `step` and by `run`, numbers 0 to 12.
+    numbers: [[u64; 13]; 2],
     opcodes: [u64; 256],
     /// Registers read, read to be modified, written.
     registers: [[u64; 64]; 3],
@@ -195,13 +226,27 @@ pub struct Coverage {
     longest_gap: u64,
     gap: u64,
     refused_before: bool,
+    /// Clocks done in the present call.
+    call_clocks: u32,
+    halts: Halts,
+}
+
+/// What halts are judged by.
+#[derive(Clone, Default)]
+struct Halts {
+    /// The present list's address.
+    address: Option<u16>,
+    /// The list before: its address, the stop that ended it, and whether that was a 7 on a clock that writes there.
+    before: Option<(Option<u16>, u8, bool)>,
+    /// The last clock done, and whether it came behind a gap.
+    last: Option<(ClockReport, bool)>,
 }
 
 impl Coverage {
     pub fn new() -> Self {
         Coverage {
             counts: [0; KINDS],
-            numbers: [[0; 8]; 2],
+            numbers: [[0; 13]; 2],
             opcodes: [0; 256],
             registers: [[0; 64]; 3],
             sent: [0; FORMATS],
@@ -216,6 +261,8 @@ impl Coverage {
             longest_gap: 0,
             gap: 0,
             refused_before: false,
+            call_clocks: 0,
+            halts: Halts::default(),
         }
     }
 
@@ -230,6 +277,7 @@ impl Coverage {
     pub fn scenario(&mut self, scenario: &Scenario) {
         self.scenarios += 1;
         self.refused_before = false;
+        self.halts = Halts::default();
         self.shifted.start();
         self.pa4_risen = None;
         self.met(match scenario.state_kind() {
@@ -240,8 +288,15 @@ impl Coverage {
         self.met_if(scenario.state.clock > u32::MAX - 300, Kind::StartNearTop);
     }
 
+    /// A list, whose calls are given this halt address or none.
+    pub fn begin_list(&mut self, halt: Option<u16>) {
+        self.halts.address = halt;
+    }
+
     pub fn begin_call(&mut self) {
         self.gap = 0;
+        self.call_clocks = 0;
+        self.halts.last = None;
     }
 
     /// A call, after the model has done it.
@@ -251,6 +306,7 @@ impl Coverage {
         self.numbers[by_run][usize::from(outcome.number)] += 1;
         if (1..=5).contains(&outcome.number) {
             self.refused_before = true;
+            self.met_if(self.halts.address.is_some(), Kind::HaltRefused);
             return;
         }
         let n = call.clocks();
@@ -264,6 +320,57 @@ impl Coverage {
         if outcome.number > 5 {
             self.stop(world);
         }
+        self.halt(call, outcome, world);
+    }
+
+    /// An accepted call, with a halt address or behind a list that ended with a halt.
+    fn halt(&mut self, call: Call, outcome: &Outcome, world: &World) {
+        let (address, before) = (self.halts.address, self.halts.before);
+        let done = outcome.number == 0 && call.clocks() > 0;
+        self.met_if(done && address.is_some(), Kind::HaltGiven);
+        self.met_if(done && matches!(before, Some((_, 12, _))), Kind::AfterHalt);
+        let full = outcome.number == 7 && halts_with_space(world, address);
+        self.met_if(full, Kind::Stop7Halt);
+        if outcome.number == 12 {
+            self.halted(call, world);
+            self.met_if(matches!(before, Some((_, 7, true))) && outcome.leaps == 1, Kind::HaltAfterFull);
+            self.met_if(matches!(before, Some((same, 12, _)) if same == address), Kind::HaltAgain);
+        }
+        if outcome.number > 5 {
+            self.halts.before = Some((address, outcome.number, full));
+        }
+    }
+
+    fn halted(&mut self, call: Call, world: &World) {
+        let (Some(address), Some((report, behind_gap))) = (self.halts.address, self.halts.last) else { return };
+        let accesses = report.accesses.list();
+        let writes: Vec<_> = accesses.iter().filter(|access| access.kind == AccessKind::Write).collect();
+        let Some(place) = writes.iter().position(|write| write.address == address) else { return };
+        let operation = report.opcode.map(|opcode| TABLE[usize::from(opcode)].operation);
+        let modified = accesses.iter().any(|access| access.kind == AccessKind::ReadToModify);
+        let pushed = operation.is_none_or(pushes);
+        let register = address < 0x40;
+        self.met_if(!pushed && !modified && address >= 0x100, Kind::HaltStored);
+        self.met_if(!pushed && !modified && !register && address < 0x100, Kind::HaltStoredZero);
+        self.met_if(modified && !register, Kind::HaltModified);
+        self.met_if(modified && register, Kind::HaltModifiedRegister);
+        self.met_if(register, Kind::HaltRegister);
+        self.met_if(register && ignores(address), Kind::HaltIgnored);
+        self.met_if(pushed && operation.is_some() && !register, Kind::HaltPushed);
+        self.met_if(operation.is_none(), Kind::HaltEntry);
+        self.met_if(pushed && register, Kind::HaltPushedRegister);
+        self.met_if(place == 1, Kind::HaltSecond);
+        self.met_if(place == 2, Kind::HaltThird);
+        self.met_if(writes[place].writes_the_same(), Kind::HaltSame);
+        self.met_if(address == 0x0000, Kind::HaltZero);
+        self.met_if(address == 0xFFFF, Kind::HaltTop);
+        self.met_if(report.record, Kind::HaltRecorded);
+        self.met_if(report.met.inputs > 0, Kind::HaltInput);
+        self.met_if(report.met.underflow_a || report.met.underflow_b, Kind::HaltUnderflow);
+        self.met_if(behind_gap, Kind::HaltBehindGap);
+        self.met_if(self.call_clocks > 1 && self.call_clocks == call.clocks(), Kind::HaltLast);
+        self.met_if(call.clocks() > 1_000_000, Kind::HaltHuge);
+        self.met_if(full_next(world), Kind::HaltBeforeFull);
     }
 
     /// A stop, from the state that it left.
@@ -283,6 +390,8 @@ impl Coverage {
     /// A done clock.
     pub fn clock(&mut self, before: &State, after: &State, report: &ClockReport) {
         self.clocks += 1;
+        self.call_clocks += 1;
+        self.halts.last = Some((*report, self.gap > 0));
         if !report.event {
             self.gap += 1;
             return;
@@ -305,6 +414,7 @@ impl Coverage {
             None => {}
         }
         self.accesses(before, report);
+        self.halt_address_unmet(after, report);
         if report.record {
             self.record(before, report, after);
         }
@@ -458,6 +568,16 @@ impl Coverage {
         }
     }
 
+    /// A done clock that does not write at the halt address.
+    fn halt_address_unmet(&mut self, after: &State, report: &ClockReport) {
+        let Some(address) = self.halts.address else { return };
+        if report.accesses.writes(address) {
+            return;
+        }
+        self.met_if(report.accesses.list().iter().any(|access| access.address == address), Kind::HaltRead);
+        self.met_if(report.start == Some(Start::Reset) && u16::from(after.sp) == address, Kind::HaltReset);
+    }
+
     fn entry(&mut self, after: &State, report: &ClockReport, start: Start) {
         self.met_if(report.undefined_kept, Kind::EntryOverUndefined);
         let due = interrupt_flags(after) & after.ier;
@@ -505,6 +625,8 @@ impl Coverage {
             let pointer = accesses[3].address;
             self.met_if(pointer & 0xFF == 0xFF, Kind::JmpPageEnd);
             self.met_if(pointer == 0xFFFF, Kind::JmpTop);
+            self.met_if(pointer == 0x00FF, Kind::JmpPortA);
+            self.met_if(pointer == 0x003F, Kind::JmpRegisters);
         }
         self.stack(before, after, entry.operation, accesses.iter().any(|a| written_at(a, 0, 0x40)));
         let high = before.pc.wrapping_add(2);
@@ -634,7 +756,7 @@ impl Coverage {
     /// The table: each kind and its count.
     pub fn rows(&self) -> Vec<(String, u64)> {
         let mut rows = Vec::new();
-        for number in 0..8 {
+        for number in (0..8).chain([12]) {
             rows.push((format!("number {number}: by step"), self.numbers[0][number]));
             rows.push((format!("number {number}: by run"), self.numbers[1][number]));
         }
@@ -665,6 +787,29 @@ fn falls_next(world: &World) -> bool {
     let inputs = world.input_clocks[world.read..].iter().zip(&world.input_codes[world.read..]);
     let named = inputs.take_while(|(&clock, _)| clock == next).any(|(_, &code)| code == 33);
     named || !level(world.state.external, PIN_RES)
+}
+
+/// Whether the next clock, given an entry, halts.
+fn halts_with_space(world: &World, halt: Option<u16>) -> bool {
+    let mut world = world.clone();
+    world.output_clocks.push(0);
+    world.output_words.push(0);
+    run(&mut world, 1, halt).number == 12
+}
+
+/// Whether the next clock needs a record and none is free.
+fn full_next(world: &World) -> bool {
+    world.written == world.output_clocks.len() && run(&mut world.clone(), 1, None).number == 7
+}
+
+/// Whether an operation writes the stack alone.
+fn pushes(operation: Operation) -> bool {
+    matches!(operation, Operation::Brk | Operation::Jsr | Operation::Pha | Operation::Php)
+}
+
+/// 01, Machine state: "unassigned registers read FFh and ignore writes"; 11h has no write.
+fn ignores(register: u16) -> bool {
+    !matches!(register, 0x00..=0x03 | 0x10 | 0x12 | 0x14..=0x1A | 0x1C..=0x1E)
 }
 
 const PA4: u32 = 1 << PIN_PA4;

@@ -29,7 +29,8 @@ pub fn damage(random: &Random, scenario: &mut Scenario) {
     if random.percent(10) {
         // 4 too, whose place among the numbers is between 3 and 5
         let clock = scenario.state.clock;
-        scenario.calls.insert(0, if clock > 0 { Call::Run(u32::MAX - random.below(clock)) } else { Call::Run(1) });
+        let calls = &mut scenario.lists[0].calls;
+        calls.insert(0, if clock > 0 { Call::Run(u32::MAX - random.below(clock)) } else { Call::Run(1) });
     }
 }
 

@@ -7,6 +7,7 @@ mod code;
 mod compare;
 mod coverage;
 mod damage;
+mod halts;
 mod inputs;
 mod memories;
 mod replay;
@@ -127,7 +128,7 @@ fn work(shared: &Shared) -> (Coverage, Option<Found>) {
             maker.make(index, &mut scenario);
             // A panic on either side is a difference too, and its scenario is to be printed.
             let checked = catch_unwind(AssertUnwindSafe(|| sides.check(&scenario, &mut coverage)));
-            let panicked = |_| Err(Difference { call: None, text: "a panic".to_string() });
+            let panicked = |_| Err(Difference { list: 0, call: None, text: "a panic".to_string() });
             if let Err(difference) = checked.unwrap_or_else(panicked) {
                 shared.ended.store(true, Ordering::Relaxed);
                 return (coverage, Some(Found { index, difference }));

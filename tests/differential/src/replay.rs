@@ -1,9 +1,9 @@
 //! One scenario in detail: what it is, what each side says after each call, and the first clock on which the two
 //! differ.
 
-use crate::compare::{list_difference, Difference, Sides};
+use crate::compare::{lent_first, lent_next, list_difference, Difference, Sides};
 use crate::coverage::Coverage;
-use crate::scenario::{Maker, Scenario};
+use crate::scenario::{List, Maker, Scenario};
 use differential::convert::{first_difference, library_state};
 use plain_clock::{run, run_observed, World};
 
@@ -28,7 +28,9 @@ pub fn print_scenario(scenario: &Scenario) {
     let (clocks, codes) = (scenario.input_clocks.len(), scenario.input_codes.len());
     println!("inputs, {clocks} clocks and {codes} codes: {}", inputs.join(" "));
     println!("free entries: {} clocks, {} words", scenario.output_clocks.len(), scenario.output_words.len());
-    println!("calls {:?}", scenario.calls);
+    for list in &scenario.lists {
+        println!("{list:X?}");
+    }
 }
 
 fn print_bytes(scenario: &Scenario, name: &str, from: usize, number: usize) {
@@ -59,24 +61,27 @@ pub fn replay(seed: u64, index: u64) -> bool {
 }
 
 pub fn print_difference(difference: &Difference) {
+    let list = difference.list;
     match difference.call {
-        Some(call) => println!("call {call} differs: {}", difference.text),
-        None => println!("the single clocks differ: {}", difference.text),
+        Some(call) => println!("list {list}, call {call} differs: {}", difference.text),
+        None => println!("list {list}, the single clocks differ: {}", difference.text),
     }
 }
 
 fn world_of(scenario: &Scenario) -> World {
-    World {
+    let mut world = World {
         state: scenario.state.clone(),
-        memory: scenario.memory.clone(),
-        input_clocks: scenario.input_clocks.clone(),
-        input_codes: scenario.input_codes.clone(),
+        memory: Vec::new(),
+        input_clocks: Vec::new(),
+        input_codes: Vec::new(),
         read: 0,
-        output_clocks: scenario.output_clocks.clone(),
-        output_words: scenario.output_words.clone(),
+        output_clocks: Vec::new(),
+        output_words: Vec::new(),
         written: 0,
         stop: 0,
-    }
+    };
+    lent_first(scenario, &mut world);
+    world
 }
 
 /// What the model says of each call.
@@ -85,8 +90,19 @@ fn print_calls(scenario: &Scenario) {
         return;
     }
     let mut world = world_of(scenario);
-    for call in &scenario.calls {
-        let outcome = run(&mut world, u64::from(call.clocks()));
+    for (index, list) in scenario.lists.iter().enumerate() {
+        if index > 0 && world.stop == 0 {
+            break;
+        } else if index > 0 {
+            lent_next(list, &mut world);
+        }
+        print_list(list, &mut world);
+    }
+}
+
+fn print_list(list: &List, world: &mut World) {
+    for call in &list.calls {
+        let outcome = run(world, u64::from(call.clocks()), list.halt);
         println!("{call:?}: {outcome:?}");
         println!("    {:X?}", world.state);
         if outcome.number > 5 {
@@ -101,7 +117,22 @@ fn print_calls(scenario: &Scenario) {
 /// Walks both sides by single clocks and shows the first clock after which they differ.
 fn print_first_clock(scenario: &Scenario) {
     let mut world = world_of(scenario);
-    let clocks: u64 = scenario.calls.iter().map(|call| u64::from(call.clocks())).sum();
+    for (index, list) in scenario.lists.iter().enumerate() {
+        if index > 0 && world.stop == 0 {
+            break;
+        } else if index > 0 {
+            lent_next(list, &mut world);
+        }
+        if differs_in_list(list, &mut world) {
+            return;
+        }
+    }
+    println!("by single clocks the sides agree: the difference is of the run, of a refusal or of a count");
+}
+
+/// Walks one list, and prints the first clock that differs.
+fn differs_in_list(list: &List, world: &mut World) -> bool {
+    let clocks: u64 = list.calls.iter().map(|call| u64::from(call.clocks())).sum();
     for _ in 0..clocks {
         let before = world.clone();
         let mut memory = before.memory.clone();
@@ -113,9 +144,10 @@ fn print_first_clock(scenario: &Scenario) {
             &before.input_codes[before.read..],
             &mut output_clocks[before.written..],
             &mut output_words[before.written..],
+            list.halt,
         );
         let mut report = None;
-        let outcome = run_observed(&mut world, 1, |_, _, met| report = Some(*met));
+        let outcome = run_observed(world, 1, list.halt, |_, _, met| report = Some(*met));
         let number = u8::from(result.number);
         let different = first_difference(&result.state, &library_state(&world.state))
             .or_else(|| list_difference("memory", &memory, &world.memory))
@@ -130,11 +162,11 @@ fn print_first_clock(scenario: &Scenario) {
             println!("library {:X?}", result.state);
             println!("model   {:X?}", library_state(&world.state));
             println!("model's clock {report:X?}");
-            return;
+            return true;
         }
         if outcome.number != 0 {
             break;
         }
     }
-    println!("by single clocks the sides agree: the difference is of the run, of a refusal or of a count");
+    false
 }

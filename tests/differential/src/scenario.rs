@@ -1,9 +1,10 @@
-//! One scenario: a start state, a memory, an input list, free output entries and a list of calls.
+//! One scenario: a start state, a memory, an input list, free output entries and lists of calls.
 
 use crate::code::{
     block, clocking_loop, receiving_loop, sending_loop, shift_setting, switching_loop, turning_loop, Style,
 };
 use crate::damage::{damage, FlagDamage};
+use crate::halts::Survey;
 use crate::inputs::Inputs;
 use crate::memories::{page_zero, vectors, Backgrounds, LENGTH, UNDEFINED};
 use crate::random::Random;
@@ -24,6 +25,15 @@ impl Call {
             Call::Run(n) => n,
         }
     }
+}
+
+/// A list of calls. "all calls of a list are given the same address, or none" (document 02, U4).
+#[derive(Clone, PartialEq, Eq, Debug)]
+pub struct List {
+    pub halt: Option<u16>,
+    /// Free entries that come behind those that the list before left.
+    pub space: u32,
+    pub calls: Vec<Call>,
 }
 
 /// What a scenario is about; its parts are random all the same.
@@ -69,7 +79,8 @@ pub struct Scenario {
     /// The output lists as they are lent: their entries show what is written.
     pub output_clocks: Vec<u32>,
     pub output_words: Vec<u32>,
-    pub calls: Vec<Call>,
+    /// The first list, and lists that follow where the one before has ended with a stop.
+    pub lists: Vec<List>,
 }
 
 /// What scenarios are made from. The scenario's buffers are used again for the next one.
@@ -77,6 +88,7 @@ pub struct Maker {
     seed: u64,
     backgrounds: Backgrounds,
     inputs: Inputs,
+    survey: Survey,
 }
 
 impl Scenario {
@@ -90,7 +102,7 @@ impl Scenario {
             input_codes: Vec::new(),
             output_clocks: Vec::new(),
             output_words: Vec::new(),
-            calls: Vec::new(),
+            lists: Vec::new(),
         }
     }
 
@@ -109,7 +121,7 @@ fn state_kind(theme: Theme) -> StateKind {
 
 impl Maker {
     pub fn new(seed: u64) -> Self {
-        Maker { seed, backgrounds: Backgrounds::new(seed), inputs: Inputs::new() }
+        Maker { seed, backgrounds: Backgrounds::new(seed), inputs: Inputs::new(), survey: Survey::new() }
     }
 
     /// Makes the scenario of this index.
@@ -127,6 +139,7 @@ impl Maker {
         self.fill_inputs(random, scenario, budget);
         fill_outputs(random, scenario);
         fill_calls(random, scenario, budget);
+        self.survey.fill(random, scenario, budget);
         if random.percent(7) {
             damage(random, scenario);
         }
@@ -391,19 +404,20 @@ fn fill_outputs(random: &Random, scenario: &mut Scenario) {
         8..=13 if !shifts(scenario.theme) => 64,
         _ => 500,
     };
+    (scenario.output_clocks, scenario.output_words) = free_entries(random, free);
+}
+
+/// So many entries, each of another content.
+pub fn free_entries(random: &Random, free: u32) -> (Vec<u32>, Vec<u32>) {
     let salt = random.long();
-    scenario.output_clocks.clear();
-    scenario.output_words.clear();
-    for i in 0..free {
-        scenario.output_clocks.push(salt ^ i.wrapping_mul(0x9E37_79B9));
-        scenario.output_words.push(!salt ^ i.wrapping_mul(0x85EB_CA6B));
-    }
+    (0..free).map(|i| (salt ^ i.wrapping_mul(0x9E37_79B9), !salt ^ i.wrapping_mul(0x85EB_CA6B))).unzip()
 }
 
 fn fill_calls(random: &Random, scenario: &mut Scenario, budget: u32) {
     let clock = scenario.state.clock;
-    let calls = &mut scenario.calls;
-    calls.clear();
+    scenario.lists.clear();
+    scenario.lists.push(List { halt: None, space: 0, calls: Vec::new() });
+    let calls = &mut scenario.lists[0].calls;
     if scenario.theme == Theme::HugeCount {
         calls.push(Call::Run(u32::MAX - clock - random.below(u32::MAX - clock)));
         calls.push(Call::Step);
@@ -423,7 +437,7 @@ fn fill_calls(random: &Random, scenario: &mut Scenario, budget: u32) {
     }
 }
 
-fn call(random: &Random, clock: u32, budget: u32) -> Call {
+pub fn call(random: &Random, clock: u32, budget: u32) -> Call {
     match random.below(100) {
         0..=24 => Call::Step,
         25..=30 => Call::Run(0),

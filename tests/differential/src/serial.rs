@@ -160,8 +160,9 @@ impl Sides {
             &mut output_clocks,
             &mut output_words,
             clocks,
+            None,
         );
-        let outcome = run(world, u64::from(clocks));
+        let outcome = run(world, u64::from(clocks), None);
         let counts = (u64::from(result.leaps), result.read, result.written);
         let different = first_difference(&result.state, &library_state(&world.state)).or_else(|| {
             let same = u8::from(result.number) == outcome.number

@@ -1,5 +1,7 @@
 //! The accesses of one clock, in order: 01, One clock, 4, "All its reads and writes happen now, each once".
 
+use crate::registers::REGISTERS_END;
+
 /// The most accesses of one clock: BRK reads its opcode, pushes three bytes and reads two of the vector.
 const MOST: usize = 6;
 
@@ -29,6 +31,13 @@ pub struct Accesses {
     length: usize,
 }
 
+impl Access {
+    /// Whether it writes a byte that the memory held already.
+    pub fn writes_the_same(&self) -> bool {
+        self.kind == AccessKind::Write && self.address >= REGISTERS_END && self.value == self.before
+    }
+}
+
 impl Accesses {
     pub fn none() -> Self {
         Accesses { list: [NO_ACCESS; MOST], length: 0 }
@@ -43,10 +52,15 @@ impl Accesses {
         self.length += 1;
     }
 
+    /// Whether an address is written, a register's too, be it one that ignores the byte (document 02, U4).
+    pub fn writes(&self, address: u16) -> bool {
+        self.list().iter().any(|access| access.kind == AccessKind::Write && access.address == address)
+    }
+
     /// Puts back what was written to the memory, the last write first. Registers are part of the state.
-    pub fn undo(&self, memory: &mut [u8], registers_end: u16) {
+    pub fn undo(&self, memory: &mut [u8]) {
         for access in self.list().iter().rev() {
-            if access.kind == AccessKind::Write && access.address >= registers_end {
+            if access.kind == AccessKind::Write && access.address >= REGISTERS_END {
                 memory[usize::from(access.address)] = access.before;
             }
         }

@@ -4,7 +4,6 @@ use crate::accesses::Accesses;
 use crate::counters::{mode_a, mode_b, step_counter_a, step_counter_b, Mode};
 use crate::cpu::{opcode_started, start_on, starts_undefined, step_cpu, undefined_at_pc, Start};
 use crate::pins::{apply_reset, detect_edges, driven_word, level, pin_levels, rises, set_external, PIN_RES};
-use crate::registers::REGISTERS_END;
 use crate::serial::step_serial;
 use crate::state::State;
 
@@ -21,7 +20,7 @@ pub struct World {
     pub output_words: Vec<u32>,
     /// Records written so far.
     pub written: usize,
-    /// 0, 6 or 7.
+    /// 0, 6, 7 or 12.
     pub stop: u8,
 }
 
@@ -57,8 +56,9 @@ pub struct ClockReport {
 }
 
 /// One plain clock: "Each, after a stop, does nothing. Where its clock meets 6, else 7, that is the stop and nothing
-/// else changes. Otherwise steps 1 to 5 happen once". Gives a report for a clock that is done.
-pub fn plain(world: &mut World) -> Option<ClockReport> {
+/// else changes. Otherwise steps 1 to 5 happen once". Document 02, U4: given a halt address, "a plain clock with such a
+/// write is done, then stops with 12". Gives a report for a clock that is done.
+pub fn plain(world: &mut World, halt: Option<u16>) -> Option<ClockReport> {
     if world.stop != 0 {
         return None;
     }
@@ -75,7 +75,7 @@ pub fn plain(world: &mut World) -> Option<ClockReport> {
     step_cpu(&mut next, &mut world.memory, &mut accesses);
     let record = driven_word(&next) != driven_word(&world.state);
     if record && world.written == world.output_clocks.len() {
-        accesses.undo(&mut world.memory, REGISTERS_END);
+        accesses.undo(&mut world.memory);
         world.stop = 7;
         return None;
     }
@@ -84,6 +84,9 @@ pub fn plain(world: &mut World) -> Option<ClockReport> {
     }
     world.state = next;
     world.read += met.inputs;
+    if halt.is_some_and(|address| accesses.writes(address)) {
+        world.stop = 12;
+    }
     Some(ClockReport { event: is_event(&met, start), met, start, opcode, undefined_kept, accesses, record })
 }
 

@@ -140,6 +140,14 @@ impl Bus<'_> {
         u16::from_le_bytes([low, high])
     }
 
+    /// Low byte first, then the high byte at the address plus 1 within its page.
+    fn read_word_in_page(&mut self, address: u16) -> u16 {
+        let second = address / 256 * 256 + (address % 256 + 1) % 256;
+        let low = self.read(address);
+        let high = self.read(second);
+        u16::from_le_bytes([low, high])
+    }
+
     /// A pointer in page zero: "zero-page indexing and SP wrap within 8 bits".
     fn read_zero_page_word(&mut self, address: u8) -> u16 {
         let low = self.read(u16::from(address));
@@ -530,11 +538,12 @@ fn jsr(bus: &mut Bus) -> u8 {
     0
 }
 
-/// "JMP indirect takes its high byte from the pointer plus 1."
+/// Document 02, U5: of JMP indirect "the high byte comes from the start of that same page" where the pointer is at a
+/// page's end; "other pointers being unaffected" (01: "from the pointer plus 1").
 fn jmp(bus: &mut Bus, addressing: Addressing) -> u8 {
     let operand = bus.fetch_word();
     bus.state.pc = match addressing {
-        Addressing::Indirect => bus.read_word(operand),
+        Addressing::Indirect => bus.read_word_in_page(operand),
         _ => operand,
     };
     0

@@ -1,4 +1,4 @@
-//! 01, Run and leaps, and 01, What is handed back (1 to 7).
+//! 01, Run and leaps; 01, What is handed back (1 to 7); document 02, U4 (12).
 
 use crate::clock::{plain, ClockReport, World};
 use crate::state::{well_formed, State};
@@ -9,7 +9,7 @@ pub const MEMORY_LENGTH: usize = 65_536;
 /// What a run hands back beside the world.
 #[derive(Clone, Copy, PartialEq, Eq, Debug)]
 pub struct Outcome {
-    /// 0: all n clocks done; 1 to 5: refused; 6, 7: stopped.
+    /// 0: all n clocks done; 1 to 5: refused; 6, 7: stopped; 12: halted, the clock of the write done.
     pub number: u8,
     pub leaps: u64,
     /// Inputs read in this run.
@@ -60,15 +60,21 @@ fn in_order(clock: u32, code: u8, next_clock: u32, next_code: u8) -> bool {
     clock < next_clock || (clock == next_clock && code % 64 < next_code % 64)
 }
 
-/// A run of n clocks over the world: refusals first, then up to n plain clocks.
+/// A run of n clocks over the world: refusals first, then up to n plain clocks. It halts after the clock of a write at
+/// the halt address, "given also where that clock is the run's last" (document 02, U4).
 /// The lists of the call are the inputs from `read` on and the output entries from `written` on.
 /// "Leaps = event clocks done, plus 1 if the last clock done isn't an event clock; 0 if no clock is done."
-pub fn run(world: &mut World, n: u64) -> Outcome {
-    run_observed(world, n, |_, _, _| {})
+pub fn run(world: &mut World, n: u64, halt: Option<u16>) -> Outcome {
+    run_observed(world, n, halt, |_, _, _| {})
 }
 
 /// A run that shows each done clock: the state before it, the state after it and its report.
-pub fn run_observed(world: &mut World, n: u64, mut observe: impl FnMut(&State, &State, &ClockReport)) -> Outcome {
+pub fn run_observed(
+    world: &mut World,
+    n: u64,
+    halt: Option<u16>,
+    mut observe: impl FnMut(&State, &State, &ClockReport),
+) -> Outcome {
     let number = refusal(
         &world.state,
         world.memory.len(),
@@ -87,7 +93,7 @@ pub fn run_observed(world: &mut World, n: u64, mut observe: impl FnMut(&State, &
     let mut last_was_event = true;
     for _ in 0..n {
         let before = world.state.clone();
-        let Some(report) = plain(world) else { break };
+        let Some(report) = plain(world, halt) else { break };
         observe(&before, &world.state, &report);
         leaps += u64::from(report.event);
         last_was_event = report.event;

@@ -87,7 +87,7 @@ pub fn single_clocks(scenario: &mut Scenario, mut observe: impl FnMut(&World)) -
         return (0, scenario.tape_number);
     }
     for done in 0..scenario.clocks {
-        let outcome = run(&mut scenario.world, 1);
+        let outcome = run(&mut scenario.world, 1, None);
         if outcome.number != 0 {
             return (done, outcome.number);
         }

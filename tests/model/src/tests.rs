@@ -1,5 +1,6 @@
 //! P1 to P8 of 01, and other cases worked out by hand.
 
+mod halt;
 mod shift;
 
 use crate::counters::{mode_a, Mode};
@@ -50,7 +51,7 @@ fn ready() -> State {
 /// One instruction on a ready state.
 fn one(state: State, parts: &[(usize, &[u8])]) -> World {
     let mut world = world_of(state, memory(parts), &[], 8);
-    assert!(plain(&mut world).is_some());
+    assert!(plain(&mut world, None).is_some());
     world
 }
 
@@ -64,7 +65,7 @@ fn p1_latch_0_underflows_each_clock() {
     let mut world = world_of(state, memory(&[]), &[], 0);
     for _ in 0..6 {
         world.state.ifr = 0;
-        assert!(plain(&mut world).unwrap().event);
+        assert!(plain(&mut world, None).unwrap().event);
         assert_eq!(world.state.ifr, 0x30);
         assert_eq!((world.state.counter_a, world.state.counter_b), (0, 0));
     }
@@ -74,11 +75,11 @@ fn p1_latch_0_underflows_each_clock() {
 fn p2_latch_5_loaded_on_t_underflows_on_t_plus_6() {
     // 8 LDA #5, 10 STA 18h, 13 LDA #0, 15 STA 1Ah, so t = 15
     let mut world = program(&[0xA9, 5, 0x85, 0x18, 0xA9, 0, 0x85, 0x1A, 0x4C, 8, 2], &[], 0);
-    run(&mut world, 15);
+    run(&mut world, 15, None);
     assert_eq!((world.state.clock, world.state.counter_a, world.state.latch_a), (15, 5, 5));
-    run(&mut world, 5);
+    run(&mut world, 5, None);
     assert_eq!((world.state.counter_a, world.state.ifr), (0, 0));
-    run(&mut world, 1);
+    run(&mut world, 1, None);
     assert_eq!((world.state.clock, world.state.counter_a, world.state.ifr), (21, 5, 0x10));
 }
 
@@ -102,12 +103,12 @@ fn p4_binary_overflow() {
 fn p5_frame_of_176_clocks() {
     let state = State { latch_a: 0, counter_a: 0, sccr: 0x80, scsr: 0x00, data_sent: 0x41, ..ready() };
     let mut world = world_of(state, memory(&[(0x200, &[0x4C, 0x00, 0x02])]), &[], 64);
-    run(&mut world, 1);
+    run(&mut world, 1, None);
     assert_eq!(world.state.transmitter.bits_left, 11);
     assert_eq!(driven_word(&world.state) & 0x40, 0);
-    run(&mut world, 175);
+    run(&mut world, 175, None);
     assert_eq!(world.state.transmitter.bits_left, 1);
-    run(&mut world, 1);
+    run(&mut world, 1, None);
     assert_eq!(world.state.transmitter.bits_left, 0);
     assert_eq!(world.state.scsr, 0xC0);
     // 41h: start low from 1; bit 0 high from 17; bits 1 to 5 low from 33; bit 6 high from 113; bit 7 low from 129;
@@ -122,11 +123,11 @@ fn p6_one_low_sub_interval_makes_no_start() {
     // looks on clocks 2, 4, 6, ...: PA7 low on clocks 3 and 4 only
     let inputs = [(3, 0x07), (5, 0x47)];
     let mut world = world_of(state, memory(&[(0x200, &[0x4C, 0x00, 0x02])]), &inputs, 8);
-    run(&mut world, 4);
+    run(&mut world, 4, None);
     assert_eq!(world.state.receiver.sub_interval, 1);
-    run(&mut world, 2);
+    run(&mut world, 2, None);
     assert_eq!((world.state.receiver.sub_interval, world.state.receiver.bits_left), (0, 0));
-    run(&mut world, 100);
+    run(&mut world, 100, None);
     assert_eq!(world.state.receiver.bits_left, 0);
 }
 
@@ -134,12 +135,12 @@ fn p6_one_low_sub_interval_makes_no_start() {
 fn p7_input_on_the_cut_belongs_to_the_first_half() {
     let inputs = [(10, 0x00), (11, 0x40)];
     let mut world = program(&[0x4C, 0x00, 0x02], &inputs, 8);
-    let first = run(&mut world, 10);
+    let first = run(&mut world, 10, None);
     assert_eq!(first.inputs_read, 1);
-    let second = run(&mut world, 10);
+    let second = run(&mut world, 10, None);
     assert_eq!(second.inputs_read, 1);
     let mut whole = program(&[0x4C, 0x00, 0x02], &inputs, 8);
-    run(&mut whole, 20);
+    run(&mut whole, 20, None);
     assert_eq!(whole, world);
 }
 
@@ -157,7 +158,7 @@ fn example_tape() {
     let mut memory = vec![0; 65_536];
     assert_eq!(load_tape(EXAMPLE.as_bytes(), &mut memory), (0, 53));
     let mut world = world_of(fresh(), memory, &[], 100);
-    let outcome = run(&mut world, 100);
+    let outcome = run(&mut world, 100, None);
     assert_eq!(outcome.number, 0);
     assert_eq!(records(&world), [(10, 0xFFFFFF55)]);
     // Event clocks: reset on 1, LDA 8, STA 10, level change on 11 (PA1, PA3, PA5, PA7 fall), JMP on 13, 16, ... 100: 30
@@ -168,11 +169,11 @@ fn example_tape() {
 #[test]
 fn leaps_count_a_last_clock_without_event() {
     let mut world = program(&[0x4C, 0x00, 0x02], &[], 8);
-    assert_eq!(run(&mut world, 0).leaps, 0);
+    assert_eq!(run(&mut world, 0, None).leaps, 0);
     // reset on 1, then clocks 2 to 5 without event
-    assert_eq!(run(&mut world, 5).leaps, 2);
+    assert_eq!(run(&mut world, 5, None).leaps, 2);
     // 6, 7 without event, 8 starts
-    assert_eq!(run(&mut world, 3).leaps, 1);
+    assert_eq!(run(&mut world, 3, None).leaps, 1);
 }
 
 #[test]
@@ -299,9 +300,53 @@ fn break_pushes_and_returns() {
 }
 
 #[test]
-fn jump_indirect_takes_its_high_byte_from_the_next_page() {
-    let world = one(ready(), &[(0x200, &[0x6C, 0xFF, 0x03]), (0x3FF, &[0x34, 0x12])]);
+fn jump_indirect_takes_its_high_byte_from_the_same_page() {
+    // document 02: "pointer 02FFh takes 02FFh and 0200h", here where JMP itself is at 0200h
+    let world = one(ready(), &[(0x200, &[0x6C, 0xFF, 0x02]), (0x2FF, &[0x34, 0x12])]);
+    assert_eq!((world.state.pc, world.state.wait), (0x6C34, 4));
+    let world = one(ready(), &[(0x200, &[0x6C, 0xFF, 0x03]), (0x300, &[0x56]), (0x3FF, &[0x34, 0x12])]);
+    assert_eq!((world.state.pc, world.state.wait), (0x5634, 4));
+    // FFFFh: FF00h, and not port A
+    let world = one(ready(), &[(0x200, &[0x6C, 0xFF, 0xFF]), (0xFFFF, &[0x34]), (0xFF00, &[0x12])]);
     assert_eq!((world.state.pc, world.state.wait), (0x1234, 4));
+}
+
+#[test]
+fn jump_indirect_at_the_registers() {
+    // 00FFh: 0000h, port A by step 1's levels, PA0 being held low outside
+    let external = crate::state::ALL_PINS & !1;
+    let state = State { external, last: external, ..ready() };
+    let world = one(state, &[(0x200, &[0x6C, 0xFF, 0x00]), (0xFF, &[0x34, 0x12])]);
+    assert_eq!((world.state.pc, world.state.wait), (0xFE34, 4));
+    // 003Fh: 0040h
+    let world = one(ready(), &[(0x200, &[0x6C, 0x3F, 0x00]), (0x40, &[0x12])]);
+    assert_eq!((world.state.pc, world.state.wait), (0x12FF, 4));
+    // 0017h: 0018h, whose read clears IFR4, as 17h's clears SCSR0
+    let state = State { ifr: 0x10, scsr: 0x41, counter_a: 0x0056, data_received: 0x34, ..ready() };
+    let world = one(state, &[(0x200, &[0x6C, 0x17, 0x00])]);
+    assert_eq!((world.state.pc, world.state.ifr, world.state.scsr), (0x5534, 0x00, 0x40));
+}
+
+#[test]
+fn jump_indirect_within_a_page_takes_the_pointer_plus_1() {
+    for pointer in [0x0300u16, 0x03FE, 0x03FD, 0xFFF0] {
+        let [low, high] = pointer.to_le_bytes();
+        let world = one(ready(), &[(0x200, &[0x6C, low, high]), (usize::from(pointer), &[0x34, 0x12])]);
+        assert_eq!((world.state.pc, world.state.wait), (0x1234, 4));
+    }
+}
+
+#[test]
+fn operands_and_other_pointers_go_past_a_page_end() {
+    // JMP indirect at 02FEh: its own high byte is at 0300h
+    let state = State { pc: 0x2FE, ..ready() };
+    let world = one(state, &[(0x2FE, &[0x6C, 0x10, 0x04]), (0x410, &[0x34, 0x12])]);
+    assert_eq!(world.state.pc, 0x1234);
+    // JMP absolute at 02FEh, JSR at 02FDh
+    let world = one(State { pc: 0x2FE, ..ready() }, &[(0x2FE, &[0x4C, 0x34, 0x12])]);
+    assert_eq!(world.state.pc, 0x1234);
+    let world = one(State { pc: 0x2FE, ..ready() }, &[(0x2FE, &[0x20, 0x34, 0x12])]);
+    assert_eq!(world.state.pc, 0x1234);
 }
 
 #[test]
@@ -386,10 +431,10 @@ fn retrigger_on_the_clock_of_an_underflow() {
     let low = crate::state::ALL_PINS & !(1 << 5);
     let state = State { mcr: 0x0C, counter_b: 0, latch_b: 7, wait: 6, external: low, last: low, ..ready() };
     let mut world = world_of(state.clone(), memory(&[]), &[(1, 0x45)], 0);
-    plain(&mut world);
+    plain(&mut world, None);
     assert_eq!((world.state.counter_b, world.state.ifr), (7, 0));
     let mut world = world_of(state, memory(&[]), &[], 0);
-    plain(&mut world);
+    plain(&mut world, None);
     assert_eq!((world.state.counter_b, world.state.ifr), (7, 0x20));
 }
 
@@ -397,16 +442,16 @@ fn retrigger_on_the_clock_of_an_underflow() {
 fn stops_change_nothing_else() {
     // 02h is undefined; on clock 8 after the reset entry
     let mut world = program(&[0x02], &[(8, 0x00)], 0);
-    assert_eq!(run(&mut world, 100).number, 6);
+    assert_eq!(run(&mut world, 100, None).number, 6);
     assert_eq!((world.state.clock, world.read), (7, 0));
     // an NMI fall on that clock prevents it; its vector leads to 0000h, where port A's FEh is defined (INC abs,X)
     let mut world = program(&[0x02], &[(8, 0x20)], 0);
-    assert_eq!(run(&mut world, 8).number, 0);
+    assert_eq!(run(&mut world, 8, None).number, 0);
     assert_eq!(world.state.clock, 8);
     // full: STA 00h on clock 10 needs a record
     let mut world = program(&[0xA9, 0x55, 0x85, 0x00, 0x02], &[], 0);
     let before = world.memory.clone();
-    assert_eq!(run(&mut world, 100).number, 7);
+    assert_eq!(run(&mut world, 100, None).number, 7);
     assert_eq!((world.state.clock, world.state.ports[0]), (9, 0xFF));
     assert_eq!(world.memory, before);
 }
@@ -416,7 +461,7 @@ fn stop_leaves_no_read_effect() {
     // PC at 1Ch: the lower byte of counter B, 02h, is undefined; its flag stays
     let state = State { pc: 0x1C, counter_b: 0x0003, ifr: 0x20, ..ready() };
     let mut world = world_of(state.clone(), memory(&[]), &[], 0);
-    assert!(plain(&mut world).is_none());
+    assert!(plain(&mut world, None).is_none());
     assert_eq!((world.stop, &world.state), (6, &state));
 }
 
@@ -424,7 +469,7 @@ fn stop_leaves_no_read_effect() {
 fn reset_low_then_high() {
     // RES low on clocks 20 to 22, high on 23: reset entry on 23, first instruction on 30
     let mut world = program(&[0xA9, 0x00, 0x85, 0x01, 0x4C, 0x04, 0x02], &[(20, 0x21), (23, 0x61)], 8);
-    run(&mut world, 40);
+    run(&mut world, 40, None);
     assert_eq!(records(&world), [(10, 0xFFFF00FF), (20, 0xFFFFFFFF), (32, 0xFFFF00FF)]);
 }
 
@@ -434,7 +479,7 @@ fn nmi_fall_is_taken_once() {
     let parts: &[(usize, &[u8])] =
         &[(0x200, &[0x4C, 0x00, 0x02]), (0x300, &[0xE6, 0x80, 0x40]), (0xFFFA, &[0x00, 0x03])];
     let mut world = world_of(fresh(), memory(parts), &[(9, 0x20)], 0);
-    run(&mut world, 200);
+    run(&mut world, 200, None);
     assert_eq!(world.memory[0x80], 1);
 }
 
@@ -442,9 +487,9 @@ fn nmi_fall_is_taken_once() {
 fn edges_set_their_flags() {
     let mut world =
         program(&[0x4C, 0x00, 0x02], &[(2, 0), (2, 1), (2, 2), (2, 3), (4, 0x40), (4, 0x41), (4, 0x42), (4, 0x43)], 0);
-    run(&mut world, 2);
+    run(&mut world, 2, None);
     assert_eq!(world.state.ifr, 0x0C);
-    run(&mut world, 2);
+    run(&mut world, 2, None);
     assert_eq!(world.state.ifr, 0x0F);
     write_register(&mut world.state, 0x10, 0xF5);
     assert_eq!(world.state.ifr, 0x05);

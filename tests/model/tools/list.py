@@ -141,8 +141,9 @@ Hand: JSR 0390h at 80h with SP 82h on 15: pushes 00 82, high byte read 00, goes 
   '23 FFFF99FF, 30 FF8299FF end 40 0')
 
 S('''30 JMP indirect at a page end
-Hand: JMP (03FFh) 8 takes 5, high byte at 0400h, STA 15''',
-  'JMP ($03FF)|.org $3FF|.word t|.org $210|t: LDA #$66|STA $01|l: JMP l|', 30, 8, '15 FFFF66FF end 30 0')
+Hand: JMP (03FFh) 8 takes 5, high byte at 0300h and not at 0400h, STA 15''',
+  'JMP ($03FF)|.org $210|LDA #$66|STA $01|l: JMP l|.org $300|.byte 2|.org $310|STA $02|.org $3FF|.word $0310', 30, 8,
+  '15 FFFF66FF end 30 0')
 
 S('''31 decimal ADC and SBC
 Hand: 58 46 C: 05, P CD, STA 16, PHP 19, STA 26, 12 less 21: 91, P 8C, STA 33 43''',
@@ -299,3 +300,13 @@ By the plain-clock model''',
   'LDA #9|STA $14|LDA #4|STA $18|LDA #0|STA $1A|LDA #1|STA $1C|LDA #0|STA $1E|LDA #$30|STA $12|CLI|l: JMP l|'
   'h: LDA $11|STA $01|LDA $18|LDA $1C|STA $02|RTI', 160, 0x40, None,
   [(k, 5 | 64 * (k // 7 & 1)) for k in range(42, 147, 7)], ('0', 'h'))
+
+S('''63 JMP indirect at FFFFh
+Hand: JMP (FFFFh) 8 takes 5, high byte at FF00h and not port A, STA 15''',
+  'JMP ($FFFF)|.org $210|LDA #$66|STA $01|l: JMP l|.org $FF00|.byte 2|.org $FFFF|.byte $10', 30, 8,
+  '15 FFFF66FF end 30 0')
+
+S('''64 JMP indirect at 00FFh, high byte from port A
+Hand: STA 10, STA 15, JMP (00FFh) 18 takes 5, port A reads 02, STA 25''',
+  'LDA #2|STA $00|LDA #$10|STA $FF|JMP ($00FF)|.org $210|LDA #$66|STA $01|l: JMP l', 40, 8,
+  '10 FFFFFF02, 25 FFFF6602 end 40 0')

@@ -19,9 +19,12 @@ struct test_case {
 };
 struct test_case make_case(struct random *random, uint8_t opcode, uint8_t *memory);
 
-/* Whether the chip and the 6510 core must agree on a case, or why not. */
-enum verdict { REGULAR, REGISTER_ACCESS, POINTER_AT_PAGE_END, VERDICTS };
+/* Whether the chip and the peer must agree on a case, or why not. */
+enum verdict { REGULAR, REGISTER_ACCESS, VERDICTS };
 extern const char *const verdict_words[VERDICTS];
-enum verdict verdict(uint8_t opcode, const struct peer_record *record);
+enum verdict verdict(const struct peer_record *record);
+
+/* Whether an instruction was JMP indirect with its pointer at a page's end. */
+int jumps_at_page_end(uint8_t opcode, const struct peer_record *record);
 
 #endif

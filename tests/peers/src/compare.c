@@ -15,9 +15,12 @@
 
 static uint8_t ours[R6501Q_MEMORY_LENGTH], peers[R6501Q_MEMORY_LENGTH];
 
+/* Cases of JMP indirect with its pointer at a page's end that were compared. */
+static unsigned long page_ends;
+
 static r6501q_call_result step(r6501q_state state)
 {
-    return r6501q_step(state, ours, sizeof ours, 0, 0, 0, 0, 0, 0, 0, 0);
+    return r6501q_step(state, ours, sizeof ours, 0, 0, 0, 0, 0, 0, 0, 0, R6501Q_NO_HALT);
 }
 
 static void print_accesses(const char *kind, unsigned count, const struct peer_access *access)
@@ -64,19 +67,13 @@ static enum verdict compare_case(struct random *random, uint8_t opcode)
     struct peer_registers after = c.registers;
     struct peer_record record;
     peer_step(&after, peers, &record);
-    enum verdict v = verdict(opcode, &record);
-    if (v == POINTER_AT_PAGE_END) {
-        /* The R65C02 goes to the pointer plus 1 as the chip does, but takes a clock more. */
-        unsigned clocks = record.clocks;
-        after = c.registers;
-        peer_r65c02_step(&after, peers, &record);
-        v = verdict(opcode, &record);
-        record.clocks = clocks;
-    }
-    if (v == REGISTER_ACCESS)
+    enum verdict v = verdict(&record);
+    if (v == REGISTER_ACCESS) {
         peer_undo(peers, &record);
-    else
+    } else {
         compare_with(opcode, &c.registers, &after, &record);
+        page_ends += jumps_at_page_end(opcode, &record);
+    }
     return v;
 }
 
@@ -159,6 +156,7 @@ int main(int count, char **arguments)
     for (unsigned i = 0; i < sizeof ours; i++)
         ours[i] = peers[i] = random_below(&random, 256);
     compare_groups(cases, &random);
+    printf("JMP indirect, pointer at a page's end: %lu\n", page_ends);
     printf("ADC, all operands, both modes: %u\n", compare_operands(ADC_IMMEDIATE));
     printf("SBC, all operands, both modes: %u\n", compare_operands(SBC_IMMEDIATE));
     compare_runs(cases, &random);

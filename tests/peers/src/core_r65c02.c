@@ -1,11 +1,9 @@
-/* One instruction of VICE's R65C02 core over recorded memory: RMB, SMB, BBR, BBS, or JMP indirect with its pointer at a
- * page's end. */
+/* One instruction of VICE's R65C02 core over recorded memory: RMB, SMB, BBR or BBS. */
 #include "recording.h"
 #include "registers.h"
 
-/* Of these instructions the core reads the opcode, the bytes behind it, and the byte in page zero or the pointer. What
- * it reads at PC once PC is past the instruction is idle. JMP indirect's second read of its own last byte is idle too;
- * recorded, it changes no verdict. */
+/* Of these instructions the core reads the opcode, the bytes behind it, and the byte in page zero. What it reads at PC
+ * once PC is past the instruction is idle. */
 static inline uint8_t load(uint8_t *memory, struct peer_record *record, unsigned start, unsigned pc, unsigned address)
 {
     int idle = pc != start && address == pc;

@@ -79,7 +79,7 @@ static void write_cases(FILE *file, uint8_t opcode, unsigned cases, struct rando
         struct peer_record record;
         struct peer_access bytes[PEER_ACCESSES];
         peer_step(&after, memory, &record);
-        if (verdict(opcode, &record) == REGULAR) {
+        if (verdict(&record) == REGULAR) {
             fputc(':', file);
             write_registers(file, &c.registers);
             write_accesses(file, found(opcode, &record, bytes), bytes);

@@ -47,7 +47,7 @@ static struct run run_peer(struct random *random)
         if (!instructions[opcode].name)
             break;
         peer_step(&next, peers, &record);
-        if (verdict(opcode, &record) != REGULAR) {
+        if (verdict(&record) != REGULAR) {
             peer_undo(peers, &record);
             break;
         }
@@ -63,7 +63,7 @@ static struct run run_peer(struct random *random)
 static void compare_run(const struct run *run)
 {
     r6501q_call_result result
-        = r6501q_run(chip_start(&run->before), ours, sizeof ours, 0, 0, 0, 0, 0, 0, 0, 0, run->clocks);
+        = r6501q_run(chip_start(&run->before), ours, sizeof ours, 0, 0, 0, 0, 0, 0, 0, 0, run->clocks, R6501Q_NO_HALT);
     r6501q_state expected = chip_after(&run->after, run->clocks, 0);
     unsigned leaps = run->instructions ? run->instructions + 1 : 0;
     if (result.number == R6501Q_DONE && result.leaps == leaps && result.read == 0 && result.written == 0

@@ -1,7 +1,7 @@
 ; Every opcode of the 6502 in every addressing mode, with registers, flags and data drawn anew each round; then branches
 ; near the end of a page, taken and not, to both sides. Registers and flags after each instruction, and the data after
-; each round, go to standard output. With SIM65 defined ROL absolute,X is left out: sim65 takes it for an instruction of
-; two bytes.
+; each round, go to standard output. With SIM65 defined ROL absolute,X is left out, which sim65 takes for an instruction
+; of two bytes, and JMP indirect through a page's end, of which it warns on standard error.
 
         .export _main
         .import pushax, _write
@@ -43,7 +43,6 @@ boundary = (field + $1FF) & $FF00
 
         .data
 jump:     .addr jumped
-.assert <jump <> $FF, lderror, "the chip and the peers take this pointer's high byte from different places"
 displacements:
         .byte 2, 3, 64, 127, <-4, <-5, <-6, <-64, <-128
 displacements_end:
@@ -250,10 +249,28 @@ jumps:  jsr take_drawn
         jsr take_drawn
         jmp (jump)
 jumped: jsr note
+.ifndef SIM65
+        jsr jump_at_page_end
+.endif
         jsr take_drawn
         brk
         .byte $EA
         jsr note
+        rts
+
+; JMP indirect through the last byte of a page: the high byte is the page's first one. Put as bytes, since the
+; assembler warns of such a pointer.
+jump_at_page_end:
+        lda #<behind
+        sta boundary - 1
+        lda #>behind
+        sta boundary - $100
+        jsr take_drawn
+        .byte $6C
+        .addr boundary - 1
+        jsr note
+        jsr note
+behind: jsr note
         rts
 
 ; Notes the status that BRK pushed, bits 4 and 5 included.

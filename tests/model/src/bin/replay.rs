@@ -27,7 +27,7 @@ fn main() {
         written: 0,
         stop: 0,
     };
-    let outcome = run(&mut world, CLOCKS);
+    let outcome = run(&mut world, CLOCKS, None);
     for record in 0..world.written {
         println!("{} {:08X}", world.output_clocks[record], world.output_words[record]);
     }

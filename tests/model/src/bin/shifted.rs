@@ -13,7 +13,7 @@ fn main() {
     for mut scenario in read_file(&text).into_iter().filter(|scenario| scenario.tape_number == 0) {
         bytes.start();
         let clocks = u64::from(scenario.clocks);
-        run_observed(&mut scenario.world, clocks, |before, after, report| bytes.clock(before, after, report));
+        run_observed(&mut scenario.world, clocks, None, |before, after, report| bytes.clock(before, after, report));
     }
     println!("{} bytes sent and {} received", bytes.sent, bytes.received);
 }

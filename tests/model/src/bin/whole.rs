@@ -21,7 +21,7 @@ fn perform(mut scenario: Scenario, printed: &mut String) {
         print_outcome(&scenario.world, 0, scenario.tape_number, printed);
         return;
     }
-    let outcome = run(&mut scenario.world, n);
+    let outcome = run(&mut scenario.world, n, None);
     print_outcome(&scenario.world, scenario.world.state.clock, outcome.number, printed);
     printed.push_str(&format!("leaps {} read {}\n", outcome.leaps, outcome.inputs_read));
 }

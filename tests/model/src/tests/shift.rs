@@ -47,26 +47,26 @@ fn sender_shifts_41h_out_at_two_ticks_a_bit() {
     // LDA #41h on 1, STA 17h on 3: t = 3
     let parts: &[(usize, &[u8])] = &[(0x200, &[0xA9, 0x41, 0x85, 0x17, 0x4C, 0x04, 0x02])];
     let mut world = world_of(ticking(SENDER), memory(parts), &[], 32);
-    run(&mut world, 3);
+    run(&mut world, 3, None);
     assert_eq!((drives(&world), world.state.scsr), ((1, 1), 0x00));
     // t + 1: taken, which does not shift; PA4 low, PA6 the lowest bit
-    run(&mut world, 1);
+    run(&mut world, 1, None);
     assert_eq!((drives(&world), world.state.scsr), ((0, 1), 0x40));
     assert_eq!(world.state.transmitter, sends(8, 0, 0x41));
-    run(&mut world, 1);
+    run(&mut world, 1, None);
     assert_eq!((drives(&world), &world.state.transmitter), ((1, 1), &sends(8, 1, 0x41)));
     // t + 3
-    run(&mut world, 1);
+    run(&mut world, 1, None);
     assert_eq!((drives(&world), &world.state.transmitter), ((0, 0), &sends(7, 2, 0x20)));
     // t + 16
-    run(&mut world, 13);
+    run(&mut world, 13, None);
     assert_eq!((drives(&world), &world.state.transmitter), ((1, 0), &sends(1, 15, 0x00)));
     assert_eq!(world.state.scsr, 0x40);
     // t + 17: under-run, both lines high though phase 0 is even
-    run(&mut world, 1);
+    run(&mut world, 1, None);
     assert_eq!((drives(&world), world.state.scsr), ((1, 1), 0xC0));
     assert_eq!((world.state.clock, &world.state.transmitter), (20, &sends(0, 0, 0)));
-    run(&mut world, 20);
+    run(&mut world, 20, None);
     assert_eq!((&world.state.transmitter, world.state.scsr), (&sends(0, 0, 0), 0xC0));
     // 1 on 4, 0 from 6 to 15, 1 on 16, 0 on 18
     let low_pa6 = [6, 8, 10, 12, 14, 18];
@@ -81,11 +81,11 @@ fn sender_shifts_41h_out_at_two_ticks_a_bit() {
 fn sender_takes_the_next_byte_on_the_tick_of_the_last_shift() {
     let waiting = State { transmitter: sends(1, 15, 1), scsr: 0x20, data_sent: 0x80, ..ticking(SENDER) };
     let mut world = jumping(waiting, &[]);
-    run(&mut world, 1);
+    run(&mut world, 1, None);
     assert_eq!((drives(&world), world.state.scsr), ((0, 0), 0x60));
     assert_eq!(world.state.transmitter, sends(8, 0, 0x80));
     // 15 ticks later its last bit is on the line
-    run(&mut world, 15);
+    run(&mut world, 15, None);
     assert_eq!(world.state.transmitter, sends(1, 15, 1));
 }
 
@@ -94,11 +94,11 @@ fn sender_waits_for_ticks() {
     // latch 2: ticks on 3, 6, 9
     let state = State { latch_a: 2, counter_a: 2, scsr: 0, data_sent: 0x02, ..ticking(SENDER) };
     let mut world = jumping(state, &[]);
-    run(&mut world, 2);
+    run(&mut world, 2, None);
     assert_eq!(world.state.transmitter, fresh_transmitter());
-    run(&mut world, 1);
+    run(&mut world, 1, None);
     assert_eq!(world.state.transmitter, sends(8, 0, 2));
-    run(&mut world, 6);
+    run(&mut world, 6, None);
     assert_eq!(world.state.transmitter, sends(7, 2, 1));
     assert_eq!(records(&world), [(3, 0xFFFF_FFAF), (6, 0xFFFF_FFBF), (9, 0xFFFF_FFEF)]);
 }
@@ -107,7 +107,7 @@ fn sender_waits_for_ticks() {
 fn sender_ignores_width_and_parity() {
     for form in 0..16 {
         let mut world = jumping(State { scsr: 0, data_sent: 0xFF, ..ticking(SENDER | form) }, &[]);
-        run(&mut world, 1);
+        run(&mut world, 1, None);
         assert_eq!(world.state.transmitter, sends(8, 0, 0xFF));
     }
 }
@@ -117,13 +117,13 @@ fn sender_goes_on_from_any_progress() {
     // phase 6 to 7, then each even phase shifts: 12 bits take 24 ticks but for the half bit that is over
     let mut world = jumping(State { transmitter: sends(12, 6, 0xABC), ..ticking(SENDER) }, &[]);
     assert_eq!(drives(&world), (0, 0));
-    run(&mut world, 1);
+    run(&mut world, 1, None);
     assert_eq!((drives(&world), &world.state.transmitter), ((1, 0), &sends(12, 7, 0xABC)));
-    run(&mut world, 1);
+    run(&mut world, 1, None);
     assert_eq!((drives(&world), &world.state.transmitter), ((0, 0), &sends(11, 8, 0x55E)));
-    run(&mut world, 21);
+    run(&mut world, 21, None);
     assert_eq!((world.state.transmitter.bits_left, world.state.scsr), (1, 0x40));
-    run(&mut world, 1);
+    run(&mut world, 1, None);
     assert_eq!((&world.state.transmitter, world.state.scsr), (&sends(0, 14, 0), 0xC0));
 }
 
@@ -150,14 +150,14 @@ fn pa4_is_the_clock_of_a_sender_and_its_latch_otherwise() {
 fn receiver_shifts_41h_in_at_eight_rises() {
     let state = State { sccr: RECEIVER, wait: 6, ..ready() };
     let mut world = jumping(state, &clocked(&[1, 0, 0, 0, 0, 0, 1, 0]));
-    run(&mut world, 1);
+    run(&mut world, 1, None);
     assert_eq!(world.state.receiver, fresh_receiver());
     // the first rise shifts
-    run(&mut world, 1);
+    run(&mut world, 1, None);
     assert_eq!(world.state.receiver, receives(7, 0x400));
-    run(&mut world, 13);
+    run(&mut world, 13, None);
     assert_eq!((&world.state.receiver, world.state.scsr), (&receives(1, 0x410), 0x40));
-    run(&mut world, 1);
+    run(&mut world, 1, None);
     assert_eq!(world.state.receiver, receives(0, 0x208));
     assert_eq!((world.state.data_received, world.state.scsr), (0x41, 0x41));
 }
@@ -167,10 +167,10 @@ fn receiver_over_a_full_data_register_keeps_the_byte() {
     // SCSR2 and SCSR3 stay as they are
     let state = State { sccr: RECEIVER, scsr: 0x4D, data_received: 0x11, wait: 6, ..ready() };
     let mut world = jumping(state, &clocked(&[1; 16]));
-    run(&mut world, 16);
+    run(&mut world, 16, None);
     assert_eq!((world.state.data_received, world.state.scsr), (0x11, 0x4F));
     world.state.scsr = 0x4C;
-    run(&mut world, 16);
+    run(&mut world, 16, None);
     assert_eq!((world.state.data_received, world.state.scsr), (0xFF, 0x4D));
 }
 
@@ -179,9 +179,9 @@ fn receiver_goes_on_from_any_progress() {
     // 11 bits left: the byte is the last eight; sub-interval and half stay
     let receiver = Receiver { sub_interval: 5, half: 1, bits_left: 11, register: 0x7FF };
     let mut world = jumping(State { receiver, ..ticking(RECEIVER) }, &clocked(&[1, 1, 1, 0, 1, 0, 0, 0, 0, 0, 1]));
-    run(&mut world, 21);
+    run(&mut world, 21, None);
     assert_eq!((world.state.receiver.bits_left, world.state.scsr), (1, 0x40));
-    run(&mut world, 1);
+    run(&mut world, 1, None);
     let expected = Receiver { sub_interval: 5, half: 1, bits_left: 0, register: 0x417 };
     assert_eq!((&world.state.receiver, world.state.data_received, world.state.scsr), (&expected, 0x82, 0x41));
 }
@@ -189,7 +189,7 @@ fn receiver_goes_on_from_any_progress() {
 #[test]
 fn receiver_takes_no_notice_of_ticks() {
     let mut world = jumping(ticking(RECEIVER), &[(3, PA7)]);
-    run(&mut world, 300);
+    run(&mut world, 300, None);
     assert_eq!((&world.state.receiver, world.state.scsr), (&fresh_receiver(), 0x40));
 }
 
@@ -199,7 +199,7 @@ fn receiver_beside_a_sender_is_asynchronous() {
     for sccr in [0xE0, 0xF0] {
         let state = State { scsr: 0, ..ticking(sccr) };
         let mut world = jumping(state, &[(1, PA7)]);
-        run(&mut world, 8);
+        run(&mut world, 8, None);
         assert_eq!(world.state.receiver, receives(9, 0));
         assert_eq!(world.state.transmitter.bits_left, 5);
     }
@@ -210,7 +210,7 @@ fn one_rise_is_counted_and_shifts() {
     // A counts the rises on 2, 4 and 6: to 0, an underflow, then from 9
     let state = State { sccr: RECEIVER, mcr: 0x02, counter_a: 1, latch_a: 9, wait: 6, ..ready() };
     let mut world = jumping(state, &clocked(&[1, 1, 1]));
-    run(&mut world, 6);
+    run(&mut world, 6, None);
     assert_eq!((world.state.counter_a, world.state.ifr), (8, 0x10));
     assert_eq!(world.state.receiver, receives(5, 0x700));
 }
@@ -220,11 +220,11 @@ fn pulse_mode_clocks_the_receiver() {
     // latch 0: PA4's latch is inverted on each clock, 0 on 1, 1 on 2; the level rises a clock later, on 3, 5, ..
     let mut world = jumping(State { mcr: 0x01, wait: 6, ..ticking(RECEIVER) }, &[]);
     assert_eq!(mode_a(&world.state), Mode::Pulse);
-    run(&mut world, 2);
+    run(&mut world, 2, None);
     assert_eq!((world.state.ports[0], &world.state.receiver), (0xFF, &fresh_receiver()));
-    run(&mut world, 1);
+    run(&mut world, 1, None);
     assert_eq!(world.state.receiver, receives(7, 0x400));
-    run(&mut world, 14);
+    run(&mut world, 14, None);
     assert_eq!((&world.state.receiver, world.state.data_received), (&receives(0, 0x7F8), 0xFF));
 }
 
@@ -235,10 +235,10 @@ fn a_rise_made_by_a_write_of_sccr_shifts() {
     let state = State { sccr: SENDER, ..state };
     let state = State { last: pin_levels(&state), ..state };
     let mut world = world_of(state, memory(&[(0x200, &[0x85, 0x15])]), &[], 8);
-    run(&mut world, 1);
+    run(&mut world, 1, None);
     assert_eq!((drives(&world), &world.state.transmitter), ((1, 1), &fresh_transmitter()));
     assert_eq!(world.state.receiver, fresh_receiver());
-    run(&mut world, 1);
+    run(&mut world, 1, None);
     assert_eq!(world.state.receiver, receives(7, 0));
 }
 
@@ -282,12 +282,12 @@ fn reset_low_ends_bytes_and_shifts_nothing() {
     let low = ALL_PINS & !(1 << PA4);
     let state = State { receiver: receives(3, 0x7FF), external: low, last: low, ..ticking(RECEIVER) };
     let mut world = jumping(state, &[(1, PA4 | HIGH), (1, 0x21)]);
-    run(&mut world, 1);
+    run(&mut world, 1, None);
     assert_eq!((&world.state.receiver, world.state.sccr), (&fresh_receiver(), 0));
     // A byte is being sent, PA4 low and PA6 low: both are high by the fresh latches.
     let state = State { transmitter: sends(8, 0, 0), ..ticking(SENDER) };
     let mut world = jumping(state, &[(1, 0x21)]);
-    run(&mut world, 1);
+    run(&mut world, 1, None);
     assert_eq!((&world.state.transmitter, records(&world)), (&fresh_transmitter(), vec![(1, 0xFFFF_FFFF)]));
 }
 
