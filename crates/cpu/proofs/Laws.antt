@@ -180,7 +180,7 @@ module _ (P : ℕ → Bus → Type 0) (answers memory : List ℕ)
         writes = s .writes;
         least = s .least (c .least);
         most = s .most (c .most);
-        store = λ h. rw (t .length (k ∙ h)) (c .store (a ∙ k ∙ h));
+        store = λ h. rw (t .clocks (k ∙ h)) (c .store (a ∙ k ∙ h));
       })
 
   call-lawful : (r : CpuRegisters) (n : ℕ) (b : Bus) → 2 ≤ n → n ≤ 7 → P 1 b → Lawful P (subroutineCall answers memory r n b)

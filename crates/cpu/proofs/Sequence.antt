@@ -47,23 +47,23 @@ use Rattle.cpu.specs.declared.Ask.{Ask}
 use Rattle.cpu.specs.declared.Outcome.{Outcome}
 use Rattle.cpu.specs.declared.Outcome.the-variants.{Undefined, Asked, Done}
 use Rattle.cpu.specs.Instruction.{askWith, outcomeOf, operandByte, operandOf, carriedOut, writesAsked, callTo, subroutineCall, executeOf, decodedTo, instructionOf}
-use Rattle.cpu.specs.Sequence.{Store, none, one, Left, Ending, undefined, leaves, withStore, leaving, completing, storing, storingBack, modifying, branching, bitBranching, jumping, pushing, pulling, returning, resuming, interrupting, breaking, calling, past, executing, opcodeAccesses, instructionAccesses}
+use Rattle.cpu.specs.Sequence.{LastStore, noStore, oneStore, Conclusion, Ending, undefined, leaves, withStore, conclusion, completion, storeAt, storeBack, modifyAccesses, branchOn, bitBranchAccesses, jumpTo, pushAccesses, pullAccesses, returnAccesses, interruptReturnAccesses, entryAccesses, breakAccesses, callAccesses, pastOperand, operationAccesses, opcodeAccesses, instructionAccesses}
 
 -- what was asked, or how it ended, as the code has it
-abbrev pub writtenAs : Store → List Write → Written
-writtenAs none [] = written.Nothing
-writtenAs none (w ∷ ws) = written.Pushed (inOrder (w ∷ ws))
-writtenAs (one x) [] = written.Stored x
-writtenAs (one x) (w ∷ ws) = written.Pushed (inOrder (withStore (w ∷ ws) (one x)))
+abbrev pub writtenAs : LastStore → List Write → Written
+writtenAs noStore [] = written.Nothing
+writtenAs noStore (w ∷ ws) = written.Pushed (inOrder (w ∷ ws))
+writtenAs (oneStore x) [] = written.Stored x
+writtenAs (oneStore x) (w ∷ ws) = written.Pushed (inOrder (withStore (w ∷ ws) (oneStore x)))
 
-pub writes-as : (store : Store) (pushes : List Write) → writesOf (writtenAs store pushes) ≡ inOrder (withStore pushes store)
+pub writes-as : (store : LastStore) (pushes : List Write) → writesOf (writtenAs store pushes) ≡ inOrder (withStore pushes store)
 unfolding writesOf inOrder
-writes-as none [] = refl
-writes-as none (w ∷ ws) = refl
-writes-as (one x) [] = refl
-writes-as (one x) (w ∷ ws) = refl
+writes-as noStore [] = refl
+writes-as noStore (w ∷ ws) = refl
+writes-as (oneStore x) [] = refl
+writes-as (oneStore x) (w ∷ ws) = refl
 
-abbrev pub workedOf : Left → List Write → Worked
+abbrev pub workedOf : Conclusion → List Write → Worked
 workedOf l pushes = record { registers = l .registers; written = writtenAs (l .store) pushes; length = l .length }
 
 abbrev pub outcomeFrom : Reply Ending → Outcome
@@ -71,7 +71,7 @@ outcomeFrom (asks latch a ws) = Asked (record { address = a; latch = latch; writ
 outcomeFrom (over undefined ws) = Undefined
 outcomeFrom (over (leaves l) ws) = Done (workedOf l ws)
 
-abbrev left : Accesses Left → Accesses Ending
+abbrev left : Accesses Conclusion → Accesses Ending
 left t = t >>= (λ l. ends (leaves l))
 
 -- an operand as its accesses have it; pc is not looked at
@@ -101,70 +101,70 @@ module _ (answers memory : List ℕ) where
   unfolding onwards outcomeOf inOrder
   done-on b t w h = cond-along outcomeFrom (b .missing) (asks (b .latch) (b .address) []) _ refl (h (drop (b .used) answers))
 
-  ends-after : (before : List Write) (b : Bus) (l : Left)
+  ends-after : (before : List Write) (b : Bus) (l : Conclusion)
       → outcomeFrom (onwards answers memory before b (ends (leaves l))) ≡ outcomeOf (inOrder before) (record { worked = workedOf l before; bus = b })
   unfolding onwards asked outcomeOf
   ends-after before b l = cond-map outcomeFrom (b .missing) (asks (b .latch) (b .address) before) (over (leaves l) before)
 
-  ends-on : (b : Bus) (l : Left) → Same b (ends (leaves l)) (outcomeOf noWrites (record { worked = workedOf l []; bus = b }))
+  ends-on : (b : Bus) (l : Conclusion) → Same b (ends (leaves l)) (outcomeOf noWrites (record { worked = workedOf l []; bus = b }))
   unfolding inOrder
   ends-on b l = ends-after [] b l
 
   -- ---- the operations, by kind
 
-  completed-on : (o : Operand) (r : CpuRegisters) (pc : ℕ) → Same (o .bus) (left (completing (o .length) (placeOf o pc) r)) (outcomeOf noWrites (completed o r))
-  unfolding completing completed inOrder
+  completed-on : (o : Operand) (r : CpuRegisters) (pc : ℕ) → Same (o .bus) (left (completion (o .length) (placeOf o pc) r)) (outcomeOf noWrites (completed o r))
+  unfolding completion completed inOrder
   completed-on o r pc = ends-on (o .bus) _
 
-  stored-on : (o : Operand) (r : CpuRegisters) (v pc : ℕ) → Same (o .bus) (left (storing (o .length) (placeOf o pc) r v)) (outcomeOf noWrites (stored o r v))
-  unfolding storing stored inOrder
+  stored-on : (o : Operand) (r : CpuRegisters) (v pc : ℕ) → Same (o .bus) (left (storeAt (o .length) (placeOf o pc) r v)) (outcomeOf noWrites (stored o r v))
+  unfolding storeAt stored inOrder
   stored-on o r v pc = ends-on (o .bus) _
 
   branched-on : (o : Operand) (r : CpuRegisters) (taken : Bool) (pc : ℕ)
-      → Same (o .bus) (left (branching (o .length) (placeOf o pc) r taken)) (outcomeOf noWrites (branched o r taken))
-  unfolding branching branched inOrder
+      → Same (o .bus) (left (branchOn (o .length) (placeOf o pc) r taken)) (outcomeOf noWrites (branched o r taken))
+  unfolding branchOn branched inOrder
   branched-on o r true pc = ends-on (o .bus) _
   branched-on o r false pc = ends-on (o .bus) _
 
   bit-branched-on : (o : Operand) (r : CpuRegisters) (taken : Bool)
-      → Same (o .bus) (left (bitBranching (o .length) r taken)) (outcomeOf noWrites (bitBranched answers memory o r taken))
-  unfolding bitBranching bitBranched relativeTo fetchOf
+      → Same (o .bus) (left (bitBranchAccesses (o .length) r taken)) (outcomeOf noWrites (bitBranched answers memory o r taken))
+  unfolding bitBranchAccesses bitBranched relativeTo fetchOf
   bit-branched-on o r taken =
       let f = fetchOf answers memory (r .pc) (o .bus) in
       ap outcomeFrom (fetch-on answers memory (r .pc) (o .bus) _) ∙ branched-on (branchOperand o (relativeTo f)) (withPc (f .pc) r) taken (f .pc)
 
-  jumped-on : (o : Operand) (r : CpuRegisters) (pc : ℕ) → Same (o .bus) (left (jumping (o .length) (placeOf o pc) r)) (outcomeOf noWrites (jumped o r))
-  unfolding jumping jumped inOrder
+  jumped-on : (o : Operand) (r : CpuRegisters) (pc : ℕ) → Same (o .bus) (left (jumpTo (o .length) (placeOf o pc) r)) (outcomeOf noWrites (jumped o r))
+  unfolding jumpTo jumped inOrder
   jumped-on o r pc = ends-on (o .bus) _
 
-  pushed-on : (o : Operand) (r : CpuRegisters) (v : ℕ) → Same (o .bus) (left (pushing (o .length) r v)) (outcomeOf noWrites (pushedByte o r v))
-  unfolding pushing pushedByte asked inOrder
+  pushed-on : (o : Operand) (r : CpuRegisters) (v : ℕ) → Same (o .bus) (left (pushAccesses (o .length) r v)) (outcomeOf noWrites (pushedByte o r v))
+  unfolding pushAccesses pushedByte asked inOrder
   pushed-on o r v = done-on (o .bus) _ _ (λ rest. refl)
 
   pulled-on : (operation : PullOperation) (o : Operand) (r : CpuRegisters)
-      → Same (o .bus) (left (pulling operation (o .length) r)) (outcomeOf noWrites (pulledByte answers memory operation o r))
-  unfolding pulling pulledByte pullOf
+      → Same (o .bus) (left (pullAccesses operation (o .length) r)) (outcomeOf noWrites (pulledByte answers memory operation o r))
+  unfolding pullAccesses pulledByte pullOf
   pulled-on operation o r = ap outcomeFrom (pull-on answers memory (r .sp) (o .bus) _) ∙ ends-on _ _
 
-  returned-on : (o : Operand) (r : CpuRegisters) → Same (o .bus) (left (returning (o .length) r)) (outcomeOf noWrites (returned answers memory o r))
-  unfolding returning returned pullWord pullOf inOrder
+  returned-on : (o : Operand) (r : CpuRegisters) → Same (o .bus) (left (returnAccesses (o .length) r)) (outcomeOf noWrites (returned answers memory o r))
+  unfolding returnAccesses returned pullWord pullOf inOrder
   returned-on o r =
       ap outcomeFrom (pull-word-on answers memory (r .sp) (o .bus)
-      (λ pc. ends (leaves (leaving (withPc (nextAddress pc) (withSp (up (up (r .sp))) r)) (o .length)))))
+      (λ pc. ends (leaves (conclusion (withPc (nextAddress pc) (withSp (up (up (r .sp))) r)) (o .length)))))
       ∙ ends-on _ _
 
-  resumed-on : (o : Operand) (r : CpuRegisters) → Same (o .bus) (left (resuming (o .length) r)) (outcomeOf noWrites (returnedFromInterrupt answers memory o r))
-  unfolding resuming returnedFromInterrupt pullWord pullOf inOrder
+  resumed-on : (o : Operand) (r : CpuRegisters) → Same (o .bus) (left (interruptReturnAccesses (o .length) r)) (outcomeOf noWrites (returnedFromInterrupt answers memory o r))
+  unfolding interruptReturnAccesses returnedFromInterrupt pullWord pullOf inOrder
   resumed-on o r =
       let p = pullOf answers memory (r .sp) (o .bus) in
       ap outcomeFrom (pull-on answers memory (r .sp) (o .bus) _
       ∙ pull-word-on answers memory (p .sp) (p .bus)
-      (λ pc. ends (leaves (leaving (withPc pc (withStatus (unpacked (p .value)) (withSp (up (up (up (r .sp)))) r))) (o .length)))))
+      (λ pc. ends (leaves (conclusion (withPc pc (withStatus (unpacked (p .value)) (withSp (up (up (up (r .sp)))) r))) (o .length)))))
       ∙ ends-on _ _
 
   -- BRK reads its vector after the pushes, which do not reach it
-  break-on : (o : Operand) (r : CpuRegisters) → Same (o .bus) (left (breaking r)) (outcomeOf noWrites (breakTaken memory o r))
-  unfolding breaking breakTaken interrupting interrupted pushInterrupt vectorOf asked inOrder
+  break-on : (o : Operand) (r : CpuRegisters) → Same (o .bus) (left (breakAccesses r)) (outcomeOf noWrites (breakTaken memory o r))
+  unfolding breakAccesses breakTaken entryAccesses interrupted pushInterrupt vectorOf asked inOrder
   break-on o r =
       let next = withPc (nextAddress (r .pc)) r in
       done-on (o .bus) _ _ (λ rest. rw (unpushed (pushed (r .status) true) next 0xFFFE _ (omega arith), unpushed (pushed (r .status) true) next 0xFFFF _ (omega arith)))
@@ -174,14 +174,14 @@ module _ (answers memory : List ℕ) where
   -- the accumulator, or a byte in memory
   modified-on : (operation : ModifyOperation) (n : ℕ) (r : CpuRegisters) (p : Place)
       → (let g : Got = cond (p .accumulator) (got (r .a) (p .bus)) (readOf answers memory (p .address) true (p .bus)) in
-      Same (p .bus) (left (modifying operation n (locatedAt p) r)) (outcomeOf noWrites (modified (operandOf n p g) r (changedBy operation (g .value) (r .status)))))
-  unfolding modifying modified
+      Same (p .bus) (left (modifyAccesses operation n (locatedAt p) r)) (outcomeOf noWrites (modified (operandOf n p g) r (changedBy operation (g .value) (r .status)))))
+  unfolding modifyAccesses modified
   modified-on operation n r p = by-test (p .accumulator)
     where
       by-test : (t : Bool) → (let g : Got = cond t (got (r .a) (p .bus)) (readOf answers memory (p .address) true (p .bus)) in
           Same (p .bus)
-          (left (cond t (ends (leaving (intoA (changedBy operation (r .a) (r .status)) r) n))
-          (reads true (p .address) (λ v. storingBack n (locatedAt p) r (changedBy operation v (r .status))))))
+          (left (cond t (ends (conclusion (intoA (changedBy operation (r .a) (r .status)) r) n))
+          (reads true (p .address) (λ v. storeBack n (locatedAt p) r (changedBy operation v (r .status))))))
           (outcomeOf noWrites (cond t
           (quiet (intoA (changedBy operation (g .value) (r .status)) r) n (g .bus))
           (stored (operandOf n p g) (withStatus (changedBy operation (g .value) (r .status) .status) r) (changedBy operation (g .value) (r .status) .value)))))
@@ -193,7 +193,7 @@ module _ (answers memory : List ℕ) where
           ∙ stored-on (operandOf n p g) (withStatus (k .status) r) (k .value) (p .pc)
 
   -- the operand's place comes first
-  located-first : (mode : Mode) (r : CpuRegisters) (b : Bus) (next : Located → Accesses Left) (o : Outcome)
+  located-first : (mode : Mode) (r : CpuRegisters) (b : Bus) (next : Located → Accesses Conclusion) (o : Outcome)
       → (let p : Place = locateOf answers memory mode r b in Same (p .bus) (left (next (locatedAt p))) o) → Same b (left (located mode r >>= next)) o
   located-first mode r b next o same =
       ap (λ t. outcomeFrom (onwards answers memory [] b t)) (then-then (located mode r) next _)
@@ -224,7 +224,7 @@ module _ (answers memory : List ℕ) where
       → (let w : Writes = pushWord (r .sp) next in let h : Got = readAfter answers memory w next b in
       Same b
       (writes (stackAddress (r .sp)) (high next) (writes (stackAddress (down (r .sp))) (low next)
-      (reads false next (λ v. ends (leaves (leaving (withPc (word v l) (withSp (down (down (r .sp))) r)) n))))))
+      (reads false next (λ v. ends (leaves (conclusion (withPc (word v l) (withSp (down (down (r .sp))) r)) n))))))
       (outcomeOf (writesAsked b w) (executed (withPc (word (h .value) l) (withSp (down (down (r .sp))) r)) (written.Pushed w) n (h .bus))))
   unfolding onwards asked writesAsked inOrder byteAfter writtenOver pushWord
   pushed-call r n l next b = by-answer (b .missing) refl
@@ -232,19 +232,19 @@ module _ (answers memory : List ℕ) where
       by-answer : (t : Bool) → b .missing ≡ t
           → (let w : Writes = pushWord (r .sp) next in let h : Got = readAfter answers memory w next b in
           outcomeFrom (cond t (asks (b .latch) (b .address) []) (asked memory (drop (b .used) answers) (pushHigh (r .sp) next ∷ pushLow (r .sp) next ∷ [])
-          (reads false next (λ v. ends (leaves (leaving (withPc (word v l) (withSp (down (down (r .sp))) r)) n))))))
+          (reads false next (λ v. ends (leaves (conclusion (withPc (word v l) (withSp (down (down (r .sp))) r)) n))))))
           ≡ outcomeOf (cond t noWrites w) (executed (withPc (word (h .value) l) (withSp (down (down (r .sp))) r)) (written.Pushed w) n (h .bus)))
       by-answer true m = missed noWrites (pushWord (r .sp) next) _ next b m
       by-answer false m =
           let w = pushWord (r .sp) next in
           let h = readAfter answers memory w next b in
           let pushes : List Write = pushHigh (r .sp) next ∷ pushLow (r .sp) next ∷ [] in
-          let go : ℕ → Accesses Ending = λ v. ends (leaves (leaving (withPc (word v l) (withSp (down (down (r .sp))) r)) n)) in
+          let go : ℕ → Accesses Ending = λ v. ends (leaves (conclusion (withPc (word v l) (withSp (down (down (r .sp))) r)) n)) in
           ap outcomeFrom (sym (none-missing pushes b (reads false next go) m) ∙ read-after-on answers memory pushes w next b go refl)
-          ∙ ends-after pushes (h .bus) (leaving (withPc (word (h .value) l) (withSp (down (down (r .sp))) r)) n)
+          ∙ ends-after pushes (h .bus) (conclusion (withPc (word (h .value) l) (withSp (down (down (r .sp))) r)) n)
 
-  call-on : (r : CpuRegisters) (n : ℕ) (b : Bus) → Same b (left (calling n r)) (subroutineCall answers memory r n b)
-  unfolding calling subroutineCall fetchOf
+  call-on : (r : CpuRegisters) (n : ℕ) (b : Bus) → Same b (left (callAccesses n r)) (subroutineCall answers memory r n b)
+  unfolding callAccesses subroutineCall fetchOf
   call-on r n b =
       let l = fetchOf answers memory (r .pc) b in
       ap outcomeFrom (fetch-on answers memory (r .pc) b _) ∙ pushed-call r n (l .value) (l .pc) (l .bus)
@@ -255,8 +255,8 @@ module _ (answers memory : List ℕ) where
 
   execute-on : (operation : Operation) (mode : Mode) (n : ℕ) (r : CpuRegisters) (b : Bus)
       → (let e : Entry = record { operation = operation; mode = mode; length = n } in
-      Same b (left (executing operation mode n r)) (executeOf answers memory e r b))
-  unfolding executing executeOf carriedOut operandByte workOf
+      Same b (left (operationAccesses operation mode n r)) (executeOf answers memory e r b))
+  unfolding operationAccesses executeOf carriedOut operandByte workOf
   execute-on (operation.Read o) mode n r b =
       let p = locateOf answers memory mode r b in
       let g = readOf answers memory (p .address) false (p .bus) in

@@ -1,4 +1,5 @@
--- Interrupt entries (01, One clock, 4): reset, NMI, IRQ.
+-- Interrupt entries (01, One clock, 4) as the code works them: reset, NMI, IRQ. By their accesses they stand in
+-- `Sequence.antt`.
 use mathlib.Core.Bool.{Bool, true, false}
 use mathlib.Core.List.{List}
 use Prim.Native.Nat.{ℕ}

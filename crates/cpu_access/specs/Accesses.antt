@@ -1,5 +1,5 @@
--- Accesses to memory and registers, one after the other: 01, One clock, 4, "All its reads and writes happen now, each once, idle bus
--- accesses none." First which they are, then what comes of them, with the register file of any chip.
+-- Accesses to memory and registers, one after the other: 01, One clock, 4, "All its reads and writes happen now, each
+-- once, idle bus accesses none." First which they are, then what comes of them, with the register file of any chip.
 use mathlib.Core.Bool.{Bool, true, false, cond}
 use mathlib.Core.List.{List, [], _∷_, _++_}
 use Prim.Native.Nat.{ℕ, _+_}
@@ -12,8 +12,8 @@ use Rattle.cpu_access.specs.declared.stack.Writes.{Writes}
 use Rattle.cpu_access.specs.Bus.{memoryByte}
 use Rattle.cpu_access.specs.Stack.{writeAt, noWrites, oneWrite, twoWrites, stackAddress}
 
--- They are over, with what came of them; or a byte is read, and what follows depends on it; or a byte is written. `latch`: it is the
--- read of a read-modify-write instruction (001, 4.1).
+-- They are over, with what came of them; or a byte is read, and what follows depends on it; or a byte is written.
+-- `latch`: it is the read of a read-modify-write instruction (001, 4.1).
 pub data Accesses (A : Type 0) : Type 0 where
   ends : A → Accesses A
   reads : (latch : Bool) (address : ℕ) → (ℕ → Accesses A) → Accesses A
@@ -75,15 +75,19 @@ module _ {P : Type 0} (file : RegisterFile P) where
   unfoldable pub peripheralsWritten : P → ℕ → ℕ → P
   peripheralsWritten p a v = cond (isRegister a) (file .afterWrite p a v) p
 
-  -- a read below 40h gives the register's value as it is then, any other the byte of memory as the writes before it leave it
+  -- a read below 40h gives the register's value as it is then, any other the byte of memory as the writes before it
+  -- leave it
   unfoldable pub valueRead : List ℕ → P → List Write → Bool → ℕ → ℕ
-  valueRead memory p before latch a = cond (isRegister a) (file .value p latch a) (byteAfter before a (memoryByte memory a))
+  valueRead memory p before latch a =
+      cond (isRegister a) (file .value p latch a) (byteAfter before a (memoryByte memory a))
 
   -- one after the other; `before` are the writes so far, and every write is told
   unfoldable pub performed : {A : Type 0} → List ℕ → P → List Write → Accesses A → Performed P A
   performed memory p before (ends x) = record { end = x; peripherals = p; writes = before }
-  performed memory p before (reads latch a go) = performed memory (peripheralsRead p a) before (go (valueRead memory p before latch a))
-  performed memory p before (writes a v t) = performed memory (peripheralsWritten p a v) (before ++ (writeAt a v ∷ [])) t
+  performed memory p before (reads latch a go) =
+      performed memory (peripheralsRead p a) before (go (valueRead memory p before latch a))
+  performed memory p before (writes a v t) =
+      performed memory (peripheralsWritten p a v) (before ++ (writeAt a v ∷ [])) t
 
 -- the writes as a clock hands them on: no instruction makes more than three (`done-fits`)
 unfoldable pub inOrder : List Write → Writes

@@ -9,7 +9,8 @@ use Rattle.cpu_access.specs.Bus.{nextAddress}
 use Rattle.cpu_access.specs.Modes.{otherPage, zeroPageIndexed, secondAddress, displacement}
 use Rattle.cpu_access.specs.Accesses.{Accesses, ends, _>>=_, byteAt, wordAt}
 
--- where the operand lies, whether finding it crossed a page, whether it is the accumulator, and PC past the operand bytes
+-- where the operand lies, whether finding it crossed a page, whether it is the accumulator, and PC past the operand
+-- bytes
 pub record Located : Type 0 where
   pub address : ℕ
   pub crossed : Bool

@@ -35,7 +35,8 @@ threeWrites a b c = record { count = 3; first = a; second = b; third = c }
 abbrev pub eachWrite : {A : Type 0} → (Bool → Write → A → A) → Writes → A → A
 eachWrite put w a = put (ltb 2 (w .count)) (w .third) (put (ltb 1 (w .count)) (w .second) (put (ltb 0 (w .count)) (w .first) a))
 
--- 01, Machine state: "Stack page: as 001's stack pointer section says, zero if it allows two" (001, 3.1.3); SP is 8 bits wide
+-- 01, Machine state: "Stack page: as 001's stack pointer section says, zero if it allows two" (001, 3.1.3); SP is 8
+-- bits wide
 abbrev pub stackAddress : ℕ → ℕ
 stackAddress sp = sp % 256
 

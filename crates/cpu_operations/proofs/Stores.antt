@@ -77,17 +77,17 @@ stores operation.Rts accumulator = false
 -- whether what is left is a store; one takes just the n clocks of its opcode's entry
 pub record Stores (b : Bool) (n : ℕ) (w : Worked) : Type 0 where
   pub stored : isStore (w .written) ≡ b
-  pub length : b ≡ true → w .length ≡ n
+  pub clocks : b ≡ true → w .length ≡ n
 
 modified-stores : (o : Operand) (r : CpuRegisters) (k : Computed) (a : Bool) → o .accumulator ≡ a → Stores (not a) (o .length) (modified o r k .worked)
 unfolding modified stored
-modified-stores o r k true e = rw e (record { stored = refl; length = λ h. refl })
-modified-stores o r k false e = rw e (record { stored = refl; length = λ h. refl })
+modified-stores o r k true e = rw e (record { stored = refl; clocks = λ h. refl })
+modified-stores o r k false e = rw e (record { stored = refl; clocks = λ h. refl })
 
 branched-stores : (o : Operand) (r : CpuRegisters) (taken : Bool) (n : ℕ) → Stores false n (branched o r taken .worked)
 unfolding branched
-branched-stores o r true n = record { stored = refl; length = λ h. absurd (false≢true h) }
-branched-stores o r false n = record { stored = refl; length = λ h. absurd (false≢true h) }
+branched-stores o r true n = record { stored = refl; clocks = λ h. absurd (false≢true h) }
+branched-stores o r false n = record { stored = refl; clocks = λ h. absurd (false≢true h) }
 
 module _ (answers memory : List ℕ) where
   bit-branched-stores : (o : Operand) (r : CpuRegisters) (taken : Bool) → Stores false (o .length) (bitBranched answers memory o r taken .worked)
@@ -98,18 +98,18 @@ module _ (answers memory : List ℕ) where
   -- stores, and the read-modify-write operations in memory, leave one store and no push; all others leave no store
   pub work-stores : (p : Operation) (r : CpuRegisters) (o : Operand) → Stores (stores p (o .accumulator)) (o .length) (workOf answers memory p r o .worked)
   unfolding workOf completed stored jumped pushedByte pulledByte returned returnedFromInterrupt interrupted breakTaken
-  work-stores (operation.Read p) r o = record { stored = refl; length = λ h. absurd (false≢true h) }
+  work-stores (operation.Read p) r o = record { stored = refl; clocks = λ h. absurd (false≢true h) }
   work-stores (operation.Modify p) r o = modified-stores o r _ (o .accumulator) refl
-  work-stores (operation.Store p) r o = record { stored = refl; length = λ h. refl }
+  work-stores (operation.Store p) r o = record { stored = refl; clocks = λ h. refl }
   work-stores (operation.Branch p) r o = branched-stores o r _ (o .length)
   work-stores (operation.BitBranch p) r o = bit-branched-stores o r _
-  work-stores (operation.Push p) r o = record { stored = refl; length = λ h. absurd (false≢true h) }
-  work-stores (operation.Pull p) r o = record { stored = refl; length = λ h. absurd (false≢true h) }
-  work-stores (operation.Register p) r o = record { stored = refl; length = λ h. absurd (false≢true h) }
-  work-stores (operation.Flag p) r o = record { stored = refl; length = λ h. absurd (false≢true h) }
-  work-stores operation.Brk r o = record { stored = refl; length = λ h. absurd (false≢true h) }
-  work-stores operation.Jmp r o = record { stored = refl; length = λ h. absurd (false≢true h) }
-  work-stores operation.Jsr r o = record { stored = refl; length = λ h. absurd (false≢true h) }
-  work-stores operation.Nop r o = record { stored = refl; length = λ h. absurd (false≢true h) }
-  work-stores operation.Rti r o = record { stored = refl; length = λ h. absurd (false≢true h) }
-  work-stores operation.Rts r o = record { stored = refl; length = λ h. absurd (false≢true h) }
+  work-stores (operation.Push p) r o = record { stored = refl; clocks = λ h. absurd (false≢true h) }
+  work-stores (operation.Pull p) r o = record { stored = refl; clocks = λ h. absurd (false≢true h) }
+  work-stores (operation.Register p) r o = record { stored = refl; clocks = λ h. absurd (false≢true h) }
+  work-stores (operation.Flag p) r o = record { stored = refl; clocks = λ h. absurd (false≢true h) }
+  work-stores operation.Brk r o = record { stored = refl; clocks = λ h. absurd (false≢true h) }
+  work-stores operation.Jmp r o = record { stored = refl; clocks = λ h. absurd (false≢true h) }
+  work-stores operation.Jsr r o = record { stored = refl; clocks = λ h. absurd (false≢true h) }
+  work-stores operation.Nop r o = record { stored = refl; clocks = λ h. absurd (false≢true h) }
+  work-stores operation.Rti r o = record { stored = refl; clocks = λ h. absurd (false≢true h) }
+  work-stores operation.Rts r o = record { stored = refl; clocks = λ h. absurd (false≢true h) }

@@ -26,12 +26,16 @@ module _ {W : Type 0} (S : System W) (f : W → W) (k : Unseen S f) where
       let v = S .pass (S .gap n w) w in
       rw (k .gap n w, k .pass (S .gap n w) w) (sym (cond-along f (ltb (S .gap n w) n) (S .plain v) v (sym (k .plain v)) refl))
 
+  pub moved-along : (w v : W) → movedOf S (f w) (f v) ≡ movedOf S w v
+  unfolding movedOf
+  moved-along w v = simp (k .clock, k .running)
+
   -- the run from there, and its count
   abbrev along : Run W → Run W
   along r = record { world = f (r .world); leaps = r .leaps }
 
   leaps-along : (most n : ℕ) (w : W) → leapsOf S most n (f w) ≡ along (leapsOf S most n w)
-  unfolding leapsOf movedOf
+  unfolding leapsOf
   leaps-along zero n w = refl
   leaps-along (suc most) n w = again (ltb 0 n && S .running w) refl (leaps-along most (leftAfter S n w) (leapOf S n w))
     where
@@ -39,13 +43,9 @@ module _ {W : Type 0} (S : System W) (f : W → W) (k : Unseen S f) where
           → leapsOf S most (leftAfter S n w) (f (leapOf S n w)) ≡ along (leapsOf S most (leftAfter S n w) (leapOf S n w))
           → leapsOf S (suc most) n (f w) ≡ along (leapsOf S (suc most) n w)
       again true e later =
-          rw (k .running w, e, leapsOf, k .gap n w, leap-along n w, later, k .clock w, k .clock (leapOf S n w))
+          rw (k .running w, e, leapsOf, k .gap n w, leap-along n w, later, moved-along w (leapOf S n w))
       again false e later = rw (k .running w, e, leapsOf)
 
   pub run-along : (n : ℕ) (w : W) → run S n (f w) ≡ record { world = f (run S n w .world); leaps = run S n w .leaps }
   unfolding run
   run-along n w = leaps-along n n w
-
-  pub moved-along : (w v : W) → movedOf S (f w) (f v) ≡ movedOf S w v
-  unfolding movedOf
-  moved-along w v = rw (k .clock w, k .clock v)

@@ -52,6 +52,10 @@ pub record ChipLaws {S : Type 0} (C : Chip S) : Type 0 where
   pub pass-add : (g h : ℕ) (s : S) → C .pass h (C .pass g s) ≡ C .pass (g + h) s
   pub pass-clock : (g : ℕ) (s : S) → C .clock (C .pass g s) ≡ C .clock s + g
 
+-- 6, 7 and 12 are stops
+pub stops-named : (isStop 6 ≡ true) × (isStop 7 ≡ true) × (isStop 12 ≡ true)
+stops-named = (refl, refl, refl)
+
 -- a stop is not 0, and is its own stop
 pub stop-some : (number : ℕ) → isStop number ≡ true → eqb number 0 ≡ false
 stop-some number e = ne-eqb number 0 (λ z. false≢true (rw z at e))

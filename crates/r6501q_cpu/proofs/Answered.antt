@@ -26,7 +26,7 @@ use Rattle.cpu.specs.Entries.{resetEntry, interruptEntry}
 use Rattle.cpu.specs.declared.Outcome.{Outcome}
 use Rattle.cpu.specs.declared.Outcome.the-variants as outcome
 use Rattle.cpu.specs.Instruction.{instructionOf}
-use Rattle.cpu.specs.Sequence.{Store, none, one, Left, Ending, undefined, leaves, withStore, interrupting, instructionAccesses, resetAccesses, interruptAccesses}
+use Rattle.cpu.specs.Sequence.{LastStore, noStore, oneStore, Conclusion, Ending, undefined, leaves, withStore, entryAccesses, instructionAccesses, resetAccesses, interruptAccesses}
 use Rattle.cpu.proofs.Laws.{done-fits, asked-writes, asks-end}
 use Rattle.cpu.proofs.Sequence.{writes-as, workedOf, outcomeFrom, unpushed, instruction-asked}
 use Rattle.r6501q_cpu.specs.declared.Processed.{Processed}
@@ -45,10 +45,10 @@ all-after levels p (a ∷ b ∷ []) h = refl
 all-after levels p (a ∷ b ∷ c ∷ []) h = refl
 all-after levels p (a ∷ b ∷ c ∷ d ∷ more) h = absurd (omega (arith, h))
 
-store-after : (levels : ℕ) (p : Peripherals) (pushes : List Write) (store : Store) → inOrder (withStore pushes store) .count ≤ 3
+store-after : (levels : ℕ) (p : Peripherals) (pushes : List Write) (store : LastStore) → inOrder (withStore pushes store) .count ≤ 3
     → registersAfter p (inOrder (withStore pushes store)) ≡ afterStore levels (allWritten (registerFile levels) p pushes) store
-store-after levels p pushes none h = all-after levels p pushes h
-store-after levels p pushes (one w) h = all-after levels p (pushes ++ (w ∷ [])) h ∙ all-more (registerFile levels) p pushes w
+store-after levels p pushes noStore h = all-after levels p pushes h
+store-after levels p pushes (oneStore w) h = all-after levels p (pushes ++ (w ∷ [])) h ∙ all-more (registerFile levels) p pushes w
 
 module _ (s : State) (memory : List ℕ) where
   abbrev registers : CpuRegisters
@@ -107,7 +107,7 @@ module _ (s : State) (memory : List ℕ) where
   -- a vector lies above the registers and the stack
   interrupt-answered : (due : Due) (vector : ℕ) → isRegister vector ≡ false → isRegister (nextAddress vector) ≡ false → 255 < vector → 255 < nextAddress vector
       → nextAfter s due (performedIn s memory (interruptAccesses vector registers)) ≡ nextOf s due (s .peripherals) (interruptEntry memory vector registers)
-  unfolding interruptAccesses interrupting interruptEntry interrupted writesOf pushInterrupt vectorOf performed peripheralsRead peripheralsWritten valueRead inOrder registersAfter putRegister
+  unfolding interruptAccesses entryAccesses interruptEntry interrupted writesOf pushInterrupt vectorOf performed peripheralsRead peripheralsWritten valueRead inOrder registersAfter putRegister
   interrupt-answered due vector low high under under' =
       let p = pushed (registers .status) false in
       rw (low, high, unpushed p registers vector _ under, unpushed p registers (nextAddress vector) _ under')

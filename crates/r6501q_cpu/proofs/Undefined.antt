@@ -12,7 +12,7 @@ use Rattle.cpu_access.specs.declared.stack.Write.{Write}
 use Rattle.cpu_access.specs.Accesses.{Accesses, ends, reads, writes, _>>=_, RegisterFile, byteAfter, peripheralsRead, valueRead, performed}
 use Rattle.cpu_access.specs.Bus.{nextAddress}
 use Rattle.cpu_operations.specs.Effects.{withPc}
-use Rattle.cpu.specs.Sequence.{Left, Ending, leaves, executing, opcodeAccesses, instructionAccesses}
+use Rattle.cpu.specs.Sequence.{Conclusion, Ending, leaves, operationAccesses, opcodeAccesses, instructionAccesses}
 use Rattle.r6501q_cpu.specs.declared.Processed.{Processed}
 use Rattle.r6501q_cpu.specs.declared.Processed.the-variants.{Undefined, Done}
 use Rattle.r6501q_cpu.specs.Processor.{registersOf, registerFile, processedBy, processedAfter, wholeInstruction, opcodeAt}
@@ -35,7 +35,7 @@ undefined-opcode s memory e = by-opcode s memory ∙ ap (decodedBy s memory) e
 
 -- what leaves something, performed, ends with what it leaves
 module _ {P : Type 0} (file : RegisterFile P) (memory : List ℕ) where
-  ends-left : (t : Accesses Left) (p : P) (before : List Write)
+  ends-left : (t : Accesses Conclusion) (p : P) (before : List Write)
       → performed file memory p before (t >>= (λ l. ends (leaves l))) .end ≡ leaves (performed file memory p before t .end)
   unfolding performed
   ends-left (ends l) p before = refl
@@ -47,14 +47,14 @@ abbrev Concluded : Processed → Type 0
 Concluded Undefined = ⊥
 Concluded (Done n) = Unit {0}
 
-concluded : (s : State) (p : Peripherals) (pushes : List Write) (x : Ending) (l : Left) → x ≡ leaves l → Concluded (processedBy s p pushes x)
+concluded : (s : State) (p : Peripherals) (pushes : List Write) (x : Ending) (l : Conclusion) → x ≡ leaves l → Concluded (processedBy s p pushes x)
 concluded s p pushes x l e = rw e tt
 
 -- an instruction whose opcode is defined is not undefined
 pub defined-opcode :
     (s : State) (memory : List ℕ) (e : Entry) → decodeOf (opcodeAt s memory) ≡ decoded.Defined e → wholeInstruction s memory ≡ Undefined → ⊥
-defined-opcode s memory e defined none =
+defined-opcode s memory e defined same =
     let file = registerFile (s .last .ports) in
-    let t = executing (e .operation) (e .mode) (e .length) (withPc (nextAddress (s .cpu .pc)) (registersOf (s .cpu))) in
+    let t = operationAccesses (e .operation) (e .mode) (e .length) (withPc (nextAddress (s .cpu .pc)) (registersOf (s .cpu))) in
     let done : Concluded (decodedBy s memory (decoded.Defined e)) = concluded s _ _ _ _ (ends-left file memory t (peripheralsRead file (s .peripherals) (s .cpu .pc)) []) in
-    subst Concluded (sym (ap (decodedBy s memory) defined) ∙ sym (by-opcode s memory) ∙ none) done
+    subst Concluded (sym (ap (decodedBy s memory) defined) ∙ sym (by-opcode s memory) ∙ same) done

@@ -1,5 +1,5 @@
--- How the code works an instruction: it asks for a register, is answered, and is worked again from its start with one answer more. That
--- this is the instruction of `Processor.antt` is `instruction-answered`.
+-- How the code works an instruction: it asks for a register, is answered, and is worked again from its start with one
+-- answer more. That this is the instruction of `Processor.antt` is `instruction-answered`.
 use mathlib.Core.Bool.{Bool, true, false, _&&_, cond}
 use mathlib.Core.List.{List, [], _∷_, _++_}
 use Prim.Native.Nat.{ℕ, zero, suc, _-_}
@@ -34,8 +34,9 @@ putRegister there w p = cond (there && isRegister (w .address)) (writeOf p (w .a
 unfoldable pub registersAfter : Peripherals → Writes → Peripherals
 registersAfter p w = eachWrite putRegister w p
 
--- An answer: the register's value as the writes so far leave it, and the effect of the read. The writes come again with the end of
--- the instruction, so that they are looked at here and not kept; reads' effects and writes commute (`read-write-commute`).
+-- An answer: the register's value as the writes so far leave it, and the effect of the read. The writes come again with
+-- the end of the instruction, so that they are looked at here and not kept; reads' effects and writes commute
+-- (`read-write-commute`).
 unfoldable pub answerOf : Peripherals → ℕ → Ask → Reading
 answerOf p levels ask = record {
   value = registerValue (registersAfter p (ask .writes)) levels (ask .latch) (ask .address);
@@ -69,12 +70,13 @@ abbrev pub turned : (Reading → Processed) → Turn → Processed
 turned goOn (Over x) = x
 turned goOn (Answered r) = goOn r
 
--- Each question is answered in turn, and the instruction worked on with the answer. No instruction asks more than five times (`asks-end`): what stands for a sixth question, `spent`, is never met, and may be anything
--- (`bound-unmet`).
+-- Each question is answered in turn, and the instruction worked on with the answer. No instruction asks more than five
+-- times (`asks-end`): what stands for a sixth question, `spent`, is never met, and may be anything (`bound-unmet`).
 unfoldable pub instructionFrom : Processed → ℕ → State → Peripherals → List ℕ → List ℕ → Processed
 instructionFrom spent zero s p answers memory = spent
 instructionFrom spent (suc n) s p answers memory =
     turned (λ (r : Reading). instructionFrom spent n s (r .peripherals) (answers ++ (r .value ∷ [])) memory) (turnOf s p answers memory)
 
+-- one whole instruction
 unfoldable pub answeredInstruction : State → List ℕ → Processed
 answeredInstruction s memory = instructionFrom Undefined 6 s (s .peripherals) [] memory

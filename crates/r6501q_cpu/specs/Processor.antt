@@ -19,7 +19,7 @@ use Rattle.cpu_access.specs.Bus.{memoryByte, nmiVector, irqVector}
 use Rattle.memory.specs.Memory.{isRegister}
 use Rattle.cpu_access.specs.Stack.{noWrites}
 use Rattle.cpu_access.specs.Accesses.{Accesses, RegisterFile, Performed, peripheralsWritten, performed, inOrder}
-use Rattle.cpu.specs.Sequence.{Store, none, one, Left, Ending, undefined, leaves, withStore, instructionAccesses, resetAccesses, interruptAccesses}
+use Rattle.cpu.specs.Sequence.{LastStore, noStore, oneStore, Conclusion, Ending, undefined, leaves, withStore, instructionAccesses, resetAccesses, interruptAccesses}
 use Rattle.r6501q_cpu.specs.declared.Next.{Next}
 use Rattle.r6501q_cpu.specs.declared.Processed.{Processed}
 use Rattle.r6501q_cpu.specs.declared.Processed.the-variants.{Undefined, Done}
@@ -45,12 +45,12 @@ abbrev pub performedIn : {A : Type 0} → State → List ℕ → Accesses A → 
 performedIn s memory t = performed (registerFile (s .last .ports)) memory (s .peripherals) [] t
 
 -- the store, if there is one, comes last
-abbrev pub afterStore : ℕ → Peripherals → Store → Peripherals
-afterStore levels p none = p
-afterStore levels p (one w) = peripheralsWritten (registerFile levels) p (w .address) (w .value)
+abbrev pub afterStore : ℕ → Peripherals → LastStore → Peripherals
+afterStore levels p noStore = p
+afterStore levels p (oneStore w) = peripheralsWritten (registerFile levels) p (w .address) (w .value)
 
 -- the state after an entry or an instruction, and its writes; "Wait becomes the length minus 1."
-abbrev pub nextAfter : State → Due → Performed Peripherals Left → Next
+abbrev pub nextAfter : State → Due → Performed Peripherals Conclusion → Next
 nextAfter s due x = record {
   state = record {
     cpu = cpuOf (x .end .registers) (x .end .length - 1);
@@ -87,7 +87,8 @@ irqDue s = not (bit 2 (s .cpu .p)) && pending (s .peripherals .control)
 -- "An entry clears its due mark"
 unfoldable pub resetStart : State → List ℕ → Next
 resetStart s memory =
-    nextAfter s (record { reset = false; nmi = s .due .nmi }) (performedIn s memory (resetAccesses (registersOf (s .cpu))))
+    nextAfter s (record { reset = false; nmi = s .due .nmi })
+    (performedIn s memory (resetAccesses (registersOf (s .cpu))))
 
 unfoldable pub nmiStart : State → List ℕ → Next
 nmiStart s memory =

@@ -2,5 +2,6 @@ pub mod Laws
 pub mod Runs
 pub mod Spanned
 pub mod Fair
+pub mod Halted
 pub mod Table
 pub mod LowMemory

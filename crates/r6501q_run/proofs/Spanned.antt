@@ -130,7 +130,7 @@ module _ (halt : Halt) (at : Leaped) (clocks : List ℕ) (span : ℕ) (on : at .
           working-clock (at .left .0) s rest span a w inside memory worked done inMemory (ltb (at .progress .written) (length times)),
           add-zero (at .progress .read),
           add-zero (at .progress .written),
-          ends-neither halt (worked .writes) neither .1,
+          ends-neither halt (writesOf (worked .written)) neither .1,
         )
 
     work-done : doneIn (r6501q halt) (passIn (r6501q halt) (w .wait) before) ≡ true

@@ -1,5 +1,5 @@
--- P1 to P8 of document 01, "Joints, edges and proved examples", and two worked examples of document 02, U1, in one table under one theorem:
--- each row cites its crate's definitions.
+-- P1 to P8 of document 01, "Joints, edges and proved examples", and worked examples of document 02, U1 and U4, in one table under one
+-- theorem: each row cites its crate's definitions.
 use mathlib.Core.Path.{_≡_}
 use mathlib.Core.Bool.{Bool, true, false}
 use mathlib.Core.List.{List, [], _∷_}
@@ -8,8 +8,10 @@ use lib.ListN.{length, getD}
 use Rattle.bits.specs.Lists.{tabulate}
 use Rattle.cpu_opcodes.specs.Decode.{decodeOf, countDefined}
 use Rattle.cpu_opcodes.proofs.Laws as opcodes
+use Rattle.cpu_access.specs.Stack.{writeAt}
+use Rattle.cpu_access.proofs.Told.{told}
 use Rattle.cpu_access.specs.declared.halt.Halt.{Halt}
-use Rattle.cpu_access.specs.declared.halt.Halt.the-variants.{Nowhere}
+use Rattle.cpu_access.specs.declared.halt.Halt.the-variants.{Nowhere, At}
 use Rattle.cpu_alu.specs.Arithmetic.{adcOf}
 use Rattle.cpu_alu.proofs.Examples as alu
 use Rattle.bits.specs.Bits.{bit}
@@ -19,10 +21,11 @@ use Rattle.serial.proofs.Examples as serial
 use Rattle.r6501q_state.specs.Pins.{sensed}
 use Rattle.r6501q_clock.specs.Clock.{inputsSet}
 use Rattle.refusals.specs.Refusals.{lastClock}
-use Rattle.leaps.specs.Leaps.{plains}
+use Rattle.leaps.specs.Leaps.{plains, leapCount}
 use Rattle.leaps.specs.Lists.{runFor, calls}
 use Rattle.leaps.specs.Calls.{Fit}
 use Rattle.r6501q_step.specs.R6501q.{World, r6501q, chip, machine}
+use Rattle.r6501q_step.proofs.Halted.{toldBy, clockIn}
 use Rattle.r6501q_step.proofs.Examples as clocks
 use Rattle.r6501q_run.proofs.Fair.{first-half}
 
@@ -69,6 +72,15 @@ pub record Examples : Type 0 where
   pub shift-received : (received : ℕ)
       → serial.risenFor (true ∷ false ∷ false ∷ false ∷ false ∷ false ∷ true ∷ false ∷ []) (receiving idleReceiver 0x40 received)
       ≡ receiving (record { subinterval = 0; half = false; left = 0; register = 0x208 }) 0x41 0x41
+  -- 02, U4, document 01's tape with the halt address 0000h: stop, clock, wait and records written; 12 at clock 10, the record there, after
+  -- the leaps to clocks 1, 8 and 10; also where that clock is the run's last; 0 before it; 7 for that clock comes first
+  pub halt-reached : clocks.reached (plains (chip (At 0)) 100 (clocks.tapeStart 1)) ≡ 12 ∷ 10 ∷ 2 ∷ 1 ∷ []
+  pub halt-leaps : leapCount (chip (At 0)) 100 (clocks.tapeStart 1) ≡ 3
+  pub halt-last : clocks.reached (plains (chip (At 0)) 10 (clocks.tapeStart 1)) ≡ 12 ∷ 10 ∷ 2 ∷ 1 ∷ []
+  pub halt-before : clocks.reached (plains (chip (At 0)) 9 (clocks.tapeStart 1)) ≡ 0 ∷ 9 ∷ 0 ∷ 0 ∷ []
+  pub halt-full : clocks.reached (plains (chip (At 0)) 100 (clocks.tapeStart 0)) ≡ 7 ∷ 9 ∷ 0 ∷ 0 ∷ []
+  -- 02, U4, JSR with SP 00h: it tells 0000h, then 00FFh
+  pub call-told : told (toldBy (clockIn clocks.callingStart)) ≡ writeAt 0x0000 0x00 ∷ writeAt 0x00FF 0x42 ∷ []
   -- "cut after a clocks from clock 0, an input on clock a is the first half's."
   pub p7 : (halt : Halt) (a : ℕ) (w : World) → Fit (r6501q halt) w → w .state .clock ≡ 0 → a ≤ lastClock
       → calls (machine halt) (runFor a ∷ []) w .world .stop ≡ 0
@@ -99,6 +111,12 @@ examples = record {
   shift-idle = serial.shift-idle;
   shift-first-rise = serial.shift-first-rise;
   shift-received = serial.shift-received;
+  halt-reached = clocks.halt-reached;
+  halt-leaps = clocks.halt-leaps;
+  halt-last = clocks.halt-last;
+  halt-before = clocks.halt-before;
+  halt-full = clocks.halt-full;
+  call-told = clocks.call-told;
   p7 = first-half;
   p8 = opcodes.p8;
 }

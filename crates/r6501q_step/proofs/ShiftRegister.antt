@@ -23,7 +23,7 @@ use Rattle.cpu_access.specs.Accesses.{byteAfter, peripheralsRead, peripheralsWr
 use Rattle.cpu_access.specs.Operands.{located}
 use Rattle.cpu_access.specs.Modes.{displacement}
 use Rattle.cpu_operations.specs.Kinds.{withRead, changedBy, byteToStore, branchTaken, bitBranchTaken, byteToPush, withPulled, withRegister, withFlag}
-use Rattle.cpu.specs.Sequence.{completing, storing, modifying, branching, bitBranching, jumping, pushing, pulling, returning, resuming, interrupting, breaking, calling, executing, instructionAccesses, resetAccesses, interruptAccesses}
+use Rattle.cpu.specs.Sequence.{completion, storeAt, modifyAccesses, branchOn, bitBranchAccesses, jumpTo, pushAccesses, pullAccesses, returnAccesses, interruptReturnAccesses, entryAccesses, breakAccesses, callAccesses, operationAccesses, instructionAccesses, resetAccesses, interruptAccesses}
 use Rattle.r6501q_cpu.specs.Processor.{wholeInstruction, irqDue, resetStart, nmiStart, irqStart, startOf, processorOf}
 use Rattle.r6501q_state.specs.Control.{flagsOf, modeA, modeB}
 use Rattle.r6501q_state.specs.Inputs.{withInput}
@@ -116,7 +116,7 @@ pub record ShiftRegister : Type 0 where
   pub byte-full : plains (chip Nowhere) 16 receiverStart .state .peripherals .control .scsr ≡ 0x41
 
 pub shift-register : ShiftRegister
-unfolding withBit setWhere flipWhere dueCount ticksOf inForce downA countsA clockA lowerA upperA loadCounterA reloadB downB clockB lowerB upperB copyB loadCounterB turnToC transmitterAsynchronous receiverAsynchronous receiverShifting holdsA keepsTransmitter keepsReceiver parityBit frameBits sentBits pace startDetected withLevel receivedByte wrongParity statusAfter keptWith frameEnded lookTaken looked receiveTick shiftedAtRise byteEnded receiveRise receiverClock receiverWithSccr framed taken idleTick frameEnd nextPhase ticked bitTick sendTick transmitterClock line shiftClock transmitterWithSccr decodeOf packed unpacked pushed memoryByte displacement flagsOf modeA modeB withInput driveA driveD drivenWord levelsOf rose fell edges withEdges resetOf sensedAt sensed fresh portValue registerValue afterRead startB startA entering keptFlag keptFlags writeOf wholeInstruction irqDue resetStart nmiStart irqStart startOf processorOf withInputs countA countB sentBy heardBy worked readyOf finished clockOf halts putByte committed plainOf plains putRecord located byteAfter peripheralsRead peripheralsWritten valueRead performed inOrder completing storing modifying branching bitBranching jumping pushing pulling returning resuming interrupting breaking calling executing withRead changedBy byteToStore branchTaken bitBranchTaken byteToPush withPulled withRegister withFlag instructionAccesses resetAccesses interruptAccesses
+unfolding withBit setWhere flipWhere dueCount ticksOf inForce downA countsA clockA lowerA upperA loadCounterA reloadB downB clockB lowerB upperB copyB loadCounterB turnToC transmitterAsynchronous receiverAsynchronous receiverShifting holdsA keepsTransmitter keepsReceiver parityBit frameBits sentBits pace startDetected withLevel receivedByte wrongParity statusAfter keptWith frameEnded lookTaken looked receiveTick shiftedAtRise byteEnded receiveRise receiverClock receiverWithSccr framed taken idleTick frameEnd nextPhase ticked bitTick sendTick transmitterClock line shiftClock transmitterWithSccr decodeOf packed unpacked pushed memoryByte displacement flagsOf modeA modeB withInput driveA driveD drivenWord levelsOf rose fell edges withEdges resetOf sensedAt sensed fresh portValue registerValue afterRead startB startA entering keptFlag keptFlags writeOf wholeInstruction irqDue resetStart nmiStart irqStart startOf processorOf withInputs countA countB sentBy heardBy worked readyOf finished clockOf halts putByte committed plainOf plains putRecord located byteAfter peripheralsRead peripheralsWritten valueRead performed inOrder completion storeAt modifyAccesses branchOn bitBranchAccesses jumpTo pushAccesses pullAccesses returnAccesses interruptReturnAccesses entryAccesses breakAccesses callAccesses operationAccesses withRead changedBy byteToStore branchTaken bitBranchTaken byteToPush withPulled withRegister withFlag instructionAccesses resetAccesses interruptAccesses
 shift-register = record {
   sent-clocks = refl;
   sent-words = refl;

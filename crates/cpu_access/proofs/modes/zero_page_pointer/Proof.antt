@@ -1,3 +1,4 @@
+use mathlib.Core.Path.{refl}
 use Rattle.cpu_access.specs.Modes.{zeroPagePointer}
 use borrow.Author.Needs.{needs}
 use Rattle.cpu_access.proofs.modes.zero_page_pointer.Statement.{statement}
@@ -14,7 +15,7 @@ read-word-requires c κs = search needs
 
 returns : tie.Need-returns
 unfolding zeroPagePointer
-returns c = rw (← (c .before .wrapping-add-u8 .ensures), ← (c .read-word .ensures))
+returns c = rw (c .read-word .ensures, c .before .wrapping-add-u8 .ensures) refl
 
 pub zero-page-pointer-spec : {M : Type 1} → statement M
 zero-page-pointer-spec =
