@@ -8,7 +8,7 @@ use native.Mathlib.Omega.{arith}
 use lib.Dec.{lit<, lit≤}
 use Rattle.bit_rate.specs.declared.Found.{Found}
 use Rattle.bit_rate.specs.declared.Found.the-variants.{Fits, Nothing, Refused}
-use Rattle.bit_rate.specs.BitRate.{fits, highestLatch, outOfLimits, firstFit, latchFor, numberOf}
+use Rattle.bit_rate.specs.BitRate.{fits, highestLatch, outOfLimits, firstFit, latchFor, latchNumber}
 use Rattle.bit_rate.proofs.Laws.{within, fewest, latch-fits, latch-beyond, latch-slow}
 
 -- what is promised of an answer: a latch value fits and none below it does, none means that no value does, a refusal that a rate is 0 or a
@@ -62,11 +62,11 @@ latch-promised f b t = at (outOfLimits f b t) refl
     at false e = promised f b t e (firstFit f b t (highestLatch + 1) 0) (first-found f b t (highestLatch + 1) 0 (highestLatch + 1) (omega arith) (λ M l. absurd (omega arith)))
 
 -- number 11 just where a rate is 0 or a figure is above its limit
-pub refused-just : (f b t : ℕ) → (numberOf (latchFor f b t) ≡ 11) ↔ (outOfLimits f b t ≡ true)
+pub refused-just : (f b t : ℕ) → (latchNumber (latchFor f b t) ≡ 11) ↔ (outOfLimits f b t ≡ true)
 unfolding Promised
 refused-just f b t = by (latchFor f b t) (latch-promised f b t)
   where
-    by : (r : Found) → Promised f b t r → (numberOf r ≡ 11) ↔ (outOfLimits f b t ≡ true)
+    by : (r : Found) → Promised f b t r → (latchNumber r ≡ 11) ↔ (outOfLimits f b t ≡ true)
     by (Fits N) h = (λ e. absurd (omega arith), λ e. absurd (false≢true (sym (h .0) ∙ e)))
     by Nothing h = (λ e. absurd (omega arith), λ e. absurd (false≢true (sym (h .0) ∙ e)))
     by Refused h = (λ e. h, λ e. refl)

@@ -39,7 +39,7 @@ unfoldable pub latchFor : ℕ → ℕ → ℕ → Found
 latchFor f b t = cond (outOfLimits f b t) Refused (firstFit f b t (highestLatch + 1) 0)
 
 -- the number that is handed back: 0 with a latch value, 0 with none, and 11
-abbrev pub numberOf : Found → ℕ
-numberOf (Fits N) = 0
-numberOf Nothing = 0
-numberOf Refused = 11
+abbrev pub latchNumber : Found → ℕ
+latchNumber (Fits N) = 0
+latchNumber Nothing = 0
+latchNumber Refused = 11

@@ -12,7 +12,7 @@ use Rattle.bits.specs.Bits.{digit}
 use Rattle.bits.proofs.Cond.{cond-both}
 use Rattle.pin_lists.specs.PinLists.{pinsRight, dueCount}
 use Rattle.pin_lists.proofs.PinLists.{right-read, due-within}
-use Rattle.leaps.specs.Chip.{Chip, ClockEnd, ClockOutcome, stopped, done}
+use Rattle.leaps.specs.Chip.{Chip, ClockEnd, ClockOutcome, stopped, ended}
 use Rattle.leaps.specs.Leaps.{System, plains}
 use Rattle.leaps.specs.World.{WorldOf, putRecord, stoppedAt, movedTo, after, dueIn, outcomeIn, plainOf, runningIn, isDone, doneIn, eventIn, passIn, systemOf}
 use Rattle.leaps.specs.Calls.{isStop, stopOf, Fit}
@@ -22,15 +22,15 @@ use Rattle.leaps.proofs.Laws.{Lawful}
 pub record ChipLaws {S : Type 0} (C : Chip S) : Type 0 where
   -- a clock that is done: "Clock plus 1"; every field stays in its range; memory keeps its length; a record that is put has room; a stop
   -- that it ends in is one by name
-  pub done-clock : (s : S) (codes memory : List ℕ) (free : Bool) (d : ClockEnd S) → C .outcome s codes memory free ≡ done d
+  pub done-clock : (s : S) (codes memory : List ℕ) (free : Bool) (d : ClockEnd S) → C .outcome s codes memory free ≡ ended d
       → C .clock (d .state) ≡ C .clock s + 1
   pub done-formed : (s : S) (codes memory : List ℕ) (free : Bool) (d : ClockEnd S) → C .wellFormed s ≡ true
-      → C .outcome s codes memory free ≡ done d → C .wellFormed (d .state) ≡ true
-  pub done-memory : (s : S) (codes memory : List ℕ) (free : Bool) (d : ClockEnd S) → C .outcome s codes memory free ≡ done d
+      → C .outcome s codes memory free ≡ ended d → C .wellFormed (d .state) ≡ true
+  pub done-memory : (s : S) (codes memory : List ℕ) (free : Bool) (d : ClockEnd S) → C .outcome s codes memory free ≡ ended d
       → length (d .memory) ≡ length memory
-  pub done-room : (s : S) (codes memory : List ℕ) (free : Bool) (d : ClockEnd S) → C .outcome s codes memory free ≡ done d
+  pub done-room : (s : S) (codes memory : List ℕ) (free : Bool) (d : ClockEnd S) → C .outcome s codes memory free ≡ ended d
       → d .differs ≡ true → free ≡ true
-  pub done-stop : (s : S) (codes memory : List ℕ) (free : Bool) (d : ClockEnd S) → C .outcome s codes memory free ≡ done d
+  pub done-stop : (s : S) (codes memory : List ℕ) (free : Bool) (d : ClockEnd S) → C .outcome s codes memory free ≡ ended d
       → stopOf (d .stop) ≡ d .stop
   -- the number of a clock that is not done is a stop by name
   pub stopped-stop : (s : S) (codes memory : List ℕ) (free : Bool) (number : ℕ) → C .outcome s codes memory free ≡ stopped number
@@ -40,7 +40,7 @@ pub record ChipLaws {S : Type 0} (C : Chip S) : Type 0 where
   pub gap-quiet : (n : ℕ) (s : S) (clocks : List ℕ) → 0 < C .gap n s clocks → C .event s [] ≡ false
   pub gapWord : S → ℕ
   pub gap-outcome : (n : ℕ) (s : S) (clocks memory : List ℕ) (free : Bool) → 0 < C .gap n s clocks
-      → C .outcome s [] memory free ≡ done (record { state = C .pass 1 s; memory = memory; differs = false; word = gapWord s; stop = 0 })
+      → C .outcome s [] memory free ≡ ended (record { state = C .pass 1 s; memory = memory; differs = false; word = gapWord s; stop = 0 })
   -- "at most those left", and one clock nearer with each clock
   pub gap-le : (n : ℕ) (s : S) (clocks : List ℕ) → C .gap n s clocks ≤ n
   pub gap-passed : (g n : ℕ) (s : S) (clocks : List ℕ) → C .gap (n - g) (C .pass g s) clocks ≡ C .gap n s clocks - g
@@ -107,7 +107,7 @@ module _ {S : Type 0} (C : Chip S) (L : ChipLaws C) where
       where
         by-outcome : (o : ClockOutcome S) → outcomeIn C w (dueIn C w) ≡ o → isDone o ≡ true → C .clock (after C w (dueIn C w) o .state) ≡ C .clock (w .state) + 1
         by-outcome (stopped number) e z = absurd (false≢true z)
-        by-outcome (done end) e z = L .done-clock (w .state) _ (w .memory) _ end e
+        by-outcome (ended end) e z = L .done-clock (w .state) _ (w .memory) _ end e
 
         by-running : (r : Bool) → runningIn w ≡ r → C .clock (plainOf C w .state) ≡ C .clock (w .state) + 1
         by-running true e = rw (plain-on e) (by-outcome (outcomeIn C w (dueIn C w)) refl (sym (done-on e) ∙ d))
@@ -119,7 +119,7 @@ module _ {S : Type 0} (C : Chip S) (L : ChipLaws C) where
         by-outcome : (o : ClockOutcome S) → outcomeIn C w (dueIn C w) ≡ o → isDone o ≡ false
             → (C .clock (after C w (dueIn C w) o .state) ≡ C .clock (w .state)) × (runningIn (after C w (dueIn C w) o) ≡ false)
         by-outcome (stopped number) e z = (refl, stop-some number (L .stopped-stop (w .state) _ (w .memory) _ number e))
-        by-outcome (done end) e z = absurd (false≢true (sym z))
+        by-outcome (ended end) e z = absurd (false≢true (sym z))
 
         by-running : (r : Bool) → runningIn w ≡ r → (C .clock (plainOf C w .state) ≡ C .clock (w .state)) × (runningIn (plainOf C w) ≡ false)
         by-running true e = rw (plain-on e) (by-outcome (outcomeIn C w (dueIn C w)) refl (sym (done-on e) ∙ d))
@@ -177,7 +177,7 @@ module _ {S : Type 0} (C : Chip S) (L : ChipLaws C) where
   -- ---- what a plain clock keeps
 
   module _ (w : WorldOf S) (f : Fit C w) where
-    moved-fits : (d : ClockEnd S) → outcomeIn C w (dueIn C w) ≡ done d → Fit C (movedTo C d (dueIn C w) w)
+    moved-fits : (d : ClockEnd S) → outcomeIn C w (dueIn C w) ≡ ended d → Fit C (movedTo C d (dueIn C w) w)
     moved-fits d e =
         record {
           memory = L .done-memory (w .state) _ (w .memory) _ d e ∙ f .memory;
@@ -198,7 +198,7 @@ module _ {S : Type 0} (C : Chip S) (L : ChipLaws C) where
       where
         by-outcome : (o : ClockOutcome S) → outcomeIn C w (dueIn C w) ≡ o → Fit C (after C w (dueIn C w) o)
         by-outcome (stopped number) d = stopped-fits number
-        by-outcome (done e) d = moved-fits e d
+        by-outcome (ended e) d = moved-fits e d
 
   pub plain-advances : (w : WorldOf S) → Advanced C w (plainOf C w)
   unfolding plainOf
@@ -210,7 +210,7 @@ module _ {S : Type 0} (C : Chip S) (L : ChipLaws C) where
       by-outcome : (o : ClockOutcome S) → outcomeIn C w (dueIn C w) ≡ o → Advanced C w (after C w (dueIn C w) o)
       by-outcome (stopped number) d =
           record { clock = omega arith; read = omega arith; memory = refl; outputClocks = refl; outputWords = refl; written = λ h. h }
-      by-outcome (done e) d =
+      by-outcome (ended e) d =
           record {
             clock = omega (arith, L .done-clock (w .state) _ (w .memory) _ e d);
             read = omega (arith, due-within (C .clock (w .state) + 1) (w .inputClocks));
@@ -233,7 +233,7 @@ module _ {S : Type 0} (C : Chip S) (L : ChipLaws C) where
     where
       by-outcome : (o : ClockOutcome S) → outcomeIn C w (dueIn C w) ≡ o → stopOf (after C w (dueIn C w) o .stop) ≡ after C w (dueIn C w) o .stop
       by-outcome (stopped number) e = stop-itself number (L .stopped-stop (w .state) _ (w .memory) _ number e)
-      by-outcome (done d) e = L .done-stop (w .state) _ (w .memory) _ d e
+      by-outcome (ended d) e = L .done-stop (w .state) _ (w .memory) _ d e
 
   pub plains-stop : (n : ℕ) (w : WorldOf S) → stopOf (w .stop) ≡ w .stop → stopOf (plains (systemOf C) n w .stop) ≡ plains (systemOf C) n w .stop
   unfolding plains

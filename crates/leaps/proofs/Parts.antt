@@ -13,7 +13,7 @@ use borrow.Author.Tests.{ltb-true, ltb-false, lt-ltb, le-ltb}
 use Rattle.bits.specs.Bits.{digit}
 use Rattle.bits.proofs.Cond.{cond-both}
 use Rattle.leaps.specs.Leaps.{plains, trace, leapCount, eventsIn, quietEnd}
-use Rattle.leaps.specs.Chip.{Chip, ClockEnd, ClockOutcome, stopped, done}
+use Rattle.leaps.specs.Chip.{Chip, ClockEnd, ClockOutcome, stopped, ended}
 use Rattle.leaps.specs.World.{WorldOf, stoppedAt, movedTo, putRecord, after, dueIn, outcomeIn, plainOf, runningIn, isDone, doneIn, eventIn, systemOf}
 use Rattle.leaps.specs.Calls.{lentOf, Room}
 use Rattle.leaps.proofs.Laws.{trace-done, trace-undone}
@@ -83,7 +83,7 @@ module _ {S : Type 0} (C : Chip S) where
     where
       by-outcome : (o : ClockOutcome S) → Rest u (after C u (dueIn C u) o)
       by-outcome (stopped number) = record { count = 0; inputClocks = refl; inputCodes = refl; read = sym (add-zero (u .read)) }
-      by-outcome (done e) = record { count = dueIn C u; inputClocks = refl; inputCodes = refl; read = refl }
+      by-outcome (ended e) = record { count = dueIn C u; inputClocks = refl; inputCodes = refl; read = refl }
 
   more-read : (u v x : WorldOf S) → Rest u v → Rest v x → Rest u x
   more-read u v x a b = record {
@@ -110,7 +110,7 @@ module _ {S : Type 0} (C : Chip S) where
 
     after-whole : (o : ClockOutcome S) → after C (wholeOf w v) (dueIn C v) o ≡ wholeOf w (after C v (dueIn C v) o)
     after-whole (stopped number) = refl
-    after-whole (done e) =
+    after-whole (ended e) =
         rw (
           put-behind (e .differs) (take (w .written) (w .outputClocks)) (v .outputClocks) (w .written) (v .written) (C .clock (e .state)) before-clocks,
           put-behind (e .differs) (take (w .written) (w .outputWords)) (v .outputWords) (w .written) (v .written) (e .word) before-words,

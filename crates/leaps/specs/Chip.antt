@@ -15,7 +15,7 @@ pub record ClockEnd (S : Type 0) : Type 0 where
 -- what the next clock comes to: the number of a stop, and then the clock isn't done; or its end
 pub data ClockOutcome (S : Type 0) : Type 0 where
   stopped : ℕ → ClockOutcome S
-  done : ClockEnd S → ClockOutcome S
+  ended : ClockEnd S → ClockOutcome S
 
 -- `S` is the machine's state.
 pub record Chip (S : Type 0) : Type 0 where

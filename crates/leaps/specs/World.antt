@@ -7,7 +7,7 @@ use lib.ListN.{length, take, drop, set}
 use Rattle.bits.specs.Bits.{digit}
 use Rattle.pin_lists.specs.PinLists.{dueCount}
 use Rattle.leaps.specs.Leaps.{System}
-use Rattle.leaps.specs.Chip.{Chip, ClockEnd, ClockOutcome, stopped, done}
+use Rattle.leaps.specs.Chip.{Chip, ClockEnd, ClockOutcome, stopped, ended}
 
 -- State and memory; the rest of the input list from its first unread entry; the whole output lists; how many inputs are read and
 -- records written; the stop, 0 where nothing stopped.
@@ -48,7 +48,7 @@ module _ {S : Type 0} where
   -- "A stopped clock isn't done": what a clock comes to is an end, not a stop
   abbrev pub isDone : ClockOutcome S → Bool
   isDone (stopped number) = false
-  isDone (done d) = true
+  isDone (ended d) = true
 
 module _ {S : Type 0} (C : Chip S) where
   -- "Otherwise steps 1 to 5 happen once: inputs of its clock are read; its record, if any, takes the first free entry."
@@ -68,7 +68,7 @@ module _ {S : Type 0} (C : Chip S) where
   -- the world after a clock of which `due` inputs are due
   abbrev pub after : WorldOf S → ℕ → ClockOutcome S → WorldOf S
   after w due (stopped number) = stoppedAt number w
-  after w due (done d) = movedTo d due w
+  after w due (ended d) = movedTo d due w
 
   -- the inputs of the next clock
   abbrev pub dueIn : WorldOf S → ℕ

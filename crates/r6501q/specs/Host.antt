@@ -5,7 +5,7 @@ use lib.Dec.{leb, eqb}
 use Rattle.bits.specs.Bits.{digit}
 use Rattle.bit_rate.specs.declared.Found.{Found}
 use Rattle.bit_rate.specs.declared.Found.the-variants.{Fits, Nothing, Refused}
-use Rattle.bit_rate.specs.BitRate.{numberOf}
+use Rattle.bit_rate.specs.BitRate.{latchNumber}
 use Rattle.counters.specs.declared.b.CounterB.{CounterB}
 use Rattle.cpu_access.specs.declared.halt.Halt.{Halt}
 use Rattle.cpu_access.specs.declared.halt.Halt.the-variants.{Nowhere, At}
@@ -138,6 +138,6 @@ hostLoadResult l = record { number = l .number; place = l .place }
 
 -- 02, U2: the answer's number, whether a latch value was found, and the value; without one both are 0
 abbrev pub hostLatchResult : Found → HostLatchResult
-hostLatchResult (Fits N) = record { number = numberOf (Fits N); found = 1; value = N }
-hostLatchResult Nothing = record { number = numberOf Nothing; found = 0; value = 0 }
-hostLatchResult Refused = record { number = numberOf Refused; found = 0; value = 0 }
+hostLatchResult (Fits N) = record { number = latchNumber (Fits N); found = 1; value = N }
+hostLatchResult Nothing = record { number = latchNumber Nothing; found = 0; value = 0 }
+hostLatchResult Refused = record { number = latchNumber Refused; found = 0; value = 0 }

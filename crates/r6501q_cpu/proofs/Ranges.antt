@@ -38,7 +38,7 @@ use Rattle.r6501q_cpu.specs.declared.Next.{Next}
 use Rattle.r6501q_cpu.specs.declared.Processed.{Processed}
 use Rattle.r6501q_cpu.specs.declared.Processed.the-variants.{Undefined, Done}
 use Rattle.r6501q_cpu.specs.declared.Turn.{Turn}
-use Rattle.r6501q_cpu.specs.Processor.{registersOf, cpuOf, irqDue, startOf, quietly, waiting, processorOf}
+use Rattle.r6501q_cpu.specs.Processor.{registersOf, cpuOf, irqDue, startOf, withoutWrites, withWait, processorOf}
 use Rattle.r6501q_cpu.specs.Asking.{putRegister, registersAfter, answerOf, nextOf, turnBy, turned, turnOf, instructionFrom, answeredInstruction}
 use Rattle.r6501q_cpu.proofs.Answered.{instruction-answered, reset-answered, nmi-answered, irq-answered}
 
@@ -112,7 +112,7 @@ module _ (s : State) (memory : List ℕ) (Q : Peripherals → Type 0) (P : Next 
       (λ _. rw (irq-answered s memory) (ends _ _ _ first (interrupt-entry-fits memory irqVector (registersOf (s .cpu)))))
       (λ _. rw (instruction-answered s memory) (instruction-ends 6 (s .peripherals) [] first))))
 
-  pub processor-ends : Ends P (quietly (waiting s (s .cpu .wait - 1))) → Ends P (quietly s) → Ends P (processorOf s memory)
+  pub processor-ends : Ends P (withoutWrites (withWait s (s .cpu .wait - 1))) → Ends P (withoutWrites s) → Ends P (processorOf s memory)
   unfolding processorOf
   processor-ends waits rests =
       cond-both (Ends P) (s .last .res) _ _
@@ -120,7 +120,7 @@ module _ (s : State) (memory : List ℕ) (Q : Peripherals → Type 0) (P : Next 
       (λ _. rests)
 
 -- "wait minus 1" stays in its range
-fewer-formed : (s : State) → wellFormed s ≡ true → wellFormed (waiting s (s .cpu .wait - 1)) ≡ true
+fewer-formed : (s : State) → wellFormed s ≡ true → wellFormed (withWait s (s .cpu .wait - 1)) ≡ true
 fewer-formed s e =
     let f = formed-cpu s e in
     let status = eqb (s .cpu .p / 16 % 4) 0 in

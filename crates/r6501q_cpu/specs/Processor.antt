@@ -106,15 +106,15 @@ startOf s memory =
     (cond (irqDue s) (Done (irqStart s memory)) (wholeInstruction s memory)))
 
 -- nothing is written
-abbrev pub quietly : State → Processed
-quietly s = Done (record { state = s; writes = noWrites })
+abbrev pub withoutWrites : State → Processed
+withoutWrites s = Done (record { state = s; writes = noWrites })
 
-abbrev pub waiting : State → ℕ → State
-waiting s w = record { cpu = atWait (s .cpu) w; due = s .due; peripherals = s .peripherals; external = s .external; last = s .last; clock = s .clock }
+abbrev pub withWait : State → ℕ → State
+withWait s w = record { cpu = atWait (s .cpu) w; due = s .due; peripherals = s .peripherals; external = s .external; last = s .last; clock = s .clock }
 
 -- "CPU, if RES is high. With wait above 0: wait minus 1."
 unfoldable pub processorOf : State → List ℕ → Processed
 processorOf s memory =
     cond (s .last .res)
-    (cond (ltb 0 (s .cpu .wait)) (quietly (waiting s (s .cpu .wait - 1))) (startOf s memory))
-    (quietly s)
+    (cond (ltb 0 (s .cpu .wait)) (withoutWrites (withWait s (s .cpu .wait - 1))) (startOf s memory))
+    (withoutWrites s)

@@ -4,7 +4,7 @@ ghost use mathlib.Core.List.{[]};
 ghost use Prim.Native.Nat.{_≤_};
 ghost use Rattle.cpu_opcodes.specs.Table.{opcodeTable};
 ghost use Rattle.cpu_operations.specs.Effects.{writesOf};
-ghost use Rattle.r6501q_cpu.specs.Processor.{registersOf, cpuOf, irqDue, resetStart, nmiStart, irqStart, startOf, quietly, waiting, processorOf};
+ghost use Rattle.r6501q_cpu.specs.Processor.{registersOf, cpuOf, irqDue, resetStart, nmiStart, irqStart, startOf, withoutWrites, withWait, processorOf};
 ghost use Rattle.r6501q_cpu.specs.Asking.{putRegister, registersAfter, answerOf, nextOf, turnOf, instructionFrom, answeredInstruction};
 use cpu::Ask;
 use cpu::Outcome;
@@ -232,7 +232,7 @@ fn start(s: State, memory: &[u8], entries: &[u16]) -> Processed
 
 // Nothing is written.
 fn without_writes(s: State) -> Processed
-    ensures { λ r. ⌜ r ≡ quietly s ⌝ }
+    ensures { λ r. ⌜ r ≡ withoutWrites s ⌝ }
 {
     let writes = no_writes();
     Processed::Done(Next {

@@ -21,7 +21,7 @@ use Rattle.r6501q_state.specs.Copies.{withCounterA, withCounterB}
 use Rattle.r6501q_state.specs.Pins.{levelsOf, rose, fell, edges, withEdges, resetOf, sensedAt, sensed}
 use Rattle.r6501q_state.specs.Control.{modeA, modeB}
 use Rattle.r6501q_clock.specs.Clock.{withInputs, inputsSet, countA, countB, sentBy, heardBy, worked, readyOf}
-use Rattle.r6501q_cpu.specs.Processor.{processorOf, quietly}
+use Rattle.r6501q_cpu.specs.Processor.{processorOf, withoutWrites}
 use Rattle.r6501q_gaps.specs.Events.{hasInput, levelsChange, underflowsA, underflowsB, isReset, resetChanges, cpuStarts, eventTests, eventOf}
 use Rattle.r6501q_gaps.specs.Gaps.{clocksOf, runningA, runningB, waitAfter, passCounters, passOf}
 use Rattle.r6501q_gaps.proofs.Same.{same-levels, levels-same, reset-same}
@@ -215,12 +215,12 @@ ready-quiet : (s : State) → Quiet s → readyOf s [] ≡ workedTo (ahead s) (p
 ready-quiet s q = ready-still s (q .still)
 
 -- steps 1 to 4 of a clock without inputs
-pub clock-quiet : (s : State) (memory : List ℕ) → Quiet s → processorOf (readyOf s []) memory ≡ quietly (passOf s (clocksOf 1))
+pub clock-quiet : (s : State) (memory : List ℕ) → Quiet s → processorOf (readyOf s []) memory ≡ withoutWrites (passOf s (clocksOf 1))
 unfolding processorOf passOf waitAfter
 clock-quiet s memory q = rw (ready-quiet s q) (by-res (s .last .res) refl)
   where
     by-res : (r : Bool) → s .last .res ≡ r
-        → processorOf (workedTo (ahead s) (passCounters (s .peripherals) (s .last .ports) (clocksOf 1))) memory ≡ quietly (passOf s (clocksOf 1))
+        → processorOf (workedTo (ahead s) (passCounters (s .peripherals) (s .last .ports) (clocksOf 1))) memory ≡ withoutWrites (passOf s (clocksOf 1))
     by-res true e = rw (e, lt-ltb 0 (s .cpu .wait) (q .waits e))
     by-res false e = rw e
 

@@ -11,7 +11,7 @@ use Rattle.bits.specs.Bits.{setWhere}
 use Rattle.counters.specs.Counters.{ticksOf}
 use Rattle.r6501q_state.specs.declared.state.State.{State}
 use Rattle.r6501q_clock.specs.Clock.{countA, countB, workedState}
-use Rattle.r6501q_cpu.specs.Processor.{processorOf, startOf, quietly, waiting}
+use Rattle.r6501q_cpu.specs.Processor.{processorOf, startOf, withoutWrites, withWait}
 use Rattle.r6501q_gaps.specs.Events.{underflowsA, underflowsB, cpuStarts}
 use Rattle.r6501q_gaps.specs.Gaps.{clocksOf, waitAfter}
 
@@ -36,13 +36,13 @@ module _ (before : ℕ) (s : State) where
   -- the CPU starts, or it only waits
   pub step-cpu : (memory : List ℕ) → processorOf (workedState before s) memory
       ≡ cond (cpuStarts s) (startOf (workedState before s) memory)
-      (quietly (waiting (workedState before s) (waitAfter (s .cpu .wait) (s .last .res) (clocksOf 1))))
+      (withoutWrites (withWait (workedState before s) (waitAfter (s .cpu .wait) (s .last .res) (clocksOf 1))))
   unfolding processorOf cpuStarts waitAfter
   step-cpu memory = by-tests (s .last .res) (eqb (s .cpu .wait) 0) refl refl
     where
       by-tests : (r z : Bool) → s .last .res ≡ r → eqb (s .cpu .wait) 0 ≡ z → processorOf (workedState before s) memory
           ≡ cond (cpuStarts s) (startOf (workedState before s) memory)
-          (quietly (waiting (workedState before s) (waitAfter (s .cpu .wait) (s .last .res) (clocksOf 1))))
+          (withoutWrites (withWait (workedState before s) (waitAfter (s .cpu .wait) (s .last .res) (clocksOf 1))))
       by-tests true true e f = let w = eqb-true (s .cpu .wait) 0 f in rw (e, f, le-ltb 0 (s .cpu .wait) (omega arith))
       by-tests true false e f = let w = eqb-false (s .cpu .wait) 0 f in rw (e, f, lt-ltb 0 (s .cpu .wait) (omega arith))
       by-tests false z e f = rw e

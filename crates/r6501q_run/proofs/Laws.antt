@@ -10,7 +10,7 @@ use Rattle.cpu_access.specs.declared.halt.Halt.{Halt}
 use Rattle.cpu_access.specs.Stack.{noWrites}
 use Rattle.cpu_access.specs.Halt.{halts}
 use Rattle.cpu_access.proofs.Told.{unwritten}
-use Rattle.leaps.specs.Chip.{ClockEnd, ClockOutcome, stopped, done}
+use Rattle.leaps.specs.Chip.{ClockEnd, ClockOutcome, stopped, ended}
 use Rattle.leaps.specs.Calls.{isStop, stopOf}
 use Rattle.leaps.proofs.Laws.{Lawful}
 use Rattle.leaps.proofs.Chips as chips
@@ -32,33 +32,33 @@ use Rattle.r6501q_step.specs.R6501q.{endOf, clockOutcome, r6501q, chip}
 -- what holds of each end of a clock holds of the end that the theory sees, and of a stop likewise
 module _ (halt : Halt) (s : State) (codes memory : List ℕ) (free : Bool) where
   along-done : (P : ClockEnd State → Type 0) → ((e : Ended) → clockOf s codes memory free ≡ Done e → P (endOf halt memory e))
-      → (d : ClockEnd State) → clockOutcome halt memory (clockOf s codes memory free) ≡ done d → P d
+      → (d : ClockEnd State) → clockOutcome halt memory (clockOf s codes memory free) ≡ ended d → P d
   along-done P h d q = by-clocked (clockOf s codes memory free) refl q
     where
       Ends : ClockOutcome State → Type 0
       Ends (stopped number) = Unit {0}
-      Ends (done end) = P end
+      Ends (ended end) = P end
 
-      held : (x : ClockOutcome State) → Ends x → x ≡ done d → P d
+      held : (x : ClockOutcome State) → Ends x → x ≡ ended d → P d
       held x p e = rw e at p
 
-      by-clocked : (x : Clocked) → clockOf s codes memory free ≡ x → clockOutcome halt memory x ≡ done d → P d
+      by-clocked : (x : Clocked) → clockOf s codes memory free ≡ x → clockOutcome halt memory x ≡ ended d → P d
       by-clocked (Stopped number) e z = held (stopped number) tt z
-      by-clocked (Done end) e z = held (done (endOf halt memory end)) (h end e) z
+      by-clocked (Done end) e z = held (ended (endOf halt memory end)) (h end e) z
 
   along-stopped : (number : ℕ) → clockOutcome halt memory (clockOf s codes memory free) ≡ stopped number → isStop number ≡ true
   along-stopped number q = by-clocked (clockOf s codes memory free) refl q
     where
       Stops : ClockOutcome State → Type 0
       Stops (stopped k) = isStop k ≡ true
-      Stops (done end) = Unit {0}
+      Stops (ended end) = Unit {0}
 
       held : (x : ClockOutcome State) → Stops x → x ≡ stopped number → isStop number ≡ true
       held x p e = rw e at p
 
       by-clocked : (x : Clocked) → clockOf s codes memory free ≡ x → clockOutcome halt memory x ≡ stopped number → isStop number ≡ true
       by-clocked (Stopped k) e z = held (stopped k) (stop-either (λ (m : ℕ). isStop m ≡ true) refl refl s codes memory free k e) z
-      by-clocked (Done end) e z = held (done (endOf halt memory end)) tt z
+      by-clocked (Done end) e z = held (ended (endOf halt memory end)) tt z
 
 -- the stop that a clock which is done ends in, 12 or none, is its own
 halt-stop : (t : Bool) → stopOf (cond t haltStop 0) ≡ cond t haltStop 0
@@ -76,7 +76,7 @@ module _ (n : ℕ) (s : State) (clocks memory : List ℕ) (free : Bool) (inside 
 
   -- and writes nothing, the halt address least of all
   gap-outcome : (halt : Halt) → clockOutcome halt memory (clockOf s [] memory free)
-      ≡ done (record { state = passOf s (clocksOf 1); memory = memory; differs = false; word = drivenWord (s .peripherals); stop = 0 })
+      ≡ ended (record { state = passOf s (clocksOf 1); memory = memory; differs = false; word = drivenWord (s .peripherals); stop = 0 })
   unfolding committed putByte
   gap-outcome halt = rw (gap-clocked, unwritten halt noWrites refl)
 

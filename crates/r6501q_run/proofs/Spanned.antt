@@ -175,7 +175,7 @@ module _ (halt : Halt) (at : Leaped) (clocks : List ℕ) (span : ℕ) (on : at .
   pub leapt-on : (w v : Work) (memory₀ memory memory' : List ℕ) → WithinSpan w span → WorkedOn halt span w memory v memory'
       → LeaptTo memory₀ w memory → LeaptTo memory₀ v memory'
   leapt-on w v memory₀ memory memory' room o so-far =
-      rw (o .work, o .stored)
+      rw (o .work, o .bytes)
       (leapt-after (o .at) (quietly-room span [] memory w room (o .quietly) .gone) memory₀ memory (leapt-quietly w memory₀ memory so-far (o .quietly)))
 
 -- at a span's start nothing is gone

@@ -1,5 +1,5 @@
--- P1 to P8 of document 01, "Joints, edges and proved examples", and worked examples of document 02, U1 and U4, in one table under one
--- theorem: each row cites its crate's definitions.
+-- P1 to P8 of document 01, "Joints, edges and proved examples", and worked examples of document 02, in one table under one theorem: each row
+-- cites its crate's definitions.
 use mathlib.Core.Path.{_≡_}
 use mathlib.Core.Bool.{Bool, true, false}
 use mathlib.Core.List.{List, [], _∷_}
@@ -14,10 +14,8 @@ use Rattle.cpu_access.specs.declared.halt.Halt.{Halt}
 use Rattle.cpu_access.specs.declared.halt.Halt.the-variants.{Nowhere, At}
 use Rattle.cpu_alu.specs.Arithmetic.{adcOf}
 use Rattle.cpu_alu.proofs.Examples as alu
-use Rattle.bits.specs.Bits.{bit}
-use Rattle.serial.specs.Transmitter.{sending, idleTransmitter}
-use Rattle.serial.specs.Receiver.{receiving, idleReceiver}
-use Rattle.serial.proofs.Examples as serial
+use Rattle.bits.specs.Bits.{bit, word}
+use Rattle.serial.specs.Transmitter.{idleTransmitter}
 use Rattle.r6501q_state.specs.Pins.{sensed}
 use Rattle.r6501q_clock.specs.Clock.{inputsSet}
 use Rattle.refusals.specs.Refusals.{lastClock}
@@ -27,6 +25,8 @@ use Rattle.leaps.specs.Calls.{Fit}
 use Rattle.r6501q_step.specs.R6501q.{World, r6501q, chip, machine}
 use Rattle.r6501q_step.proofs.Halted.{toldBy, clockIn}
 use Rattle.r6501q_step.proofs.Examples as clocks
+use Rattle.r6501q_step.proofs.ShiftRegister.{ShiftRegister, shift-register}
+use Rattle.r6501q_step.proofs.IndirectJump.{jumpMemory, indirect-jump}
 use Rattle.r6501q_run.proofs.Fair.{first-half}
 
 pub record Examples : Type 0 where
@@ -58,20 +58,9 @@ pub record Examples : Type 0 where
       ≡ record { subinterval = 1; half = false; left = 0; register = register }
   pub p6 : (register received : ℕ) (memory : List ℕ) → plains (chip Nowhere) 4 (clocks.lineStart register received memory) .state .peripherals .receiver
       ≡ record { subinterval = 0; half = false; left = 0; register = register }
-  -- 02, U1, 41h sent with SCCR A0h, latch 0: taken on clock 1, shifted on each second clock, PA4 low and high for each bit; after clock 17
-  -- an under-run, both lines high
-  pub shift-take : (mode : ℕ) → serial.shiftedFor 1 mode ≡ serial.lines true false 8
-  pub shift-high : (mode : ℕ) → serial.shiftedFor 2 mode ≡ serial.lines true true 8
-  pub shift-second : (mode : ℕ) → serial.shiftedFor 3 mode ≡ serial.lines false false 7
-  pub shift-last : (mode : ℕ) → serial.shiftedFor 16 mode ≡ serial.lines false true 1
-  pub shift-idle : (mode : ℕ)
-      → (serial.shiftedFor 17 mode ≡ serial.lines true true 0) × (serial.drivenFor 17 mode 0xA0 0x41 serial.waiting .sender ≡ sending idleTransmitter 0xC0)
-  -- 02, U1, PA7 1, 0, 0, 0, 0, 0, 1, 0 at rises of PA4, SCCR 50h: 400h after the first, 208h and the byte 41h at the last
-  pub shift-first-rise : (received : ℕ) → serial.risenFor (true ∷ []) (receiving idleReceiver 0x40 received)
-      ≡ receiving (record { subinterval = 0; half = false; left = 7; register = 0x400 }) 0x40 received
-  pub shift-received : (received : ℕ)
-      → serial.risenFor (true ∷ false ∷ false ∷ false ∷ false ∷ false ∷ true ∷ false ∷ []) (receiving idleReceiver 0x40 received)
-      ≡ receiving (record { subinterval = 0; half = false; left = 0; register = 0x208 }) 0x41 0x41
+  -- 02, U1: 41h sent with SCCR A0h and latch 0, as port A is driven clock by clock; the next byte taken; SCCR written again; and 41h
+  -- received with SCCR 50h at rises of PA4 (r6501q_step/proofs/ShiftRegister.antt has the rows)
+  pub shift-register : ShiftRegister
   -- 02, U4, document 01's tape with the halt address 0000h: stop, clock, wait and records written; 12 at clock 10, the record there, after
   -- the leaps to clocks 1, 8 and 10; also where that clock is the run's last; 0 before it; 7 for that clock comes first
   pub halt-reached : clocks.reached (plains (chip (At 0)) 100 (clocks.tapeStart 1)) ≡ 12 ∷ 10 ∷ 2 ∷ 1 ∷ []
@@ -81,6 +70,10 @@ pub record Examples : Type 0 where
   pub halt-full : clocks.reached (plains (chip (At 0)) 100 (clocks.tapeStart 0)) ≡ 7 ∷ 9 ∷ 0 ∷ 0 ∷ []
   -- 02, U4, JSR with SP 00h: it tells 0000h, then 00FFh
   pub call-told : told (toldBy (clockIn clocks.callingStart)) ≡ writeAt 0x0000 0x00 ∷ writeAt 0x00FF 0x42 ∷ []
+  -- 02, U5, JMP (02FFh): the low byte of the target is at 02FFh, the high byte at 0200h, and five clocks
+  pub indirect-jump : (first last next : ℕ)
+      → plains (chip Nowhere) 1 (clocks.startWith (clocks.running 0) (jumpMemory first last next) [] [] [] []) .state .cpu
+      ≡ record { a = 0; x = 0; y = 0; sp = 0xFF; p = 0x04; pc = word first last; wait = 4 }
   -- "cut after a clocks from clock 0, an input on clock a is the first half's."
   pub p7 : (halt : Halt) (a : ℕ) (w : World) → Fit (r6501q halt) w → w .state .clock ≡ 0 → a ≤ lastClock
       → calls (machine halt) (runFor a ∷ []) w .world .stop ≡ 0
@@ -104,19 +97,14 @@ examples = record {
   p5-edges = clocks.p5-edges;
   p6-low = clocks.p6-low;
   p6 = clocks.p6-none;
-  shift-take = serial.shift-take;
-  shift-high = serial.shift-high;
-  shift-second = serial.shift-second;
-  shift-last = serial.shift-last;
-  shift-idle = serial.shift-idle;
-  shift-first-rise = serial.shift-first-rise;
-  shift-received = serial.shift-received;
+  shift-register = shift-register;
   halt-reached = clocks.halt-reached;
   halt-leaps = clocks.halt-leaps;
   halt-last = clocks.halt-last;
   halt-before = clocks.halt-before;
   halt-full = clocks.halt-full;
   call-told = clocks.call-told;
+  indirect-jump = indirect-jump;
   p7 = first-half;
   p8 = opcodes.p8;
 }

@@ -99,4 +99,4 @@ pub record WorkedOn (halt : Halt) (span : ℕ) (w : Work) (memory : List ℕ) (r
   pub at : Work
   pub quietly : Quietly span [] memory w at
   pub work : r ≡ workAfter halt span at memory
-  pub stored : memory' ≡ memoryAfter halt span at memory
+  pub bytes : memory' ≡ memoryAfter halt span at memory

@@ -5,3 +5,4 @@ pub mod Stops
 pub mod Halted
 pub mod Examples
 pub mod ShiftRegister
+pub mod IndirectJump

@@ -8,7 +8,7 @@ use Rattle.leaps.specs.Leaps.{System}
 use Rattle.cpu_access.specs.declared.stack.Writes.{Writes}
 use Rattle.cpu_access.specs.declared.halt.Halt.{Halt}
 use Rattle.cpu_access.specs.Halt.{halts}
-use Rattle.leaps.specs.Chip.{Chip, ClockEnd, ClockOutcome, stopped, done}
+use Rattle.leaps.specs.Chip.{Chip, ClockEnd, ClockOutcome, stopped, ended}
 use Rattle.leaps.specs.World as leaps
 use Rattle.leaps.specs.Lists.{Machine}
 use Rattle.leaps.specs.Calls as calls
@@ -44,7 +44,7 @@ endOf halt memory e = record {
 -- "6 and 7 for that same clock come first"
 abbrev pub clockOutcome : Halt → List ℕ → Clocked → ClockOutcome State
 clockOutcome halt memory (Stopped number) = stopped number
-clockOutcome halt memory (Done e) = done (endOf halt memory e)
+clockOutcome halt memory (Done e) = ended (endOf halt memory e)
 
 -- by the halt address, or none, that "all calls of a list are given"
 abbrev pub r6501q : Halt → Chip State

@@ -45,7 +45,7 @@ returns c =
     let root = c .before .before .before .before .before .before .before .before .before .before in
     let done = c .before .before .before .before .before .run-instructions in
     let e : leb (root .args .span .0 - done .result .at .gone .0) (done .result .at .wait) ≡ true = le-leb _ _ (c .if1 .taken) in
-    record { at = done .result .at; quietly = done .ensures .0; work = rw e; stored = rw e }
+    record { at = done .result .at; quietly = done .ensures .0; work = rw e; bytes = rw e }
 
 -- src/lib.rt:124:31
 enum-told : tie.Need-enum-told
@@ -78,7 +78,7 @@ returns-2 c =
     let done = c .before .before .before .before .before .before .before .run-instructions in
     let e = lt-leb _ _ (c .before .before .if1 .left) in
     let o = sym (done .ensures .1) ∙ c .enum-told .given .1 in
-    record { at = done .result .at; quietly = done .ensures .0; work = rw (e, o); stored = rw (e, o) }
+    record { at = done .result .at; quietly = done .ensures .0; work = rw (e, o); bytes = rw (e, o) }
 
 -- src/lib.rt:111:1
 same-length-3 : tie.Need-same-length-3
@@ -91,7 +91,7 @@ returns-3 c =
     let done = c .before .before .before .before .before .before .before .run-instructions in
     let e = lt-leb _ _ (c .before .before .if1 .left) in
     let o = sym (done .ensures .1) ∙ c .enum-told2 .given .1 in
-    record { at = done .result .at; quietly = done .ensures .0; work = rw (e, o); stored = rw (e, o) }
+    record { at = done .result .at; quietly = done .ensures .0; work = rw (e, o); bytes = rw (e, o) }
 
 -- src/lib.rt:111:1
 same-length-4 : tie.Need-same-length-4
@@ -105,7 +105,7 @@ returns-4 c =
     let e = lt-leb _ _ (c .before .before .before .before .before .before .before .if1 .left) in
     let o = sym (done .ensures .1) ∙ c .before .before .before .before .before .outcome .given .1 in
     let d = c .before .before .continue-work .ensures in
-    record { at = done .result .at; quietly = done .ensures .0; work = rw (e, o) (d .0); stored = rw (e, o) (d .1) }
+    record { at = done .result .at; quietly = done .ensures .0; work = rw (e, o) (d .0); bytes = rw (e, o) (d .1) }
 
 pub work-once-spec : {M : Type 1} → statement M
 work-once-spec =

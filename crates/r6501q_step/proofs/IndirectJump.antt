@@ -1,0 +1,59 @@
+-- Document 02, U5, of a whole clock: JMP (02FFh) takes the low byte of its target from 02FFh and the high byte from 0200h.
+use mathlib.Core.Path.{_≡_, refl}
+use mathlib.Core.Bool.{Bool, true, false}
+use mathlib.Core.List.{List, [], _∷_, _++_}
+use Prim.Native.Nat.{ℕ, zero, suc, _+_}
+use Rattle.bits.specs.Bits.{bit}
+use Rattle.bits.specs.Lists.{tabulate}
+use Rattle.bits.specs.Bits.{withBit, setWhere, flipWhere}
+use Rattle.pin_lists.specs.PinLists.{dueCount}
+use Rattle.counters.specs.Counters.{ticksOf, inForce, downA, countsA, clockA, lowerA, upperA, loadCounterA, reloadB, downB, clockB, lowerB, upperB, copyB, loadCounterB, turnToC}
+use Rattle.serial.specs.Format.{transmitterAsynchronous, receiverAsynchronous, receiverShifting, holdsA, keepsTransmitter, keepsReceiver, parityBit, frameBits, sentBits, pace}
+use Rattle.serial.specs.Receiver.{startDetected, withLevel, receivedByte, wrongParity, statusAfter, keptWith, frameEnded, lookTaken, looked, receiveTick, shiftedAtRise, byteEnded, receiveRise, receiverClock, receiverWithSccr}
+use Rattle.serial.specs.Transmitter.{framed, taken, idleTick, frameEnd, nextPhase, ticked, bitTick, sendTick, transmitterClock, line, shiftClock, transmitterWithSccr}
+use Rattle.cpu_opcodes.specs.Decode.{decodeOf}
+use Rattle.cpu_alu.specs.Status.{packed, unpacked, pushed}
+use Rattle.cpu_access.specs.declared.halt.Halt.the-variants.{Nowhere, At}
+use Rattle.cpu_access.specs.Halt.{isWritten, halts}
+use Rattle.cpu_access.proofs.Told.{told}
+use Rattle.cpu_access.specs.Stack.{writeAt}
+use Rattle.cpu_access.specs.Bus.{memoryByte}
+use Rattle.cpu_access.specs.Accesses.{byteAfter, peripheralsRead, peripheralsWritten, valueRead, performed, inOrder}
+use Rattle.cpu_access.specs.Operands.{located}
+use Rattle.cpu_access.specs.Modes.{displacement}
+use Rattle.cpu_operations.specs.Kinds.{withRead, changedBy, byteToStore, branchTaken, bitBranchTaken, byteToPush, withPulled, withRegister, withFlag}
+use Rattle.cpu.specs.Sequence.{completion, storeAt, modifyAccesses, branchOn, bitBranchAccesses, jumpTo, pushAccesses, pullAccesses, returnAccesses, interruptReturnAccesses, entryAccesses, breakAccesses, callAccesses, operationAccesses, instructionAccesses, resetAccesses, interruptAccesses}
+use Rattle.r6501q_cpu.specs.Processor.{wholeInstruction, irqDue, resetStart, nmiStart, irqStart, startOf, processorOf}
+use Rattle.r6501q_state.specs.Control.{flagsOf, modeA, modeB}
+use Rattle.r6501q_state.specs.Inputs.{withInput}
+use Rattle.r6501q_state.specs.Pins.{driveA, driveD, drivenWord, levelsOf, rose, fell, edges, withEdges, resetOf, sensedAt, sensed}
+use Rattle.r6501q_state.specs.State.{fresh}
+use Rattle.r6501q_registers.specs.Read.{portValue, registerValue, afterRead}
+use Rattle.r6501q_registers.specs.Write.{startB, startA, entering, keptFlag, keptFlags, writeOf}
+use Rattle.r6501q_clock.specs.Clock.{withInputs, countA, countB, sentBy, heardBy, worked, readyOf, finished, clockOf}
+use Rattle.r6501q_clock.specs.Commit.{putByte, committed}
+use Rattle.r6501q_state.specs.declared.state.Levels.{Levels}
+use Rattle.r6501q_state.specs.declared.state.State.{State}
+use Rattle.r6501q_state.specs.State.{freshCpu, freshPorts, freshLevels, freshPeripherals}
+use Rattle.r6501q_state.specs.Copies.{flagged, withCounterA, withCounterB, withPeripherals}
+use Rattle.serial.specs.Transmitter.{idleTransmitter}
+use Rattle.r6501q_clock.specs.Clock.{inputsSet}
+use Rattle.leaps.specs.Leaps.{eventsIn, quietEnd, plains, trace, leapCount}
+use Rattle.leaps.specs.World.{putRecord, plainOf, doneIn, eventIn}
+use Rattle.r6501q_gaps.specs.Events.{hasInput, sameLevels, levelsChange, underflowsA, underflowsB, portsFresh, controlFresh, transmitterIdle, receiverIdle, isReset, resetChanges, cpuStarts, eventOf}
+use Rattle.r6501q_step.specs.R6501q.{World, plain, chip}
+use Rattle.r6501q_step.proofs.Halted.{toldBy, clockIn}
+use lib.ListN.{replicate}
+use Rattle.bits.specs.Bits.{word}
+use Rattle.r6501q_step.proofs.Examples.{startWith, running}
+
+-- JMP (02FFh) at 0040h; the bytes at 0200h, at 02FFh, and at 0300h in the next page
+abbrev pub jumpMemory : ℕ → ℕ → ℕ → List ℕ
+jumpMemory first last next =
+    replicate 0x40 0 ++ (0x6C ∷ 0xFF ∷ 0x02 ∷ []) ++ replicate 0x1BD 0 ++ (first ∷ []) ++ replicate 0xFE 0 ++ (last ∷ next ∷ [])
+
+pub indirect-jump : (first last next : ℕ)
+    → plains (chip Nowhere) 1 (startWith (running 0) (jumpMemory first last next) [] [] [] []) .state .cpu
+    ≡ record { a = 0; x = 0; y = 0; sp = 0xFF; p = 0x04; pc = word first last; wait = 4 }
+unfolding withBit setWhere flipWhere dueCount ticksOf inForce downA countsA clockA lowerA upperA loadCounterA reloadB downB clockB lowerB upperB copyB loadCounterB turnToC transmitterAsynchronous receiverAsynchronous receiverShifting holdsA keepsTransmitter keepsReceiver parityBit frameBits sentBits pace startDetected withLevel receivedByte wrongParity statusAfter keptWith frameEnded lookTaken looked receiveTick shiftedAtRise byteEnded receiveRise receiverClock receiverWithSccr framed taken idleTick frameEnd nextPhase ticked bitTick sendTick transmitterClock line shiftClock transmitterWithSccr decodeOf packed unpacked pushed memoryByte displacement flagsOf modeA modeB withInput driveA driveD drivenWord levelsOf rose fell edges withEdges resetOf sensedAt sensed fresh portValue registerValue afterRead startB startA entering keptFlag keptFlags writeOf wholeInstruction irqDue resetStart nmiStart irqStart startOf processorOf withInputs countA countB sentBy heardBy worked readyOf finished clockOf halts putByte committed plainOf plains putRecord located byteAfter peripheralsRead peripheralsWritten valueRead performed inOrder completion storeAt modifyAccesses branchOn bitBranchAccesses jumpTo pushAccesses pullAccesses returnAccesses interruptReturnAccesses entryAccesses breakAccesses callAccesses operationAccesses withRead changedBy byteToStore branchTaken bitBranchTaken byteToPush withPulled withRegister withFlag instructionAccesses resetAccesses interruptAccesses
+indirect-jump first last next = refl
