@@ -75,7 +75,7 @@ abbrev readsOf : Entry → ℕ
 readsOf e = costOf (e .operation) .reads (readsOfAccess (accessOf (e .operation)) (readsOfMode (e .mode) 1))
 
 -- an entry that leaves a store
-abbrev storesOf : Entry → Bool
+abbrev pub storesOf : Entry → Bool
 storesOf e = stores (e .operation) (eqb (modeNumber (e .mode)) (modeNumber Accumulator))
 
 -- one test over the table: no instruction reads more than five bytes that can be asked for, nor takes more than 7 clocks, and one that
@@ -122,7 +122,7 @@ unfolding writesAsked
 asking-writes b sp pc = cond-both (λ w. w .count ≤ 3) (b .missing) noWrites (pushWord sp pc) (λ t. lit≤ tt) (λ t. pushed-writes sp pc)
 
 -- an operand is the accumulator just in that mode
-locate-accumulator : (answers memory : List ℕ) (mode : Mode) (r : CpuRegisters) (b : Bus) → locateOf answers memory mode r b .accumulator ≡ eqb (modeNumber mode) (modeNumber Accumulator)
+pub locate-accumulator : (answers memory : List ℕ) (mode : Mode) (r : CpuRegisters) (b : Bus) → locateOf answers memory mode r b .accumulator ≡ eqb (modeNumber mode) (modeNumber Accumulator)
 unfolding locateOf indexedBy relativeTo
 locate-accumulator answers memory Implied r b = refl
 locate-accumulator answers memory Accumulator r b = refl

@@ -2,4 +2,4 @@ pub mod Laws
 pub mod Ranges
 pub mod Sequence
 pub mod Kept
-pub mod Flags
+pub mod Leaves

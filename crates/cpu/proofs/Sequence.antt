@@ -64,7 +64,7 @@ writes-as (oneStore x) [] = refl
 writes-as (oneStore x) (w ∷ ws) = refl
 
 abbrev pub workedOf : Conclusion → List Write → Worked
-workedOf l pushes = record { registers = l .registers; written = writtenAs (l .store) pushes; length = l .length }
+workedOf l pushes = record { registers = l .registers; written = writtenAs (l .store) pushes; length = l .clocks }
 
 abbrev pub outcomeFrom : Reply Ending → Outcome
 outcomeFrom (asks latch a ws) = Asked (record { address = a; latch = latch; writes = inOrder ws })

@@ -32,7 +32,7 @@ pub data LastStore : Type 0 where
 pub record Conclusion : Type 0 where
   pub registers : CpuRegisters
   pub store : LastStore
-  pub length : ℕ
+  pub clocks : ℕ
 
 -- all its writes: the pushes, then the store
 abbrev pub withStore : List Write → LastStore → List Write
@@ -45,7 +45,7 @@ pub data Ending : Type 0 where
   leaves : Conclusion → Ending
 
 abbrev pub conclusion : CpuRegisters → ℕ → Conclusion
-conclusion r n = record { registers = r; store = noStore; length = n }
+conclusion r n = record { registers = r; store = noStore; clocks = n }
 
 -- ---- by kind; n is the length in the opcode's row, p the operand's place
 
@@ -54,7 +54,7 @@ unfoldable pub completion : ℕ → Located → CpuRegisters → Accesses Conclu
 completion n p r = ends (conclusion r (n + digit (p .crossed)))
 
 unfoldable pub storeAt : ℕ → Located → CpuRegisters → ℕ → Accesses Conclusion
-storeAt n p r v = ends (record { registers = r; store = oneStore (writeAt (p .address) v); length = n })
+storeAt n p r v = ends (record { registers = r; store = oneStore (writeAt (p .address) v); clocks = n })
 
 -- a byte that was read and changed goes back to where it came from
 abbrev pub storeBack : ℕ → Located → CpuRegisters → Computed → Accesses Conclusion

@@ -62,13 +62,13 @@ module _ {P : Type 0} (file : RegisterFile P) where
           → ((more : List ℕ) → turn (answers ++ more) ≡ asked memory more before t)
           → from (suc n) p answers ≡ finish (performed file memory (allWritten p before) before t)
 
-      now : (t : Accesses A) (answers : List ℕ) (before : List Write) → ((more : List ℕ) → turn (answers ++ more) ≡ asked memory more before t)
+      turn-now : (t : Accesses A) (answers : List ℕ) (before : List Write) → ((more : List ℕ) → turn (answers ++ more) ≡ asked memory more before t)
           → turn answers ≡ asked memory [] before t
-      now t answers before same = rw append-nil at (same [])
+      turn-now t answers before same = rw append-nil at (same [])
 
       performs-ends : (x : A) → Performs (ends x)
       unfolding performed asked
-      performs-ends x n p answers before room same = over-from n p answers x before (now (ends x) answers before same)
+      performs-ends x n p answers before room same = over-from n p answers x before (turn-now (ends x) answers before same)
 
       performs-writes : (a v : ℕ) (t : Accesses A) → Performs t → Performs (writes a v t)
       unfolding performed asked
@@ -78,10 +78,10 @@ module _ {P : Type 0} (file : RegisterFile P) where
       performs-register : (latch : Bool) (a : ℕ) (go : ℕ → Accesses A) → ((v : ℕ) → Performs (go v)) → isRegister a ≡ true → Performs (reads latch a go)
       unfolding asked
       performs-register latch a go then e zero p answers before room same =
-          absurd (let few = bound answers latch a before (rw e at (now (reads latch a go) answers before same)) in omega (arith, few))
+          absurd (let few = bound answers latch a before (rw e at (turn-now (reads latch a go) answers before same)) in omega (arith, few))
       performs-register latch a go then e (suc n) p answers before room same =
           let v = file .value (allWritten p before) latch a in
-          asks-from (suc n) p answers latch a before (rw e at (now (reads latch a go) answers before same))
+          asks-from (suc n) p answers latch a before (rw e at (turn-now (reads latch a go) answers before same))
           ∙ then v n (file .afterRead p a) (answers ++ (v ∷ [])) before (rw (length-append answers (v ∷ [])) (omega arith))
           (λ more. ap turn (append-assoc answers (v ∷ []) more) ∙ rw e at (same (v ∷ more)))
           ∙ ap (λ (q : P). finish (performed file memory q before (go v))) (sym (all-read p before a))

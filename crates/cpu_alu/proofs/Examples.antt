@@ -14,3 +14,8 @@ p3 n v i z = refl
 pub p4 : (n v i z : Bool) → adcOf 0x7F 0x01 (record { n = n; v = v; d = false; i = i; z = z; c = false }) ≡ record { value = 0x80; status = record { n = true; v = true; d = false; i = i; z = false; c = false } }
 unfolding adcOf addBinary overflow
 p4 n v i z = refl
+
+-- 01, Instructions: "Z is binary": decimal 99h + 01h is 00h with Z clear, since the binary sum is 9Ah
+pub decimal-zero : (n v i z : Bool) → adcOf 0x99 0x01 (record { n = n; v = v; d = true; i = i; z = z; c = false }) ≡ record { value = 0x00; status = record { n = true; v = false; d = true; i = i; z = false; c = true } }
+unfolding adcOf addDecimal digitSum lowSum corrected overflow
+decimal-zero n v i z = refl

@@ -145,7 +145,7 @@ entryNumber (Defined e) = operationNumber (e .operation) * 256 + modeNumber (e .
 unfoldable pub opcodeTable : List ℕ
 opcodeTable = tabulate (λ o. entryNumber (decodeOf o)) 256 0
 
--- the way back: the operations of a kind but the last, in the order of their numbers; m is the bit that the opcode names
+-- the way back: the operations of a kind but the last, in the order of their numbers; m: the bit that the opcode names
 abbrev pub readOperations : List ReadOperation
 readOperations = Adc ∷ And ∷ Bit ∷ Cmp ∷ Cpx ∷ Cpy ∷ Eor ∷ Lda ∷ Ldx ∷ Ldy ∷ Ora ∷ []
 

@@ -1,4 +1,4 @@
-// What an instruction does: its operation, by kind. The kind says how memory is used, the operation within it what is done.
+// What an instruction does: its operation, by kind. The kind says how memory is used, the operation what is done.
 ghost use mathlib.Core.Path.{_≡_};
 ghost use Rattle.cpu_opcodes.specs.Table.{operationOf, readOperation, modifyOperation, storeOperation, branchOperation, bitBranchOperation, pushOperation, pullOperation, registerOperation, flagOperation};
 
@@ -18,7 +18,7 @@ pub enum ReadOperation {
     Sbc,
 }
 
-// A byte is read, changed and written back: the read-modify-write instructions. RMB and SMB hold the number of their bit.
+// The read-modify-write operations: a byte is read, changed and written back. RMB and SMB hold the number of their bit.
 pub enum ModifyOperation {
     Asl,
     Dec,

@@ -1,6 +1,6 @@
 // The table of all 256 opcodes, in the order of the instruction code matrix (source document 001, A.3).
-// An entry is one number of four digits: the operation's kind, the operation within it, the addressing mode, the length in
-// clocks. No defined entry is 0, since no length is.
+// An entry is one number of four digits: the operation's kind, the operation within it, the addressing mode, the length
+// in clocks. No defined entry is 0, since no length is.
 
 // The operations, by kind and mnemonic: reads.
 const ADC: u16 = 0x0000;

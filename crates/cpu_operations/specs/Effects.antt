@@ -23,6 +23,7 @@ use Rattle.cpu_operations.specs.declared.Written.{Written}
 use Rattle.cpu_operations.specs.declared.Written.the-variants.{Nothing, Pushed, Stored}
 use Rattle.cpu_operations.specs.declared.Operand.{Operand}
 use Rattle.cpu_operations.specs.declared.Executed.{Executed}
+-- with what is left go the registers set anew
 pub use Rattle.cpu_operations.specs.Updates.{withSp, withPc, withStatus, intoA, intoX, intoY, loadA, loadX, loadY}
 use Rattle.cpu_operations.specs.Kinds.{withPulled}
 

@@ -1,4 +1,4 @@
--- What each operation does (001, appendix A): with the byte that it reads, and to the registers. Both follow from its kind.
+-- What each operation does (001, appendix A), by kind: with the byte at its operand's address, and what it leaves.
 use mathlib.Core.Bool.{Bool, true, false}
 use mathlib.Core.List.{List}
 use Prim.Native.Nat.{ℕ}

@@ -43,7 +43,9 @@ module _ {W : Type 0} (S : System W) (f : W → W) (k : Unseen S f) where
           → leapsOf S most (leftAfter S n w) (f (leapOf S n w)) ≡ along (leapsOf S most (leftAfter S n w) (leapOf S n w))
           → leapsOf S (suc most) n (f w) ≡ along (leapsOf S (suc most) n w)
       again true e later =
-          rw (k .running w, e, leapsOf, k .gap n w, leap-along n w, later, moved-along w (leapOf S n w))
+          let l = leapsOf S most (leftAfter S n w) (leapOf S n w) in
+          rw (k .running w, e, leapsOf, k .gap n w, leap-along n w, later)
+          (ap {B = Run W} (λ (m : ℕ). record { world = f (l .world); leaps = m + l .leaps }) (moved-along w (leapOf S n w)))
       again false e later = rw (k .running w, e, leapsOf)
 
   pub run-along : (n : ℕ) (w : W) → run S n (f w) ≡ record { world = f (run S n w .world); leaps = run S n w .leaps }

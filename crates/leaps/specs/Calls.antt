@@ -26,7 +26,8 @@ pub record HandedOf (S : Type 0) : Type 0 where
   pub outputClocks : List ℕ
   pub outputWords : List ℕ
 
--- 01, "a stop (6, 7) ends the list"; 02, U4, "12: halted at a write, a stop like the others": the stops by name; every other number is none
+-- 01, "a stop (6, 7) ends the list"; 02, U4, "12: halted at a write, a stop like the others": the stops by name; every
+-- other number is none
 abbrev pub isStop : ℕ → Bool
 isStop number = eqb number 6 || eqb number 7 || eqb number 12
 

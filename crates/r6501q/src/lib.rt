@@ -134,8 +134,9 @@ pub extern "C" fn r6501q_run(
         ≡ hostCall (runOf (machine (haltOf halt)) n) n (callStart state (now (memory .entry)) (now (inputclocks .entry))
         (now (inputcodes .entry)) (now (outputclocks .entry)) (now (outputwords .entry))) ⌝ }
     ensures { λ r. ⌜ hostHanded r (now (memory .exit)) (now (outputclocks .exit)) (now (outputwords .exit))
-        ≡ hostCall (plainRunOf (machine (haltOf halt)) n) n (callStart state (now (memory .entry)) (now (inputclocks .entry))
-        (now (inputcodes .entry)) (now (outputclocks .entry)) (now (outputwords .entry))) ⌝ }
+        ≡ hostCall (plainRunOf (machine (haltOf halt)) n) n (callStart state (now (memory .entry))
+        (now (inputclocks .entry)) (now (inputcodes .entry)) (now (outputclocks .entry))
+        (now (outputwords .entry))) ⌝ }
 {
     if !flags_fit(state) {
         return flag_refused(

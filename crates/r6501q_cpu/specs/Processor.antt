@@ -53,7 +53,7 @@ afterStore levels p (oneStore w) = peripheralsWritten (registerFile levels) p (w
 abbrev pub nextAfter : State → Due → Performed Peripherals Conclusion → Next
 nextAfter s due x = record {
   state = record {
-    cpu = cpuOf (x .end .registers) (x .end .length - 1);
+    cpu = cpuOf (x .end .registers) (x .end .clocks - 1);
     due = due;
     peripherals = afterStore (s .last .ports) (x .peripherals) (x .end .store);
     external = s .external;

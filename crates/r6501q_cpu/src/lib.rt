@@ -3,7 +3,6 @@ ghost use mathlib.Core.Path.{_≡_};
 ghost use mathlib.Core.List.{[]};
 ghost use Prim.Native.Nat.{_≤_};
 ghost use Rattle.cpu_opcodes.specs.Table.{opcodeTable};
-ghost use Rattle.cpu_operations.specs.Effects.{writesOf};
 ghost use Rattle.r6501q_cpu.specs.Processor.{registersOf, cpuOf, irqDue, resetStart, nmiStart, irqStart, startOf, withoutWrites, withWait, processorOf};
 ghost use Rattle.r6501q_cpu.specs.Asking.{putRegister, registersAfter, answerOf, nextOf, turnOf, instructionFrom, answeredInstruction};
 use cpu::Ask;
@@ -19,7 +18,6 @@ use cpu_access::stack::Writes;
 use cpu_access::stack::no_writes;
 use cpu_alu::Status;
 use cpu_operations::Worked;
-use cpu_operations::Written;
 use cpu_operations::writes_of;
 use memory::is_register;
 use r6501q_registers::read::Reading;
@@ -92,24 +90,19 @@ fn put_register(there: bool, w: Write, p: Peripherals) -> Peripherals
     p
 }
 
-// The register writes of an instruction, in their order.
+// The register writes of an instruction, in their order. Most write nothing or one byte.
 fn registers_after(p: Peripherals, w: Writes) -> Peripherals
     ensures { λ r. ⌜ r ≡ registersAfter p w ⌝ }
 {
+    if w.count == 0 {
+        return p;
+    }
     let first = put_register(0 < w.count, w.first, p);
+    if w.count == 1 {
+        return first;
+    }
     let second = put_register(1 < w.count, w.second, first);
     put_register(2 < w.count, w.third, second)
-}
-
-// What an instruction or an entry does to the registers, in order.
-fn registers_written(p: Peripherals, written: Written) -> Peripherals
-    ensures { λ r. ⌜ r ≡ registersAfter p (writesOf written) ⌝ }
-{
-    match written {
-        Written::Nothing => p,
-        Written::Pushed(pushes) => registers_after(p, pushes),
-        Written::Stored(store) => put_register(true, store, p),
-    }
 }
 
 // The answer to what an instruction asks.
@@ -129,14 +122,15 @@ fn next_state(s: State, due: Due, p: Peripherals, w: Worked) -> Next
 {
     let written = w.written;
     let cpu = cpu_of(w.registers, bits::one_less(w.length));
-    let peripherals = registers_written(p, written);
+    let writes = writes_of(written);
+    let peripherals = registers_after(p, writes);
     let mut state = s;
     state.cpu = cpu;
     state.due = due;
     state.peripherals = peripherals;
     Next {
         state: state,
-        writes: writes_of(written),
+        writes: writes,
     }
 }
 

@@ -28,7 +28,8 @@ goesOn l = ltb 0 (l .left .0) && eqb (l .progress .stop) 0
 -- what the code has come to, and the run of what is left
 abbrev pub runFrom : Halt → Leaped → List ℕ → List ℕ → List ℕ → List ℕ → List ℕ → Run World
 runFrom halt l memory inputClocks inputCodes outputClocks outputWords =
-    let r = run (chip halt) (l .left .0) (worldOf (l .progress) memory inputClocks inputCodes outputClocks outputWords) in
+    let w = worldOf (l .progress) memory inputClocks inputCodes outputClocks outputWords in
+    let r = run (chip halt) (l .left .0) w in
     record { world = r .world; leaps = l .leaps + r .leaps }
 
 -- and what it has come to once it goes on no more

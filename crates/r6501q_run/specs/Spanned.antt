@@ -40,7 +40,8 @@ spannedTo at w = record {
 pub record Spanned (halt : Halt) (at : Leaped) (memory : List ℕ) (r : Leaped) (memory' inputClocks : List ℕ) : Type 0 where
   pub made : ℕ
   pub byLeaps : (inputCodes outputClocks outputWords : List ℕ)
-      → ByLeaps (chip halt) (at .left .0) (worldOf (at .progress) memory inputClocks inputCodes outputClocks outputWords)
+      → ByLeaps (chip halt) (at .left .0)
+      (worldOf (at .progress) memory inputClocks inputCodes outputClocks outputWords)
       made (r .left .0) (worldOf (r .progress) memory' inputClocks inputCodes outputClocks outputWords)
   pub leaps : r .leaps ≡ at .leaps + made
   -- what fits still fits, and no input is read and no record written

@@ -86,8 +86,8 @@ fn leap(
     requires { ⌜ now entries ≡ opcodeTable ⌝ }
     ensures { λ r. ⌜ worldOf r (now (memory .exit)) (now (inputclocks .entry)) (now (inputcodes .entry))
         (now (outputclocks .exit)) (now (outputwords .exit))
-        ≡ leapOf (chip halt) (left .0) (worldOf p (now (memory .entry)) (now (inputclocks .entry)) (now (inputcodes .entry))
-        (now (outputclocks .entry)) (now (outputwords .entry))) ⌝ }
+        ≡ leapOf (chip halt) (left .0) (worldOf p (now (memory .entry)) (now (inputclocks .entry))
+        (now (inputcodes .entry)) (now (outputclocks .entry)) (now (outputwords .entry))) ⌝ }
 {
     let passed = pass_progress(p, gap);
     if gap.0 < left.0 {
@@ -132,8 +132,8 @@ fn leap_once(
         (now (outputclocks .exit)) (now (outputwords .exit))
         ≡ leapOf (chip halt) (at .left .0) (worldOf (at .progress) (now (memory .entry)) (now (inputclocks .entry))
         (now (inputcodes .entry)) (now (outputclocks .entry)) (now (outputwords .entry))) ⌝ }
-    ensures { λ r. ⌜ r .left ≡ clocksOf (leftAfter (chip halt) (at .left .0) (worldOf (at .progress) (now (memory .entry))
-        (now (inputclocks .entry)) (now (inputcodes .entry)) (now (outputclocks .entry))
+    ensures { λ r. ⌜ r .left ≡ clocksOf (leftAfter (chip halt) (at .left .0) (worldOf (at .progress)
+        (now (memory .entry)) (now (inputclocks .entry)) (now (inputcodes .entry)) (now (outputclocks .entry))
         (now (outputwords .entry)))) ⌝ }
     ensures { λ r. ⌜ r .leaps ≡ at .leaps + leapsFrom (at .progress .state .clock) (r .progress .state .clock) ⌝ }
 {
@@ -296,8 +296,8 @@ pub fn run(
     halt: Halt,
 ) -> CallResult
     ensures { λ r. ⌜ handed r (now (memory .exit)) (now (outputclocks .exit)) (now (outputwords .exit))
-        ≡ runOf (machine halt) n (callStart state (now (memory .entry)) (now (inputclocks .entry)) (now (inputcodes .entry))
-        (now (outputclocks .entry)) (now (outputwords .entry))) ⌝ }
+        ≡ runOf (machine halt) n (callStart state (now (memory .entry)) (now (inputclocks .entry))
+        (now (inputcodes .entry)) (now (outputclocks .entry)) (now (outputwords .entry))) ⌝ }
     ensures { λ r. ⌜ handed r (now (memory .exit)) (now (outputclocks .exit)) (now (outputwords .exit))
         ≡ plainRunOf (machine halt) n (callStart state (now (memory .entry)) (now (inputclocks .entry))
         (now (inputcodes .entry)) (now (outputclocks .entry)) (now (outputwords .entry))) ⌝ }

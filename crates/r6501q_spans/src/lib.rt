@@ -99,8 +99,8 @@ fn continue_work(w: Work, worked: Worked, memory: &mut [u8], halt: Halt) -> Work
     next_work(w, worked)
 }
 
-// The instructions that write nothing, and the one that comes next, if it starts within the span, neither reads nor writes a
-// register of the chip, and does not write the halt address. `entries` is what `cpu_opcodes::opcode_table` gave.
+// The instructions that write nothing, and the one that comes next, if it starts within the span, neither reads nor
+// writes a register of the chip, and does not write the halt address. `entries` is what `cpu_opcodes::opcode_table` gave.
 pub fn work_once(w: Work, span: Clocks, memory: &mut [u8], entries: &[u16], halt: Halt) -> Work
     requires { ⌜ WithinSpan w (span .0) ⌝ }
     requires { ⌜ now entries ≡ opcodeTable ⌝ }

@@ -8,6 +8,7 @@ use lib.Dec.{ltb, eqb}
 use lib.ListN.{length, take, drop, length-drop}
 use lib.Seq.{take-all}
 use borrow.Author.Tests.{eq-eqb}
+use Rattle.bits.specs.Bits.{digit}
 use Rattle.pin_lists.specs.PinLists.{dueCount}
 use Rattle.pin_lists.proofs.PinLists.{due-within}
 use Rattle.cpu_access.specs.declared.halt.Halt.{Halt}
@@ -15,7 +16,9 @@ use Rattle.leaps.specs.World.{stoppedAt, movedTo, dueIn, plainOf}
 use Rattle.r6501q_clock.specs.declared.Ended.{Ended}
 use Rattle.r6501q_clock.specs.declared.Clocked.the-variants.{Stopped, Done}
 use Rattle.r6501q_clock.specs.Clock.{clockOf}
-use Rattle.r6501q_step.specs.R6501q.{World, r6501q, endOf}
+use Rattle.r6501q_step.specs.declared.Progress.{Progress}
+use Rattle.r6501q_step.specs.R6501q.{World, stopAfter, r6501q, endOf}
+use Rattle.r6501q_step.specs.World.{progressTo}
 
 module _ (halt : Halt) (w : World) (due : ℕ) (free : Bool) (on : w .stop ≡ 0) (counted : due ≡ dueIn (r6501q halt) w) where
   -- a clock that stops
@@ -29,6 +32,11 @@ module _ (halt : Halt) (w : World) (due : ℕ) (free : Bool) (on : w .stop ≡ 0
       → free ≡ ltb (w .written) (length (w .outputClocks)) → movedTo (r6501q halt) (endOf halt (w .memory) e) due w ≡ plainOf (r6501q halt) w
   unfolding plainOf
   plain-moves ended e room = rw (eq-eqb (w .stop) 0 on, ← counted, ← room, e)
+
+-- what the code carries once a clock is done, field by field
+pub progress-done : (halt : Halt) (e : Ended) (due : ℕ) (p r : Progress) → r .state ≡ e .state → r .read ≡ p .read + due
+    → r .written ≡ p .written + digit (e .differs) → r .stop ≡ stopAfter halt (e .writes) → r ≡ progressTo halt e due p
+progress-done halt e due p r a b c d = rw (← a, ← b, ← c, ← d)
 
 -- the part of a list that begins at an index, as it is lent
 pub lent-part : (l : List ℕ) (n : ℕ) → take (length l - n) (drop n l) ≡ drop n l

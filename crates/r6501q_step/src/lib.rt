@@ -271,8 +271,8 @@ pub fn step(
     halt: Halt,
 ) -> CallResult
     ensures { λ r. ⌜ handed r (now (memory .exit)) (now (outputclocks .exit)) (now (outputwords .exit))
-        ≡ stepOf (machine halt) (callStart state (now (memory .entry)) (now (inputclocks .entry)) (now (inputcodes .entry))
-        (now (outputclocks .entry)) (now (outputwords .entry))) ⌝ }
+        ≡ stepOf (machine halt) (callStart state (now (memory .entry)) (now (inputclocks .entry))
+        (now (inputcodes .entry)) (now (outputclocks .entry)) (now (outputwords .entry))) ⌝ }
 {
     let number = call_refusal(
         state,

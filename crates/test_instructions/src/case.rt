@@ -6,8 +6,8 @@ ghost use mathlib.Core.Path.{_≡_};
 ghost use mathlib.Core.Bool.{true};
 ghost use Rattle.test_instructions.specs.Instruction.{stepAlone, doneWith};
 use crate::instruction::done_with;
+use crate::instruction::instruction_writes;
 use crate::instruction::step_alone;
-use crate::instruction::writes_of;
 use crate::line::Cursor;
 use crate::line::after;
 use crate::line::bad;
@@ -170,7 +170,7 @@ fn holds(line: &[u8], case: Case, opcode: u8, memory: &mut [u8], expected: &[u8]
     if byte_of(memory, case.first.pc) != opcode {
         return false;
     }
-    if !writes_as(line, case, writes_of(case.first, memory)) {
+    if !writes_as(line, case, instruction_writes(case.first, memory)) {
         return false;
     }
     let result = step_alone(case.first, memory);

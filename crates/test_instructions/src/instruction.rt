@@ -72,7 +72,7 @@ fn clock_alone(cpu: Cpu, memory: &[u8]) -> Clocked
 }
 
 // What an instruction writes, in order; nothing where the clock stops.
-pub(crate) fn writes_of(cpu: Cpu, memory: &[u8]) -> Writes
+pub(crate) fn instruction_writes(cpu: Cpu, memory: &[u8]) -> Writes
     ensures { λ r. ⌜ r ≡ writesIn (clockOf (prepared cpu) [] (now (memory .entry)) true) ⌝ }
 {
     let clocked = clock_alone(cpu, memory);

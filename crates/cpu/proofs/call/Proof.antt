@@ -1,11 +1,34 @@
-use mathlib.Core.Path.{refl}
-use Rattle.cpu.specs.Instruction.{subroutineCall}
+use denote.Ref.{now}
+use mathlib.Core.Path.{_≡_, refl}
+use mathlib.Core.List.{List}
+use Prim.Native.Nat.{ℕ}
+use Rattle.cpu_access.specs.declared.Bus.{Bus}
+use Rattle.cpu_access.specs.declared.CpuRegisters.{CpuRegisters}
+use Rattle.cpu_access.specs.declared.Fetched.{Fetched}
+use Rattle.cpu_access.specs.declared.Got.{Got}
+use Rattle.cpu_access.specs.declared.stack.Writes.{Writes}
+use Rattle.cpu_access.specs.Bus.{fetchOf}
+use Rattle.cpu_access.specs.Stack.{pushWord, readAfter}
+use Rattle.cpu.specs.Instruction.{outcomeOf, writesAsked, callTo, subroutineCall}
 use borrow.Author.Needs.{needs}
 use Rattle.cpu.proofs.call.Statement.{statement}
 use Rattle.cpu.proofs.call.Tie as tie
 
-pub call-spec : {M : Type 1} → statement M
+-- the low byte l, the pushes w and the high byte h, each as it should be
+called-as : (answers memory : List ℕ) (r : CpuRegisters) (n : ℕ) (b : Bus) (l : Fetched) (w : Writes) (h : Got)
+    → l ≡ fetchOf answers memory (r .pc) b → w ≡ pushWord (r .sp) (l .pc) → h ≡ readAfter answers memory w (l .pc) (l .bus)
+    → outcomeOf (writesAsked (l .bus) w) (callTo r n l w h) ≡ subroutineCall answers memory r n b
 unfolding subroutineCall
+called-as answers memory r n b l w h e p q = rw (q, p, e) refl
+
+returns : tie.Need-returns
+returns c =
+    let at = c .before .before .before .before .before .before .before .before .before .before .before .before .before .before .before .args in
+    rw (c .outcome-of .ensures, c .before .writes-asked .ensures, c .before .before .executed-with .ensures, c .before .before .before .with-pc .ensures, c .before .before .before .before .with-sp .ensures, c .before .before .before .before .before .down2 .ensures, c .before .before .before .before .before .before .down .ensures, c .before .before .before .before .before .before .before .word16 .ensures)
+    (called-as (now (at .answers)) (now (at .memory)) (at .registers) (at .length) (at .bus) (c .before .before .before .before .before .before .before .before .before .before .before .before .fetch .result) (c .before .before .before .before .before .before .before .before .before .before .push-word .result) (c .before .before .before .before .before .before .before .before .before .read-after .result)
+    (c .before .before .before .before .before .before .before .before .before .before .before .before .fetch .ensures) (c .before .before .before .before .before .before .before .before .before .before .push-word .ensures) (c .before .before .before .before .before .before .before .before .before .read-after .ensures))
+
+pub call-spec : {M : Type 1} → statement M
 call-spec =
     tie.close
     (tie.spec
@@ -20,4 +43,4 @@ call-spec =
     (λ c κs. search needs)
     (λ c κs. search needs)
     (λ c κs. search needs)
-    (λ c. rw (c .outcome-of .ensures, c .before .writes-asked .ensures, c .before .before .executed-with .ensures, c .before .before .before .with-pc .ensures, c .before .before .before .before .with-sp .ensures, c .before .before .before .before .before .down2 .ensures, c .before .before .before .before .before .before .down .ensures, c .before .before .before .before .before .before .before .word16 .ensures, c .before .before .before .before .before .before .before .before .before .read-after .ensures, c .before .before .before .before .before .before .before .before .before .before .push-word .ensures, c .before .before .before .before .before .before .before .before .before .before .before .before .fetch .ensures) refl))
+    returns)

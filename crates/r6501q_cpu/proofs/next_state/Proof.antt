@@ -11,4 +11,4 @@ next-state-spec =
     (λ c κs. search needs)
     (λ c κs. search needs)
     (λ c κs. search needs)
-    (λ c. rw (c .writes-of .ensures, c .before .registers-written .ensures, c .before .before .cpu-of .ensures, c .before .before .before .one-less .ensures) refl))
+    (λ c. rw (c .registers-after .ensures, c .before .writes-of .ensures, c .before .before .cpu-of .ensures, c .before .before .before .one-less .ensures) refl))

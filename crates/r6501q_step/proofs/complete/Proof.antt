@@ -2,6 +2,7 @@ use mathlib.Core.Path.{refl}
 use native.Mathlib.Omega.{arith}
 use Rattle.leaps.specs.World.{putRecord}
 use Rattle.r6501q_clock.specs.Commit.{committed}
+use Rattle.r6501q_step.proofs.Worlds.{progress-done}
 use borrow.Author.Needs.{needs}
 use Rattle.r6501q_step.proofs.complete.Statement.{statement}
 use Rattle.r6501q_step.proofs.complete.Tie as tie
@@ -51,7 +52,8 @@ same-length-3 c = search needs
 -- src/lib.rt:109:1
 returns : tie.Need-returns
 returns c =
-    (rw (c .before .written-after .ensures, c .stop-after .ensures) refl, (c .before .before .before .before .before .before .before .before .before .before .before .before .before .commit .ensures, (c .before .before .before .before .before .before .before .before .before .put-record .ensures, c .before .before .before .before .before .put-record2 .ensures)))
+    let args = c .before .before .before .before .before .before .before .before .before .before .before .before .before .before .before .before .before .before .before .args in
+    (progress-done (args .halt) (args .ended) (args .due) (args .p) _ refl refl (c .before .written-after .ensures) (c .stop-after .ensures), (c .before .before .before .before .before .before .before .before .before .before .before .before .before .commit .ensures, (c .before .before .before .before .before .before .before .before .before .put-record .ensures, c .before .before .before .before .before .put-record2 .ensures)))
 
 pub complete-spec : {M : Type 1} → statement M
 complete-spec =

@@ -15,8 +15,8 @@ same-length c = search needs
 returns : tie.Need-returns
 returns c = (λ e. absurd (never e), λ e. absurd (never e))
 
-writes-of-requires : tie.Need-writes-of-requires
-writes-of-requires c κs = search needs
+instruction-writes-requires : tie.Need-instruction-writes-requires
+instruction-writes-requires c κs = search needs
 
 writes-as-requires : tie.Need-writes-as-requires
 writes-as-requires c κs = search needs
@@ -51,7 +51,7 @@ holds-spec =
     byte-of-requires
     same-length
     returns
-    writes-of-requires
+    instruction-writes-requires
     writes-as-requires
     same-length-2
     returns-2

@@ -1,7 +1,7 @@
 use mathlib.Core.Path.{_∙_}
 use borrow.Author.Needs.{needs}
-use Rattle.test_instructions.proofs.instruction.writes_of.Statement.{statement}
-use Rattle.test_instructions.proofs.instruction.writes_of.Tie as tie
+use Rattle.test_instructions.proofs.instruction.instruction_writes.Statement.{statement}
+use Rattle.test_instructions.proofs.instruction.instruction_writes.Tie as tie
 
 clock-alone-requires : tie.Need-clock-alone-requires
 clock-alone-requires c κs = search needs
@@ -21,8 +21,8 @@ returns c = c .no-writes .ensures ∙ rw (← (c .before .before .before .clock-
 returns-2 : tie.Need-returns-2
 returns-2 c = rw (← (c .before .before .before .before .clock-alone .ensures), c .before .before .clocked .given .1)
 
-pub writes-of-spec : {M : Type 1} → statement M
-writes-of-spec =
+pub instruction-writes-spec : {M : Type 1} → statement M
+instruction-writes-spec =
     tie.close
     (tie.spec
     clock-alone-requires
