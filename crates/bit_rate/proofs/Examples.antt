@@ -1,5 +1,5 @@
--- What document 02, U2, promises of an answer, as laws of the smallest latch value; its examples and U9's, and those at its limits, in one
--- table under one theorem.
+-- What document 02, U2, promises of an answer, as laws of the smallest latch value; its examples and U9's, and those at
+-- its limits, in one table under one theorem.
 use mathlib.Core.Path.{_≡_, refl, sym, ap, _∙_}
 use mathlib.Core.Bool.{Bool, true, false, cond, false≢true}
 use mathlib.Core.Logic.{_↔_}
@@ -11,8 +11,8 @@ use Rattle.bit_rate.specs.declared.Found.the-variants.{Fits, Nothing, Re
 use Rattle.bit_rate.specs.BitRate.{fits, highestLatch, outOfLimits, firstFit, latchFor, latchNumber}
 use Rattle.bit_rate.proofs.Laws.{within, fewest, latch-fits, latch-beyond, latch-slow}
 
--- what is promised of an answer: a latch value fits and none below it does, none means that no value does, a refusal that a rate is 0 or a
--- figure above its limit
+-- what is promised of an answer: a latch value fits and none below it does, none means that no value does, a refusal
+-- that a rate is 0 or a figure above its limit
 unfoldable pub Promised : ℕ → ℕ → ℕ → Found → Type 0
 Promised f b t (Fits N) =
     (outOfLimits f b t ≡ false) × (N ≤ highestLatch) × (fits f b t N ≡ true) × ((M : ℕ) → M < N → fits f b t M ≡ false)

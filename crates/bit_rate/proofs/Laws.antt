@@ -1,4 +1,5 @@
--- Laws of latch values that fit: document 02's text as two inequalities, and the fewest clocks that are enough, which decide.
+-- Laws of latch values that fit: document 02's text as two inequalities, and the fewest clocks that are enough, which
+-- decide.
 use mathlib.Core.Path.{_≡_, refl, sym, ap, _∙_}
 use mathlib.Core.Bool.{Bool, true, false, _||_, cond, false≢true}
 use mathlib.Core.Logic.{_↔_}

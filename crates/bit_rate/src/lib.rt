@@ -30,8 +30,8 @@ fn out_of_limits(clockrate: u32, bitrate: u32, tolerance: u32) -> bool
 }
 
 // The smallest latch value for a clock rate, a bit rate and a tolerance in thousandths. A value N fits where its N + 1
-// clocks are enough, which holds from some count upward, and not too many, which holds downward: the least count that is
-// enough decides. Rates are taken in thousandths.
+// clocks are enough, which holds from some count upward, and not too many, which holds downward: the least count that
+// is enough decides. Rates are taken in thousandths.
 pub fn latch(clockrate: u32, bitrate: u32, tolerance: u32) -> Found
     ensures { λ r. ⌜ r ≡ latchFor clockrate bitrate tolerance ⌝ }
 {

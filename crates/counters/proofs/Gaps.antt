@@ -63,7 +63,8 @@ pub ticks-le : (underflow : Bool) → ticksOf underflow .0 ≤ 1
 unfolding ticksOf
 ticks-le underflow = digit-le underflow
 
--- 01, Joints: "PA5 rise and underflow on one clock counted as both": a rise in mode 11 reloads from latch B and is no underflow
+-- 01, Joints: "PA5 rise and underflow on one clock counted as both": a rise in mode 11 reloads from latch B and is no
+-- underflow
 pub rise-reloads : (c : CounterB) → clockB c 3 true ≡ countedB (atB c (c .latchb) (c .turnc)) false
 unfolding clockB reloadB
 rise-reloads c = refl

@@ -32,8 +32,8 @@ atA c n = record { count = n; latch = c .latch }
 unfoldable pub downA : CounterA → CountedA
 downA c = cond (eqb (c .count) 0) (countedA (atA c (c .latch)) true) (countedA (atA c (c .count - 1)) false)
 
--- "00 interval, a count each clock; 01 pulse, as 00, ..; 10 a count at each rise of PA4 or PA5; 11 for A a count each clock with
--- PA4 low"
+-- "00 interval, a count each clock; 01 pulse, as 00, ..; 10 a count at each rise of PA4 or PA5; 11 for A a count each
+-- clock with PA4 low"
 unfoldable pub countsA : ℕ → Bool → Bool → Bool
 countsA mode rise isLow = cond (ltb mode 2) true (cond (eqb mode 2) rise isLow)
 
@@ -71,7 +71,8 @@ reloadB c mode =
     (atB c (c .latchb) (c .turnc))
 
 unfoldable pub downB : CounterB → ℕ → CountedB
-downB c mode = cond (eqb (c .count) 0) (countedB (reloadB c mode) true) (countedB (atB c (c .count - 1) (c .turnc)) false)
+downB c mode =
+    cond (eqb (c .count) 0) (countedB (reloadB c mode) true) (countedB (atB c (c .count - 1) (c .turnc)) false)
 
 -- 00, 01 and 10 as for A, with PA5; "11 .. for B interval with reload and no count at a rise of PA5"
 unfoldable pub clockB : CounterB → ℕ → Bool → CountedB

@@ -1,4 +1,5 @@
-// The 16-bit counters and the two units of time. No register address stands here: a chip decides where its latches are written.
+// The 16-bit counters and the two units of time. No register address stands here: a chip decides where its latches are
+// written.
 
 // Distances in time.
 pub mod time;

@@ -1,5 +1,5 @@
--- What holds of every instruction: at most three writes; 2 to 7 clocks, 3 to 7 with a store; only registers are asked for, at most
--- five times.
+-- What holds of every instruction: at most three writes; 2 to 7 clocks, 3 to 7 with a store; only registers are asked
+-- for, at most five times.
 use mathlib.Core.Path.{_≡_, _∙_, refl, sym, ap}
 use mathlib.Core.Bool.{Bool, true, false, cond, _&&_, _||_, not, false≢true}
 use mathlib.Core.List.{List}
@@ -78,8 +78,8 @@ readsOf e = costOf (e .operation) .reads (readsOfAccess (accessOf (e .operation)
 abbrev pub storesOf : Entry → Bool
 storesOf e = stores (e .operation) (eqb (modeNumber (e .mode)) (modeNumber Accumulator))
 
--- one test over the table: no instruction reads more than five bytes that can be asked for, nor takes more than 7 clocks, and one that
--- stores takes 3 at least
+-- one test over the table: no instruction reads more than five bytes that can be asked for, nor takes more than 7
+-- clocks, and one that stores takes 3 at least
 costFits : Entry → Bool
 costFits e = leb (readsOf e) 5 && (leb 2 (e .length) && (leb (e .length + costOf (e .operation) .extra) 7 && (not (storesOf e) || leb 3 (e .length))))
 

@@ -1,5 +1,5 @@
--- What a whole instruction leaves, by its opcode's entry: it keeps each flag whose list in 001, 3.8, does not name it; it leaves a
--- store where the operation is one, or a read-modify-write in memory, and else none.
+-- What a whole instruction leaves, by its opcode's entry: it keeps each flag whose list in 001, 3.8, does not name it;
+-- it leaves a store where the operation is one, or a read-modify-write in memory, and else none.
 use mathlib.Core.Path.{_≡_, _∙_, refl, ap}
 use mathlib.Core.Bool.{Bool, true, false, cond, false≢true}
 use mathlib.Core.List.{List}

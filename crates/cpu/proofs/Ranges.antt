@@ -1,5 +1,5 @@
--- Ranges kept: from registers, memory and answers within their ranges an instruction leaves registers and writes within theirs
--- (01, Machine state: "Well-formed: every field is within its range here").
+-- Ranges kept: from registers, memory and answers within their ranges an instruction leaves registers and writes within
+-- theirs (01, Machine state: "Well-formed: every field is within its range here").
 use mathlib.Core.Path.{_≡_, refl}
 use mathlib.Core.Bool.{Bool, true, false, not, _&&_, cond}
 use mathlib.Core.List.{List}

@@ -1,4 +1,5 @@
--- An instruction worked with the answers so far is its accesses, asked: one lemma for each part of it, by the bus and by its accesses.
+-- An instruction worked with the answers so far is its accesses, asked: one lemma for each part of it, by the bus and
+-- by its accesses.
 use mathlib.Core.Path.{_≡_, refl, sym, ap, _∙_}
 use mathlib.Core.Bool.{Bool, true, false, not, cond}
 use mathlib.Core.List.{List, [], _∷_, _++_}

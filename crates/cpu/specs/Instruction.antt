@@ -41,7 +41,8 @@ outcomeOf w e = cond (e .bus .missing) (Asked (askWith w (e .bus))) (Done (e .wo
 unfoldable pub operandByte : List ℕ → List ℕ → Access → ℕ → Place → Got
 operandByte answers memory Nothing a p = got 0 (p .bus)
 operandByte answers memory Read a p = readOf answers memory (p .address) false (p .bus)
-operandByte answers memory Modify a p = cond (p .accumulator) (got a (p .bus)) (readOf answers memory (p .address) true (p .bus))
+operandByte answers memory Modify a p =
+    cond (p .accumulator) (got a (p .bus)) (readOf answers memory (p .address) true (p .bus))
 operandByte answers memory Call a p = got 0 (p .bus)
 
 abbrev pub operandOf : ℕ → Place → Got → Operand
@@ -62,7 +63,8 @@ workAt answers memory e r p =
 unfoldable pub carriedOut : List ℕ → List ℕ → Entry → CpuRegisters → Bus → Executed
 carriedOut answers memory e r b = workAt answers memory e r (locateOf answers memory (e .mode) r b)
 
--- JSR: the low byte of the target is read, the address of its own last byte is pushed, and only then the high byte is read
+-- JSR: the low byte of the target is read, the address of its own last byte is pushed, and only then the high byte is
+-- read
 abbrev pub callTo : CpuRegisters → ℕ → Fetched → Writes → Got → Executed
 callTo r n l w h = executed (withPc (word (h .value) (l .value)) (withSp (down (down (r .sp))) r)) (Pushed w) n (h .bus)
 

@@ -1,5 +1,5 @@
-// One whole instruction, over the registers, the answers to what it asks, and the lent memory. It knows no chip: a register
-// of the chip is asked for, and the instruction is worked again once the answer is there.
+// One whole instruction, over the registers, the answers to what it asks, and the lent memory. It knows no chip: a
+// register of the chip is asked for, and the instruction is worked again once the answer is there.
 ghost use mathlib.Core.Path.{_≡_};
 ghost use Prim.Native.Nat.{_≤_};
 ghost use Rattle.cpu_opcodes.specs.Table.{opcodeTable};
@@ -25,8 +25,8 @@ use cpu_operations::updates;
 pub mod entries; // entries.rt: reset, NMI and IRQ
 pub mod quiet; // quiet.rt: instructions one after the other
 
-// The register that an instruction has to read next; a read-modify-write instruction takes a port's latch. The answer is
-// what is there after the writes, which only JSR has.
+// The register that an instruction has to read next; a read-modify-write instruction takes a port's latch. The answer
+// is what is there after the writes, which only JSR has.
 pub struct Ask {
     pub address: u16,
     pub latch: bool,

@@ -1,5 +1,5 @@
-// Instructions one after the other, the CPU alone at work. `instruction` has its one call here, in a loop of its own: so it is built
-// into that loop, and the registers stay in the host's own.
+// Instructions one after the other, the CPU alone at work. `instruction` has its one call here, in a loop of its own:
+// so it is built into that loop, and the registers stay in the host's own.
 ghost use mathlib.Core.Path.{_≡_};
 ghost use Prim.Native.Nat.{_+_, _-_, _≤_};
 ghost use Rattle.cpu_opcodes.specs.Table.{opcodeTable};
@@ -12,8 +12,8 @@ use cpu_access::CpuRegisters;
 use cpu_operations::Worked;
 use cpu_operations::writes_nothing;
 
-// The CPU at work in a span: its registers, the clocks that its last instruction still takes, the clocks gone since the span began, and
-// the leaps done in it.
+// The CPU at work in a span: its registers, the clocks that its last instruction still takes, the clocks gone since the
+// span began, and the leaps done in it.
 pub struct Work {
     pub registers: CpuRegisters,
     pub wait: u8,
@@ -41,8 +41,8 @@ pub fn next_work(w: Work, worked: Worked) -> Work
     }
 }
 
-// Instructions that write nothing, as long as they start within the span; and the outcome of the one that comes next. `entries` is
-// what `cpu_opcodes::opcode_table` gave.
+// Instructions that write nothing, as long as they start within the span; and the outcome of the one that comes next.
+// `entries` is what `cpu_opcodes::opcode_table` gave.
 pub fn run_instructions(
     start: Work,
     span: Clocks,

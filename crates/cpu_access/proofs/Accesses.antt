@@ -1,5 +1,5 @@
--- What each read may change of the bus. P k b: what is shown of a bus b after at most k reads. A read of memory leaves the bus
--- as it is; so P passes over every read if it passes over one question.
+-- What each read may change of the bus. P k b: what is shown of a bus b after at most k reads. A read of memory leaves
+-- the bus as it is; so P passes over every read if it passes over one question.
 use mathlib.Core.Path.{_≡_}
 use mathlib.Core.Bool.{Bool, true, false}
 use mathlib.Core.List.{List}

@@ -1,5 +1,5 @@
--- Answering question after question comes to the accesses performed one after the other, of any chip whose reads' effects and writes may
--- change places.
+-- Answering question after question comes to the accesses performed one after the other, of any chip whose reads'
+-- effects and writes may change places.
 use mathlib.Core.Path.{_≡_, refl, sym, ap, _∙_}
 use mathlib.Core.Bool.{Bool, true, false, cond}
 use mathlib.Core.List.{List, [], _∷_, _++_, append-assoc, append-nil}
@@ -47,9 +47,9 @@ module _ {P : Type 0} (file : RegisterFile P) where
     all-read p (w ∷ ws) b =
         all-read (peripheralsWritten file p (w .address) (w .value)) ws b ∙ ap (λ (q : P). allWritten q ws) (written-read p (w .address) (w .value) b)
 
-    -- `turn` says what the accesses come to with the answers so far. `from` goes on from there, with at most so many turns: where they are
-    -- over it finishes, all writes done; where they ask it answers, with the register's value as the writes so far leave it, and does the
-    -- read's effect, but not yet the writes.
+    -- `turn` says what the accesses come to with the answers so far. `from` goes on from there, with at most so many
+    -- turns: where they are over it finishes, all writes done; where they ask it answers, with the register's value as
+    -- the writes so far leave it, and does the read's effect, but not yet the writes.
     module _ {A R : Type 0} (memory : List ℕ) (turn : List ℕ → Reply A) (from : ℕ → P → List ℕ → R) (finish : Performed P A → R) (most : ℕ)
         (over-from : (n : ℕ) (p : P) (answers : List ℕ) (x : A) (ws : List Write) → turn answers ≡ over x ws
         → from (suc n) p answers ≡ finish (record { end = x; peripherals = allWritten p ws; writes = ws }))

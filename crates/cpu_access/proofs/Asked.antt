@@ -34,7 +34,8 @@ asked memory answers before (reads latch a go) =
     (asked memory answers before (go (byteAfter before a (memoryByte memory a))))
 asked memory answers before (writes a v t) = asked memory answers (before ++ (writeAt a v ∷ [])) t
 
--- what follows after the reads that a bus has seen: nothing where an answer was missing, else with the answers that are left
+-- what follows after the reads that a bus has seen: nothing where an answer was missing, else with the answers that are
+-- left
 unfoldable pub onwards : {A : Type 0} → List ℕ → List ℕ → List Write → Bus → Accesses A → Reply A
 onwards answers memory before b t = cond (b .missing) (asks (b .latch) (b .address) before) (asked memory (drop (b .used) answers) before t)
 

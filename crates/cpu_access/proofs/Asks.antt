@@ -1,4 +1,5 @@
--- What holds of every bus that reads have left: only a register is asked for, and with an answer for each read nothing is.
+-- What holds of every bus that reads have left: only a register is asked for, and with an answer for each read nothing
+-- is.
 use mathlib.Core.Path.{_≡_, refl}
 use mathlib.Core.Bool.{Bool, true, false, cond, false≢true}
 use mathlib.Core.List.{List}

@@ -1,4 +1,5 @@
--- JMP indirect's second address (document 02, U5), of pointers of 16 bits: laws, and its examples in one table under one theorem.
+-- JMP indirect's second address (document 02, U5), of pointers of 16 bits: laws, and its examples in one table under
+-- one theorem.
 use mathlib.Core.Path.{_≡_, refl}
 use Prim.Native.Nat.{ℕ, _+_, _-_, _*_, _/_, _%_, _<_}
 use native.Mathlib.Omega.{arith}

@@ -1,5 +1,5 @@
--- 02, U4: an instruction or entry "tells which addresses it wrote, at most three, in order". The writes as a list; what is done with each
--- write in turn is done along that list; and a halt address is one of it.
+-- 02, U4: an instruction or entry "tells which addresses it wrote, at most three, in order". The writes as a list; what
+-- is done with each write in turn is done along that list; and a halt address is one of it.
 use mathlib.Core.Path.{_≡_, refl, sym, ap, _∙_}
 use mathlib.Core.Bool.{Bool, true, false, _&&_, _||_}
 use mathlib.Core.List.{List, [], _∷_}

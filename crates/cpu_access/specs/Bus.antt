@@ -44,7 +44,13 @@ got v b = record { value = v; bus = b }
 -- the next answer, which is then used
 abbrev pub answered : List ℕ → Bus → Got
 answered answers b =
-    got (getD answers (b .used) 0) (record { used = b .used + 1; missing = b .missing; latch = b .latch; address = b .address })
+    got (getD answers (b .used) 0) (record {
+      used =
+          b .used + 1;
+      missing = b .missing;
+      latch = b .latch;
+      address = b .address;
+    })
 
 -- what is asked first stays the question
 abbrev pub asking : ℕ → Bool → Bus → Bus

@@ -1,4 +1,5 @@
--- Addressing modes (001, appendix A): where the operand lies, whether finding it crossed a page, and PC past the operand bytes.
+-- Addressing modes (001, appendix A): where the operand lies, whether finding it crossed a page, and PC past the
+-- operand bytes.
 use mathlib.Core.Bool.{Bool, true, false, not, cond}
 use mathlib.Core.List.{List}
 use Prim.Native.Nat.{ℕ, _+_, _*_, _/_, _%_}
@@ -61,14 +62,15 @@ pointedIndexed i pc w = indexedBy i (w .value) pc (w .bus)
 
 -- (zp,X): the pointer stands at the indexed address
 abbrev pub atIndexedIndirect : List ℕ → List ℕ → ℕ → Fetched → Place
-atIndexedIndirect answers memory x f = pointed (f .pc) (zeroPagePointer answers memory (zeroPageIndexed (f .value) x) (f .bus))
+atIndexedIndirect answers memory x f =
+    pointed (f .pc) (zeroPagePointer answers memory (zeroPageIndexed (f .value) x) (f .bus))
 
 -- (zp),Y: what the pointer gives is indexed
 abbrev pub atIndirectIndexed : List ℕ → List ℕ → ℕ → Fetched → Place
 atIndirectIndexed answers memory y f = pointedIndexed y (f .pc) (zeroPagePointer answers memory (f .value) (f .bus))
 
--- 02, U5, JMP indirect: "the high byte comes from the start of that same page" where the pointer ends in FFh, else from the pointer plus
--- 1: the page stays, and the low byte wraps
+-- 02, U5, JMP indirect: "the high byte comes from the start of that same page" where the pointer ends in FFh, else from
+-- the pointer plus 1: the page stays, and the low byte wraps
 abbrev pub secondAddress : ℕ → ℕ
 secondAddress p = word (high p) (wrapping8 (low p) 1)
 

@@ -1,4 +1,5 @@
--- What an instruction writes, and the stack. Nothing is written to memory here: the writes are handed on, in their order.
+-- What an instruction writes, and the stack. Nothing is written to memory here: the writes are handed on, in their
+-- order.
 use mathlib.Core.Bool.{Bool, true, false, _&&_, cond}
 use mathlib.Core.List.{List}
 use Prim.Native.Nat.{ℕ, _+_, _*_, _/_, _%_}
@@ -33,7 +34,8 @@ threeWrites a b c = record { count = 3; first = a; second = b; third = c }
 
 -- the writes in their order: `put` gets of each whether it is there
 abbrev pub eachWrite : {A : Type 0} → (Bool → Write → A → A) → Writes → A → A
-eachWrite put w a = put (ltb 2 (w .count)) (w .third) (put (ltb 1 (w .count)) (w .second) (put (ltb 0 (w .count)) (w .first) a))
+eachWrite put w a =
+    put (ltb 2 (w .count)) (w .third) (put (ltb 1 (w .count)) (w .second) (put (ltb 0 (w .count)) (w .first) a))
 
 -- 01, Machine state: "Stack page: as 001's stack pointer section says, zero if it allows two" (001, 3.1.3); SP is 8
 -- bits wide
@@ -87,7 +89,8 @@ pullWord answers memory sp b = secondPulled answers memory (pullOf answers memor
 
 -- what stands at address a after the writes, where v stood before
 unfoldable pub writtenOver : Writes → ℕ → ℕ → ℕ
-writtenOver w a v = eachWrite (λ (there : Bool) (x : Write) (before : ℕ). cond (there && eqb (x .address) a) (x .value) before) w v
+writtenOver w a v =
+    eachWrite (λ (there : Bool) (x : Write) (before : ℕ). cond (there && eqb (x .address) a) (x .value) before) w v
 
 -- a read at any address after writes: a register is asked for, with those writes; of memory they are seen
 unfoldable pub readAfter : List ℕ → List ℕ → Writes → ℕ → Bus → Got

@@ -1,6 +1,7 @@
 // How an instruction reads and writes. Registers of the chip are asked for, one by one and in order: an answer that is
-// given is used, and at the first one missing the access marks what it asks; the work goes on with zeros, and its result
-// is thrown away. All other addresses are read from the lent memory. Nothing is written: the writes are handed on.
+// given is used, and at the first one missing the access marks what it asks; the work goes on with zeros, and its
+// result is thrown away. All other addresses are read from the lent memory. Nothing is written: the writes are handed
+// on.
 ghost use mathlib.Core.Path.{_≡_};
 ghost use Rattle.cpu_access.specs.Bus.{nextAddress, memoryByte, vectorOf, idle, askOf, readOf, readWord, fetchOf, fetchWord};
 ghost use Rattle.memory.specs.Memory.{isRegister};

@@ -1,4 +1,5 @@
--- The flags and the byte that holds them: pulled or unpacked, they come back; packed again, a byte loses bits 4 and 5 alone.
+-- The flags and the byte that holds them: pulled or unpacked, they come back; packed again, a byte loses bits 4 and 5
+-- alone.
 use mathlib.Core.Path.{_≡_, _∙_, refl, ap, sym}
 use mathlib.Core.Bool.{Bool, true, false, _||_}
 use Prim.Native.Nat.{ℕ, _+_, _-_, _*_, _/_, _%_, _^_, _<_}

@@ -1,4 +1,5 @@
--- The binary difference, stated as a sum with the complement, is a - m less borrow, and C says that none is left to borrow.
+-- The binary difference, stated as a sum with the complement, is a - m less borrow, and C says that none is left to
+-- borrow.
 use mathlib.Core.Path.{_≡_}
 use mathlib.Core.Bool.{Bool, true, false, not}
 use Prim.Native.Nat.{ℕ, _+_, _-_, _%_, _≤_, _<_}

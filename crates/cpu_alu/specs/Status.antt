@@ -8,7 +8,8 @@ use Rattle.cpu_alu.specs.declared.Computed.{Computed}
 
 -- 01, Machine state: "Bits 4 and 5 of P are 0"
 unfoldable pub packed : Status → ℕ
-packed s = digit (s .n) * 128 + digit (s .v) * 64 + digit (s .d) * 8 + digit (s .i) * 4 + digit (s .z) * 2 + digit (s .c)
+packed s =
+    digit (s .n) * 128 + digit (s .v) * 64 + digit (s .d) * 8 + digit (s .i) * 4 + digit (s .z) * 2 + digit (s .c)
 
 -- "a pull drops both"
 unfoldable pub unpacked : ℕ → Status

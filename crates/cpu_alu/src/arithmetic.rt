@@ -83,7 +83,8 @@ pub fn adc(a: u8, m: u8, status: Status) -> Computed
     }
 }
 
-// The difference of the low digits less borrow, with 16 taken for a borrow; all of it plus 16, so that it is never negative.
+// The difference of the low digits less borrow, with 16 taken for a borrow; all of it plus 16, so that it is never
+// negative.
 fn low_difference(a: u8, m: u8, c: bool) -> u8
     ensures { λ r. ⌜ (r < 32) × (subℕ r 16 ≡ borrowed (lowDifference a m c)) ⌝ }
 {

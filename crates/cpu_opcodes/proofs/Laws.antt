@@ -1,5 +1,5 @@
--- What holds of the whole table, each by one computed test: 183 opcodes are defined (P8 of document 01), each by one row, and a
--- defined one takes 2 to 7 clocks.
+-- What holds of the whole table, each by one computed test: 183 opcodes are defined (P8 of document 01), each by one
+-- row, and a defined one takes 2 to 7 clocks.
 use mathlib.Core.Path.{_≡_, refl}
 use mathlib.Core.Bool.{Bool, true, false, cond, _&&_}
 use mathlib.Core.List.{List, [], _∷_}

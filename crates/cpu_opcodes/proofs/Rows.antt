@@ -1,4 +1,5 @@
--- Two lists are the same where they agree row by row, in rows of 16 as the instruction code matrix has them: a wrong entry shows in its own row.
+-- Two lists are the same where they agree row by row, in rows of 16 as the instruction code matrix has them: a wrong
+-- entry shows in its own row.
 use mathlib.Core.Path.{_≡_, _∙_, ap, sym}
 use mathlib.Core.List.{List, _++_}
 use Prim.Native.Nat.{ℕ, zero, suc}

@@ -1,4 +1,5 @@
--- What an opcode means: the entry of its row, and Undefined where it has none (01, Instructions: "The other 73 are undefined").
+-- What an opcode means: the entry of its row, and Undefined where it has none (01, Instructions: "The other 73 are
+-- undefined").
 use mathlib.Core.Bool.{cond}
 use mathlib.Core.List.{List, [], _∷_}
 use Prim.Native.Nat.{ℕ, _+_}

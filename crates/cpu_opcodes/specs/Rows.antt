@@ -1,6 +1,6 @@
--- The instruction set of source document 001, A.3, by mnemonic: the opcode, the operation under its kind, the addressing
--- mode and the length of each instruction.
--- The 6502's table stands where the matrix there is misaligned (rows D and F) or misprints BBS.
+-- The instruction set of source document 001, A.3, by mnemonic: the opcode, the operation under its kind, the
+-- addressing mode and the length of each instruction. The 6502's table stands where the matrix there is misaligned
+-- (rows D and F) or misprints BBS.
 use mathlib.Core.List.{List, [], _∷_, _++_}
 use Prim.Native.Nat.{ℕ, _+_, _*_}
 use Rattle.cpu_opcodes.specs.declared.Entry.{Entry}

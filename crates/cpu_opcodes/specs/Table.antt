@@ -1,4 +1,5 @@
--- How the constant table holds the rows: one number for each of the 256 opcodes (01, Instructions: "All 256 stand in a constant table").
+-- How the constant table holds the rows: one number for each of the 256 opcodes (01, Instructions: "All 256 stand in a
+-- constant table").
 use mathlib.Core.List.{List, [], _∷_}
 use Prim.Native.Nat.{ℕ, _+_, _*_}
 use lib.ListN.{getD}

@@ -26,7 +26,8 @@ pub enum Mode {
     ZeroPageRelative,
 }
 
-// What the table says of a defined opcode. The length is in clocks, without those that a page crossing or a taken branch adds.
+// What the table says of a defined opcode. The length is in clocks, without those that a page crossing or a taken
+// branch adds.
 pub struct Entry {
     pub operation: Operation,
     pub mode: Mode,

@@ -38,7 +38,8 @@ use Rattle.cpu_operations.specs.Operations.{workOf}
 abbrev pub listed : List Operation → Operation → Bool
 listed l o = anyOf (λ p. eqb (operationNumber p) (operationNumber o)) l
 
--- 001, 3.8.1: SEC, CLC; "Other operations which affect the Carry Bit are ADC, ASL, CMP, CPX, CPY, LSR, PLP, ROL, ROR, RTI, and SBC."
+-- 001, 3.8.1: SEC, CLC; "Other operations which affect the Carry Bit are ADC, ASL, CMP, CPX, CPY, LSR, PLP, ROL, ROR,
+-- RTI, and SBC."
 abbrev pub affectC : List Operation
 affectC =
     Flag Sec ∷ Flag Clc ∷ Read Adc ∷ Modify Asl ∷ Read Cmp ∷ Read Cpx ∷ Read Cpy ∷ Modify Lsr ∷ Pull Plp ∷ Modify Rol ∷ Modify Ror ∷ Rti

@@ -11,7 +11,6 @@ use Rattle.cpu_alu.specs.declared.Computed.{Computed}
 use Rattle.cpu_access.specs.declared.Bus.{Bus}
 use Rattle.cpu_access.specs.declared.CpuRegisters.{CpuRegisters}
 use Rattle.cpu_access.specs.declared.modes.Place.{Place}
-use Rattle.cpu_access.specs.declared.stack.Write.{Write}
 use Rattle.cpu_access.specs.declared.stack.Writes.{Writes}
 use Rattle.cpu_access.specs.declared.stack.Pulled.{Pulled}
 use Rattle.cpu_access.specs.declared.stack.PulledWord.{PulledWord}
@@ -55,7 +54,8 @@ stored o r v = executed r (Stored (writeAt (o .address) v)) (o .length) (o .bus)
 
 -- a byte that was read and changed goes back to where it came from
 unfoldable pub modified : Operand → CpuRegisters → Computed → Executed
-modified o r k = cond (o .accumulator) (quiet (intoA k r) (o .length) (o .bus)) (stored o (withStatus (k .status) r) (k .value))
+modified o r k =
+    cond (o .accumulator) (quiet (intoA k r) (o .length) (o .bus)) (stored o (withStatus (k .status) r) (k .value))
 
 -- one clock more where a branch is taken, two where its target lies in another page (001, A.3, **)
 unfoldable pub branched : Operand → CpuRegisters → Bool → Executed

@@ -81,7 +81,7 @@ unfoldable pub bitBranchTaken : BitBranchOperation → ℕ → Bool
 bitBranchTaken (Bbr m) v = not (bit (m % 8) v)
 bitBranchTaken (Bbs m) v = bit (m % 8) v
 
--- 01, Machine state: a push of P sets bits 4 and 5 in the byte
+-- 01, Machine state: "a push sets bit 5 in the byte, PHP and BRK bit 4 too"
 unfoldable pub byteToPush : PushOperation → CpuRegisters → ℕ
 byteToPush Pha r = r .a
 byteToPush Php r = pushed (r .status) true

@@ -13,8 +13,8 @@ use Rattle.cpu_operations.specs.Updates.{withStatus}
 use Rattle.cpu_operations.specs.Kinds.{withRead, changedBy, byteToStore, branchTaken, bitBranchTaken, byteToPush, withRegister, withFlag}
 use Rattle.cpu_operations.specs.Effects.{completed, stored, modified, branched, bitBranched, jumped, pushedByte, pulledByte, returned, returnedFromInterrupt, breakTaken}
 
--- how an operation reads the byte at its operand's address: not at all (a store only writes it), as it is, or to change it and write it
--- back; JSR reads its operand itself
+-- how an operation reads the byte at its operand's address: not at all (a store only writes it), as it is, or to change
+-- it and write it back; JSR reads its operand itself
 abbrev pub accessOf : Operation → Access
 accessOf (operation.Read o) = Read
 accessOf (operation.Modify o) = Modify

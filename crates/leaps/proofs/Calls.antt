@@ -176,7 +176,8 @@ module _ {S : Type 0} (C : Chip S) (L : ChipLaws C) where
   fits-on : (n : ℕ) (w : WorldOf S) → Fit C w → Fit C (plains (systemOf C) n w)
   fits-on n w f = lists.fits-on M callable n w f
 
-  -- a run of a + b that fits the clock, cut into a and then b over the rest of the lists, ends the same in all but the leap count
+  -- a run of a + b that fits the clock, cut into a and then b over the rest of the lists, ends the same in all but the
+  -- leap count
   pub cut : (a b : ℕ) (w : WorldOf S) → Fit C w → w .stop ≡ 0 → C .clock (w .state) + (a + b) ≤ lastClock
       → calls M (runFor a ∷ runFor b ∷ []) w .world ≡ calls M (runFor (a + b) ∷ []) w .world
   cut a b w f on h =
@@ -196,7 +197,8 @@ module _ {S : Type 0} (C : Chip S) (L : ChipLaws C) where
           let stopped : eqb (plainOf C w .stop) 0 ≡ false = lawful C L .undone-stops w d in
           absurd (false≢true (sym stopped ∙ ap (λ (v : WorldOf S). eqb (v .stop) 0) (sym (plains-stopped (systemOf C) (lawful C L) n (plainOf C w) stopped)) ∙ e))
 
-  -- P7, "cut after a clocks from clock 0, an input on clock a is the first half's": none of clock a or before is left to the second
+  -- P7, "cut after a clocks from clock 0, an input on clock a is the first half's": none of clock a or before is left
+  -- to the second
   pub first-half : (a : ℕ) (w : WorldOf S) → Fit C w → C .clock (w .state) ≡ 0 → a ≤ lastClock → calls M (runFor a ∷ []) w .world .stop ≡ 0
       → (k : ℕ) → k < length (calls M (runFor a ∷ []) w .world .inputClocks) → a < getD (calls M (runFor a ∷ []) w .world .inputClocks) k 0
   first-half a w f start h on k within =

@@ -20,8 +20,8 @@ use Rattle.leaps.proofs.Laws.{Lawful}
 
 -- what is asked of a chip
 pub record ChipLaws {S : Type 0} (C : Chip S) : Type 0 where
-  -- a clock that is done: "Clock plus 1"; every field stays in its range; memory keeps its length; a record that is put has room; a stop
-  -- that it ends in is one by name
+  -- a clock that is done: "Clock plus 1"; every field stays in its range; memory keeps its length; a record that is put
+  -- has room; a stop that it ends in is one by name
   pub done-clock : (s : S) (codes memory : List ℕ) (free : Bool) (d : ClockEnd S) → C .outcome s codes memory free ≡ ended d
       → C .clock (d .state) ≡ C .clock s + 1
   pub done-formed : (s : S) (codes memory : List ℕ) (free : Bool) (d : ClockEnd S) → C .wellFormed s ≡ true
@@ -35,7 +35,8 @@ pub record ChipLaws {S : Type 0} (C : Chip S) : Type 0 where
   -- the number of a clock that is not done is a stop by name
   pub stopped-stop : (s : S) (codes memory : List ℕ) (free : Bool) (number : ℕ) → C .outcome s codes memory free ≡ stopped number
       → isStop number ≡ true
-  -- the first clock of a gap has no input, is no event clock, is done, and is a gap of one clock passed: nothing else changes
+  -- the first clock of a gap has no input, is no event clock, is done, and is a gap of one clock passed: nothing else
+  -- changes
   pub gap-input : (n : ℕ) (s : S) (clocks : List ℕ) → 0 < C .gap n s clocks → dueCount (C .clock s + 1) clocks ≡ 0
   pub gap-quiet : (n : ℕ) (s : S) (clocks : List ℕ) → 0 < C .gap n s clocks → C .event s [] ≡ false
   pub gapWord : S → ℕ

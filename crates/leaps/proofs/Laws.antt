@@ -1,4 +1,5 @@
--- A run of n clocks is n plain clocks, and its leaps are as many as document 01 says, of every machine that keeps the laws below.
+-- A run of n clocks is n plain clocks, and its leaps are as many as document 01 says, of every machine that keeps the
+-- laws below.
 use mathlib.Core.Path.{_≡_, refl, sym, ap, ap₂, _∙_, subst}
 use mathlib.Core.Bool.{Bool, true, false, cond, _&&_, false≢true}
 use mathlib.Core.List.{List, [], _∷_}
@@ -100,7 +101,8 @@ module _ {W : Type 0} (S : System W) (L : Lawful S) where
       (plains-pass g (n - 1) (S .pass 1 w) (L .pass-running 1 w ∙ z) (omega (arith, L .gap-passed 1 n w))
       ∙ L .pass-add 1 g w ∙ ap (λ (k : ℕ). S .pass k w) (omega arith))
 
-  -- one leap is as many plain clocks as its gap has, and one more, or as many as are left. If that clock stops, it is still plain
+  -- one leap is as many plain clocks as its gap has, and one more, or as many as are left. If that clock stops, it is
+  -- still plain
   pub leap-plain : (n : ℕ) (w : W) → S .running w ≡ true → leapOf S n w ≡ plains S (min n (S .gap n w + 1)) w
   unfolding leapOf plains
   leap-plain n w z = reached (ltb (S .gap n w) n) refl
@@ -246,7 +248,8 @@ module _ {W : Type 0} (S : System W) (L : Lawful S) where
           let other = eqb-false k j e in
           omega (arith, earlier (omega (arith, h)), leap-far i u some reached)
 
-  -- So no world inside a gap is reached by leaps: single clocks of a gap, walked, cannot stand in the place of one, counted or not.
+  -- So no world inside a gap is reached by leaps: single clocks of a gap, walked, cannot stand in the place of one,
+  -- counted or not.
   pub inside-no-leap : {n : ℕ} {w : W} {k m k' m' : ℕ} {v : W} → ByLeaps S n w k m v → (g : ℕ) → 0 < g → g ≤ S .gap m v
       → ByLeaps S n w k' m' (S .pass g v) → ⊥
   inside-no-leap {n} {w} {k} {m} {k'} {m'} {v} first g some inside walked = by-more (ltb k k') refl
@@ -337,7 +340,8 @@ module _ {W : Type 0} (S : System W) (L : Lawful S) where
           rw (moved-later w (S .plain w) (omega arith), d, trace) (omega (arith, digit-not (S .event w)))
       ends false d = rw (moved-by 0 w (S .plain w) (L .undone-clock w d ∙ omega arith), d, trace) (omega arith)
 
-  -- What is owed besides, of the worlds that a run meets: with a clock left and no gap, the next clock is an event clock.
+  -- What is owed besides, of the worlds that a run meets: with a clock left and no gap, the next clock is an event
+  -- clock.
   module _ (Inv : W → Type 0) (kept : (w : W) → Inv w → Inv (S .plain w))
       (gap-event : (n : ℕ) (w : W) → Inv w → 0 < n → S .gap n w ≡ 0 → S .event w ≡ true) where
     pub plains-kept : (n : ℕ) (w : W) → Inv w → Inv (plains S n w)

@@ -1,5 +1,6 @@
--- Demand 3, one theorem over the list of calls, of every machine that keeps the laws below: state, memory, outputs, stop and counts are
--- those of n plain clocks, and each call's result is what they say, document 01's leap count among it.
+-- Demand 3, one theorem over the list of calls, of every machine that keeps the laws below: state, memory, outputs,
+-- stop and counts are those of n plain clocks, and each call's result is what they say, document 01's leap count among
+-- it.
 use mathlib.Core.Path.{_≡_, refl, sym, ap, _∙_}
 use mathlib.Core.Bool.{Bool, true, false, cond}
 use mathlib.Core.List.{List, [], _∷_}
@@ -136,10 +137,10 @@ module _ {W H R : Type 0} (M : Machine W H R) (L : Callable M) where
             results-refused on d,
           )
 
-  -- DEMAND 3. "Leaping equals stepping, for every well-formed start and every list of calls (single clocks and runs of any count, refused
-  -- ones included)" (`calls`): "state, memory, outputs, stop and counts are those of n plain clocks" (`plains`, n being `clocksAccepted`,
-  -- the counts of the calls not refused), "and the leap count is document 01's" (`resultsBy`: of each call, with its number). It holds of
-  -- damaged starts too, whose calls are refused.
+  -- DEMAND 3. "Leaping equals stepping, for every well-formed start and every list of calls (single clocks and runs of
+  -- any count, refused ones included)" (`calls`): "state, memory, outputs, stop and counts are those of n plain clocks"
+  -- (`plains`, n being `clocksAccepted`, the counts of the calls not refused), "and the leap count is document 01's"
+  -- (`resultsBy`: of each call, with its number). It holds of damaged starts too, whose calls are refused.
   pub fair : (cs : List Call) (w : W) → M .Room w → FairOf M cs w
   unfolding calls clocksAccepted resultsBy plains
   fair [] w room = refl
@@ -164,7 +165,8 @@ module _ {W H R : Type 0} (M : Machine W H R) (L : Callable M) where
       by-stop true e = ap (λ (k : ℕ). plains (M .system) k w) (accepted-done (runFor n) [] w e d ∙ add-zero n)
       by-stop false e = plains-stopped (M .system) (L .lawful) _ w e ∙ sym (plains-stopped (M .system) (L .lawful) n w e)
 
-  -- a run cut in two over the rest of the lists ends the same in all but the leap count, where none of the three is refused
+  -- a run cut in two over the rest of the lists ends the same in all but the leap count, where none of the three is
+  -- refused
   pub cut : (a b : ℕ) (w : W) → L .Fit w → M .system .running w ≡ true → M .accepts a w ≡ true → M .accepts b (plains (M .system) a w) ≡ true
       → M .accepts (a + b) w ≡ true → calls M (runFor a ∷ runFor b ∷ []) w .world ≡ calls M (runFor (a + b) ∷ []) w .world
   unfolding clocksAccepted countOf

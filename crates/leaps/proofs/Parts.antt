@@ -1,5 +1,5 @@
--- A call works on a part of the lists: plain clocks on the part are plain clocks on the whole. What they have read is the front of the
--- input list.
+-- A call works on a part of the lists: plain clocks on the part are plain clocks on the whole. What they have read is
+-- the front of the input list.
 use mathlib.Core.Path.{_≡_, refl, sym, ap, _∙_}
 use mathlib.Core.Bool.{Bool, true, false, cond}
 use mathlib.Core.List.{List, [], _∷_, _++_}

@@ -78,8 +78,8 @@ module _ {S : Type 0} where
       callStart (w .state) (w .memory) (w .inputClocks) (w .inputCodes)
       (drop (w .written) (w .outputClocks)) (drop (w .written) (w .outputWords))
 
-  -- the world once a call has handed back what it got of `w`: the rest of the inputs from the first unread entry on, its records behind
-  -- those already written, and read and written summed
+  -- the world once a call has handed back what it got of `w`: the rest of the inputs from the first unread entry on,
+  -- its records behind those already written, and read and written summed
   unfoldable pub afterCallOf : WorldOf S → HandedOf S → WorldOf S
   afterCallOf w h = record {
     state = h .result .state;
@@ -93,8 +93,8 @@ module _ {S : Type 0} where
     stop = stopOf (h .result .number);
   }
 
-  -- the result of a call that is not refused, of plain clocks from `w` to `v`: the stop, the state, document 01's leaps, the inputs read
-  -- and the records written
+  -- the result of a call that is not refused, of plain clocks from `w` to `v`: the stop, the state, document 01's
+  -- leaps, the inputs read and the records written
   abbrev pub resultByOf : ℕ → WorldOf S → WorldOf S → ResultOf S
   resultByOf leaps w v = record {
     number = v .stop;
@@ -134,7 +134,8 @@ module _ {S : Type 0} (C : Chip S) where
     refusedBy = λ (n : ℕ) (w : WorldOf S). refusedWith (refusalIn n w) (w .state);
   }
 
--- What a call that is not refused starts from, and every plain clock keeps: document 01's rules for state, memory and lists.
+-- What a call that is not refused starts from, and every plain clock keeps: document 01's rules for state, memory and
+-- lists.
 pub record Fit {S : Type 0} (C : Chip S) (w : WorldOf S) : Type 0 where
   pub memory : length (w .memory) ≡ C .limits .memory  -- number 1: of the chip's length
   pub state : C .wellFormed (w .state) ≡ true  -- "Well-formed: every field is within its range here."

@@ -4,7 +4,8 @@ use mathlib.Core.List.{List}
 use Prim.Native.Nat.{ℕ}
 use Rattle.refusals.specs.declared.Limits.{Limits}
 
--- a clock that is done: the state and the memory after it, its output record if the word differs, and the stop that it ends in, or 0
+-- a clock that is done: the state and the memory after it, its output record if the word differs, and the stop that it
+-- ends in, or 0
 pub record ClockEnd (S : Type 0) : Type 0 where
   pub state : S
   pub memory : List ℕ
@@ -29,7 +30,8 @@ pub record Chip (S : Type 0) : Type 0 where
   pub outcome : S → List ℕ → List ℕ → Bool → ClockOutcome S
   -- whether the next clock is an event clock, given the codes of its inputs
   pub event : S → List ℕ → Bool
-  -- "the gap (clocks before the next event clock, at most those left)", given the clocks left and the rest of the input clocks
+  -- "the gap (clocks before the next event clock, at most those left)", given the clocks left and the rest of the input
+  -- clocks
   pub gap : ℕ → S → List ℕ → ℕ
   -- "the gap passed"
   pub pass : ℕ → S → S

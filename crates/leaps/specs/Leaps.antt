@@ -1,4 +1,5 @@
--- Document 01, "Run and leaps", of any machine that goes clock by clock: plain clocks, one leap, the run, and the count of its leaps.
+-- Document 01, "Run and leaps", of any machine that goes clock by clock: plain clocks, one leap, the run, and the count
+-- of its leaps.
 use mathlib.Core.Path.{_≡_}
 use mathlib.Core.Bool.{Bool, true, false, _&&_, not, cond}
 use mathlib.Core.List.{List, [], _∷_}
@@ -50,8 +51,8 @@ module _ {W : Type 0} (S : System W) where
   plains zero w = w
   plains (suc n) w = plains n (S .plain w)
 
-  -- "One leap carries the chip through the next event clock or to the end of the run", n clocks being left: the gap passed, "then the
-  -- event clock's rules once, if reached"
+  -- "One leap carries the chip through the next event clock or to the end of the run", n clocks being left: the gap
+  -- passed, "then the event clock's rules once, if reached"
   unfoldable pub leapOf : ℕ → W → W
   leapOf n w = cond (ltb (S .gap n w) n) (S .plain (S .pass (S .gap n w) w)) (S .pass (S .gap n w) w)
 
@@ -86,8 +87,8 @@ module _ {W : Type 0} (S : System W) where
   unfoldable pub leapCount : ℕ → W → ℕ
   leapCount n w = eventsIn (trace n w) + quietEnd (trace n w)
 
--- `v`, with m clocks left, is reached from `w`, with n left, by so many whole leaps: each has a clock left and nothing stopped, its gap ends
--- before the clocks left do, and its event clock is done.
+-- `v`, with m clocks left, is reached from `w`, with n left, by so many whole leaps: each has a clock left and nothing
+-- stopped, its gap ends before the clocks left do, and its event clock is done.
 pub data ByLeaps {W : Type 0} (S : System W) (n : ℕ) (w : W) : ℕ → ℕ → W → Type 0 where
   no-leap : ByLeaps S n w 0 n w
   one-more : {k m : ℕ} {v : W} → ByLeaps S n w k m v → S .running v ≡ true → S .gap m v < m → S .done (S .pass (S .gap m v) v) ≡ true

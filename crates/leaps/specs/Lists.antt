@@ -1,13 +1,14 @@
--- Demand 3, of any machine that calls move: a list of calls, and what plain clocks say of it. Document 01, "Run and leaps": "In demand 3's
--- list each call after the first gets the state and memory that the last returned or left, the rest of the input list and the free output
--- space".
+-- Demand 3, of any machine that calls move: a list of calls, and what plain clocks say of it. Document 01, "Run and
+-- leaps": "In demand 3's list each call after the first gets the state and memory that the last returned or left, the
+-- rest of the input list and the free output space".
 use mathlib.Core.Path.{_≡_}
 use mathlib.Core.Bool.{Bool, true, false, cond}
 use mathlib.Core.List.{List, [], _∷_}
 use Prim.Native.Nat.{ℕ, _+_}
 use Rattle.leaps.specs.Leaps.{System, Run, plains, run, movedOf, leapCount}
 
--- What a list of calls asks of a machine. `W` is its world, `H` what a call hands back, lists included, `R` the result in it.
+-- What a list of calls asks of a machine. `W` is its world, `H` what a call hands back, lists included, `R` the result
+-- in it.
 pub record Machine (W H R : Type 0) : Type 1 where
   pub system : System W
   -- a world in which a call can be made, refused or not: what was handed back so far lies within the lists
@@ -23,7 +24,8 @@ pub record Machine (W H R : Type 0) : Type 1 where
   pub lent : W → W
   -- the world once a call has handed back what it got of it
   pub afterCall : W → H → W
-  -- by plain clocks alone: the result of a call that made so many leaps from one world to another, and a refused call for so many clocks
+  -- by plain clocks alone: the result of a call that made so many leaps from one world to another, and a refused call
+  -- for so many clocks
   pub resultBy : ℕ → W → W → R
   pub refusedBy : ℕ → W → R
 
@@ -60,7 +62,8 @@ module _ {W H R : Type 0} (M : Machine W H R) where
 
   -- the same by plain clocks, with document 01's leap count
   unfoldable pub plainRunOf : ℕ → W → H
-  plainRunOf n w = cond (M .accepts n w) (M .handedBack (leapCount (M .system) n w) (plains (M .system) n w)) (M .refused n w)
+  plainRunOf n w =
+      cond (M .accepts n w) (M .handedBack (leapCount (M .system) n w) (plains (M .system) n w)) (M .refused n w)
 
   -- what a call hands back: by the very definitions that the contracts of the single-clock call and of the run cite
   unfoldable pub callOf : Call → W → H
@@ -76,7 +79,8 @@ module _ {W H R : Type 0} (M : Machine W H R) where
         | false ↦ record { world = w; results = [] }
       ]
 
-  -- ---- by plain clocks alone, which "go from a copy of demand 3's start, with stop 0, and take nothing that a call gives back"
+  -- ---- by plain clocks alone, which "go from a copy of demand 3's start, with stop 0, and take nothing that a call gives
+  -- back"
 
   -- n: the sum of the counts of the calls not refused; "A refused call hands on what it got"
   unfoldable pub clocksAccepted : List Call → W → ℕ
@@ -90,7 +94,8 @@ module _ {W H R : Type 0} (M : Machine W H R) where
         | false ↦ 0
       ]
 
-  -- the result of each call: its refusal, where it is refused in the world reached, or what its clocks come to, with document 01's leaps
+  -- the result of each call: its refusal, where it is refused in the world reached, or what its clocks come to, with
+  -- document 01's leaps
   unfoldable pub resultsBy : List Call → W → List R
   resultsBy [] w = []
   resultsBy (c ∷ cs) w =

@@ -9,8 +9,8 @@ use Rattle.pin_lists.specs.PinLists.{dueCount}
 use Rattle.leaps.specs.Leaps.{System}
 use Rattle.leaps.specs.Chip.{Chip, ClockEnd, ClockOutcome, stopped, ended}
 
--- State and memory; the rest of the input list from its first unread entry; the whole output lists; how many inputs are read and
--- records written; the stop, 0 where nothing stopped.
+-- State and memory; the rest of the input list from its first unread entry; the whole output lists; how many inputs are
+-- read and records written; the stop, 0 where nothing stopped.
 pub record WorldOf (S : Type 0) : Type 0 where
   pub state : S
   pub memory : List ℕ
@@ -76,7 +76,8 @@ module _ {S : Type 0} (C : Chip S) where
 
   -- what the next clock comes to
   abbrev pub outcomeIn : WorldOf S → ℕ → ClockOutcome S
-  outcomeIn w due = C .outcome (w .state) (take due (w .inputCodes)) (w .memory) (ltb (w .written) (length (w .outputClocks)))
+  outcomeIn w due =
+      C .outcome (w .state) (take due (w .inputCodes)) (w .memory) (ltb (w .written) (length (w .outputClocks)))
 
   -- one plain clock; "Each, after a stop, does nothing."
   unfoldable pub plainOf : WorldOf S → WorldOf S

@@ -1,4 +1,5 @@
-// The address space of the R6501Q: a lent memory, whose first addresses are the registers' (document 01, "Machine state").
+// The address space of the R6501Q: a lent memory, whose first addresses are the registers' (document 01, "Machine
+// state").
 ghost use mathlib.Core.Path.{_≡_};
 ghost use Rattle.memory.specs.Memory.{isRegister};
 

@@ -1,4 +1,5 @@
--- Document 01, "Pin lists": what an input code says, the rule of an input list, and the inputs of one clock. Chips differ in their last pin.
+-- Document 01, "Pin lists": what an input code says, the rule of an input list, and the inputs of one clock. Chips
+-- differ in their last pin.
 use mathlib.Core.Bool.{Bool, true, false, _&&_, _||_, cond}
 use mathlib.Core.List.{List, [], _∷_}
 use Prim.Native.Nat.{ℕ, suc, _%_}

@@ -16,8 +16,8 @@ fn entry_right(lastpin: u8, clock: u32, pin: u8, time: u32, code: u8) -> bool
     is_code(lastpin, code) & ((clock < time) | ((clock == time) & (pin < code % 64)))
 }
 
-// Whether a pin list keeps its rule for a state of this clock. No pin is above the last, so the first entry is as one behind
-// the last pin's input of the state's clock.
+// Whether a pin list keeps its rule for a state of this clock. No pin is above the last, so the first entry is as one
+// behind the last pin's input of the state's clock.
 pub fn pins_right(lastpin: u8, clock: u32, clocks: &[u32], codes: &[u8]) -> bool
     ensures { λ r. ⌜ r ≡ pinsRight lastpin clock (now (clocks .entry)) (now (codes .entry)) ⌝ }
 {

@@ -1,4 +1,5 @@
--- Demand 3 of the exported calls: where each flag is 0 or 1, a list of them is a list of the library's; else each is refused and hands on.
+-- Demand 3 of the exported calls: where each flag is 0 or 1, a list of them is a list of the library's; else each is
+-- refused and hands on.
 use mathlib.Core.Path.{_≡_, refl, sym, ap, _∙_}
 use mathlib.Core.Bool.{Bool, true, false, not, _||_, cond}
 use mathlib.Core.List.{List, [], _∷_}

@@ -94,8 +94,9 @@ unfolding callOf countOf stepOf runOf
 library-refused halt singleClock v e = rw e
 library-refused halt (runFor n) v e = rw e
 
--- A refused exported call, single clock or run, hands back the very state that it got, the lists as they were, and the number of the first
--- row of the table that is so, a flag above 1 being a state that is not well-formed. No halt address changes that.
+-- A refused exported call, single clock or run, hands back the very state that it got, the lists as they were, and the
+-- number of the first row of the table that is so, a flag above 1 being a state that is not well-formed. No halt
+-- address changes that.
 pub exported-refused : (halt : ℕ) (c : Call) (w : HostWorld) → eqb (hostRefusalOf (hostWellFormed (w .state)) (countOf c) w) 0 ≡ false
     → hostCalled halt c w ≡ refusedHanded (hostRefusalOf (hostWellFormed (w .state)) (countOf c) w) w
 unfolding hostCall

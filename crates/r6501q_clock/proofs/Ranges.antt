@@ -1,5 +1,5 @@
--- Steps 1 to 3 take well-formed states to well-formed states: of the fields that `wellFormed` tests. (The clock is below its
--- largest number where a clock is done.)
+-- Steps 1 to 3 take well-formed states to well-formed states: of the fields that `wellFormed` tests. (The clock is
+-- below its largest number where a clock is done.)
 use mathlib.Core.Path.{_≡_, refl}
 use mathlib.Core.Bool.{Bool, true, false, not}
 use mathlib.Core.List.{List}

@@ -1,4 +1,5 @@
-// One clock, in document 01's order: inputs and pins, counters, serial channel, CPU, output record (document 01, "One clock").
+// One clock, in document 01's order: inputs and pins, counters, serial channel, CPU, output record (document 01, "One
+// clock").
 ghost use mathlib.Core.Path.{_≡_};
 ghost use Prim.Native.Nat.{_<_};
 ghost use Rattle.cpu_opcodes.specs.Table.{opcodeTable};

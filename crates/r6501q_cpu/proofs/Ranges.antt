@@ -80,8 +80,8 @@ abbrev pub Ends : (Next → Type 0) → Processed → Type 0
 Ends P Undefined = Unit {0}
 Ends P (Done n) = P n
 
--- What holds of the peripherals before, and after each read, and what follows of the state after an entry or an instruction, of one
--- with a clock less to wait, and of one that RES holds: that holds of the CPU's part.
+-- What holds of the peripherals before, and after each read, and what follows of the state after an entry or an
+-- instruction, of one with a clock less to wait, and of one that RES holds: that holds of the CPU's part.
 module _ (s : State) (memory : List ℕ) (Q : Peripherals → Type 0) (P : Next → Type 0)
     (first : Q (s .peripherals)) (reads : (p : Peripherals) (at : ℕ) → Q p → Q (afterRead p at))
     (ends : (due : Due) (p : Peripherals) (w : Worked) → Q p → Fits w → P (nextOf s due p w)) where

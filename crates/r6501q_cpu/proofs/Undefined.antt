@@ -1,4 +1,5 @@
--- 01, stop 6, "the next clock would start an undefined opcode": an instruction is undefined just where the opcode at PC is.
+-- 01, stop 6, "the next clock would start an undefined opcode": an instruction is undefined just where the opcode at PC
+-- is.
 use mathlib.Core.Path.{_≡_, refl, sym, ap, subst, _∙_}
 use mathlib.Core.List.{List, [], _∷_, _++_}
 use Prim.Native.Nat.{ℕ}

@@ -26,7 +26,8 @@ use r6501q_state::state::Due;
 use r6501q_state::state::Peripherals;
 use r6501q_state::state::State;
 
-// The state after the CPU's part of a clock, and its writes: those at register addresses are done, the others are not yet.
+// The state after the CPU's part of a clock, and its writes: those at register addresses are done, the others are not
+// yet.
 pub struct Next {
     pub state: State,
     pub writes: Writes,

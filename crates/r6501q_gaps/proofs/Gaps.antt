@@ -1,4 +1,5 @@
--- The gap is right: no clock of it is an event clock, the clock behind it is one, and it is one clock shorter after each clock.
+-- The gap is right: no clock of it is an event clock, the clock behind it is one, and it is one clock shorter after
+-- each clock.
 use mathlib.Core.Path.{_≡_, refl, sym, ap, _∙_}
 use mathlib.Core.Bool.{Bool, true, false, _&&_, _||_, not, cond, false≢true}
 use mathlib.Core.List.{List, [], _∷_}
@@ -32,7 +33,8 @@ gap-le n s clocks = omega arith
 pub nearer-of : {a b r : Clocks} {x y : ℕ} → a ≡ clocksOf x → b ≡ clocksOf y → r ≡ clocksOf (min (a .0) (b .0)) → r ≡ clocksOf (min x y)
 nearer-of p q e = e ∙ rw (p, q)
 
--- 02, U3, "a gap of 0 is then shown to be the least": where no clock comes before the CPU's start, whatever the other distances are
+-- 02, U3, "a gap of 0 is then shown to be the least": where no clock comes before the CPU's start, whatever the other
+-- distances are
 pub none-before-start : (n : ℕ) (s : State) (clocks : List ℕ) → toStart n s ≡ 0 → gapOf n s clocks ≡ clocksOf 0
 unfolding gapOf
 none-before-start n s clocks e = ap clocksOf (omega arith)

@@ -1,5 +1,5 @@
--- The tests of an event clock say what the clock does: the underflows are those of step 2, and the CPU starts in step 4 just where it
--- is said to.
+-- The tests of an event clock say what the clock does: the underflows are those of step 2, and the CPU starts in step 4
+-- just where it is said to.
 use mathlib.Core.Path.{_≡_, refl}
 use mathlib.Core.Bool.{Bool, true, false, cond}
 use mathlib.Core.List.{List}

@@ -1,5 +1,5 @@
--- Document 01, "Run and leaps": "An event clock is one with an input, with pin levels unlike the last ones, with an underflow, where
--- RES low changes any field, or where the CPU starts."
+-- Document 01, "Run and leaps": "An event clock is one with an input, with pin levels unlike the last ones, with an
+-- underflow, where RES low changes any field, or where the CPU starts."
 use mathlib.Core.Bool.{Bool, true, false, _&&_, not, Bool·beq}
 use mathlib.Core.List.{List, [], _∷_}
 use Prim.Native.Nat.{ℕ}
@@ -30,7 +30,8 @@ sameLevels a b = eqb (a .ports) (b .ports) && Bool·beq (a .nmi) (b .nmi) && Boo
 unfoldable pub levelsChange : State → Bool
 levelsChange s = not (sameLevels (levelsOf s) (s .last))
 
--- "with an underflow": counter A's in step 2, from the state that step 1 leaves; `before` are the port levels before step 1
+-- "with an underflow": counter A's in step 2, from the state that step 1 leaves; `before` are the port levels before
+-- step 1
 unfoldable pub underflowsA : ℕ → State → Bool
 underflowsA before s =
     clockA (s .peripherals .countera) (modeA (s .peripherals .control .mcr) (s .peripherals .control .sccr))
@@ -38,9 +39,11 @@ underflowsA before s =
 
 -- and counter B's, which A's part of step 2 leaves as it is
 unfoldable pub underflowsB : ℕ → State → Bool
-underflowsB before s = clockB (s .peripherals .counterb) (modeB (s .peripherals .control .mcr)) (rose 5 before (s .last .ports)) .underflow
+underflowsB before s =
+    clockB (s .peripherals .counterb) (modeB (s .peripherals .control .mcr)) (rose 5 before (s .last .ports)) .underflow
 
--- what RES low puts stands there already: "the fresh values of port latches, MCR, SCCR, SCSR, IER, IFR and serial progress"
+-- what RES low puts stands there already: "the fresh values of port latches, MCR, SCCR, SCSR, IER, IFR and serial
+-- progress"
 unfoldable pub portsFresh : Ports → Bool
 portsFresh p = eqb (p .a) 0xFF && eqb (p .b) 0xFF && eqb (p .c) 0xFF && eqb (p .d) 0xFF
 

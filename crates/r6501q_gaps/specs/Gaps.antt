@@ -48,8 +48,8 @@ toReset n s = cond (resetChanges s) 0 n
 unfoldable pub toStart : ℕ → State → ℕ
 toStart n s = cond (s .last .res) (s .cpu .wait) n
 
--- "the gap (clocks before the next event clock, at most those left), the least over the kinds of event": n clocks are left, and
--- `clocks` are those of the rest of the input list
+-- "the gap (clocks before the next event clock, at most those left), the least over the kinds of event": n clocks are
+-- left, and `clocks` are those of the rest of the input list
 unfoldable pub gapOf : ℕ → State → List ℕ → Clocks
 gapOf n s clocks =
     clocksOf (min n (min (toInput n (s .clock) clocks) (min (toChange n s)
@@ -64,7 +64,8 @@ abbrev pub passCounters : Peripherals → ℕ → Clocks → Peripherals
 passCounters p ports gap =
     withCounterB (withCounterA p (passA (p .countera) (runningA (p .control) ports) gap)) (passB (p .counterb) (runningB (p .control)) gap)
 
--- "the gap passed: clock plus gap, each counter that counts in all of it minus gap, wait too if RES is high, nothing else"
+-- "the gap passed: clock plus gap, each counter that counts in all of it minus gap, wait too if RES is high, nothing
+-- else"
 unfoldable pub passOf : State → Clocks → State
 passOf s gap = record {
   cpu = atWait (s .cpu) (waitAfter (s .cpu .wait) (s .last .res) gap);

@@ -1,4 +1,5 @@
-// The gap before the next event clock, and the gap passed (document 01, "Run and leaps"). Neither is lent memory or output space.
+// The gap before the next event clock, and the gap passed (document 01, "Run and leaps"). Neither is lent memory or
+// output space.
 
 // Events that the next clock brings.
 pub mod events;
@@ -31,8 +32,8 @@ pub fn nearer(a: Clocks, b: Clocks) -> Clocks
     b
 }
 
-// The clocks before the next event clock, at most those left. `clocks` are those of the rest of the input list. The CPU comes
-// first: where it starts on the next clock, there is no gap, and no other distance is worked out.
+// The clocks before the next event clock, at most those left. `clocks` are those of the rest of the input list. The CPU
+// comes first: where it starts on the next clock, there is no gap, and no other distance is worked out.
 pub fn gap(state: State, left: Clocks, clocks: &[u32]) -> Clocks
     ensures { λ r. ⌜ r ≡ gapOf (left .0) state (now (clocks .entry)) ⌝ }
 {

@@ -1,4 +1,5 @@
--- 01, Registers: "in mode 01, 1Ah inverts PA4's latch". It is the mode in force: SCCR's hold of counter A to mode 00 counts.
+-- 01, Registers: "in mode 01, 1Ah inverts PA4's latch". It is the mode in force: SCCR's hold of counter A to mode 00
+-- counts.
 use mathlib.Core.Path.{_≡_, ap}
 use mathlib.Core.Bool.{true}
 use Prim.Native.Nat.{ℕ, _%_}

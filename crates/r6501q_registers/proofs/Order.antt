@@ -15,7 +15,8 @@ use Rattle.r6501q_registers.specs.Copies.{latchedB, latchedC, latchedD, 
 use Rattle.r6501q_registers.specs.Read.{receivedRead, afterRead}
 use Rattle.r6501q_registers.specs.Write.{loadedB, startB, startA, writeData, writeScsr, entering, writeSccr, writeMcr, keptFlag, keptFlags, writeOf}
 
--- a function of what stands behind the registers, and the writes of each address: what f makes of p written is q written
+-- a function of what stands behind the registers, and the writes of each address: what f makes of p written is q
+-- written
 record Rows (f : Peripherals → Peripherals) (p q : Peripherals) (v : ℕ) : Type 0 where
   at-1E : f (startB p v) ≡ startB q v
   at-1D : f (withCounterB p (copyB (upperB (p .counterb) v))) ≡ withCounterB q (copyB (upperB (q .counterb) v))

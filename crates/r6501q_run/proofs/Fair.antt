@@ -17,11 +17,12 @@ use Rattle.r6501q_step.specs.R6501q.{World, r6501q, chip, machine}
 use Rattle.r6501q_run.specs.Fair.{Fair}
 use Rattle.r6501q_run.proofs.Laws.{laws}
 
--- DEMAND 3. "Leaping equals stepping, for every well-formed start and every list of calls (single clocks and runs of any count, refused
--- ones included)" (`calls`): "state, memory, outputs, stop and counts are those of n plain clocks" (`plains`, n being `clocksAccepted`, the
--- counts of the calls not refused), "and the leap count is document 01's" (`resultsBy`: of each call, with its number). It holds of damaged
--- starts too, whose calls are refused, and for every halt address or none: "In demand 3 all calls of a list are given the same address, or
--- none, and a plain clock with such a write is done, then stops with 12." (02, U4)
+-- DEMAND 3. "Leaping equals stepping, for every well-formed start and every list of calls (single clocks and runs of
+-- any count, refused ones included)" (`calls`): "state, memory, outputs, stop and counts are those of n plain clocks"
+-- (`plains`, n being `clocksAccepted`, the counts of the calls not refused), "and the leap count is document 01's"
+-- (`resultsBy`: of each call, with its number). It holds of damaged starts too, whose calls are refused, and for every
+-- halt address or none: "In demand 3 all calls of a list are given the same address, or none, and a plain clock with
+-- such a write is done, then stops with 12." (02, U4)
 pub fair : (halt : Halt) (cs : List Call) (w : World) → Room w → Fair halt cs w
 fair halt cs w room = theory.fair (r6501q halt) (laws halt) cs w room
 
@@ -40,12 +41,14 @@ pub gap-leading : (halt : Halt) (n : ℕ) (w : World) → Fit (r6501q halt) w �
     → gapOf n (w .state) (w .inputClocks) .0 ≡ leadingQuiet (trace (chip halt) n w)
 gap-leading halt n w f on = theory.gap-leading (r6501q halt) (laws halt) n w f on
 
--- a run of a + b that fits the clock, cut into a and then b over the rest of the lists, ends the same in all but the leap count
+-- a run of a + b that fits the clock, cut into a and then b over the rest of the lists, ends the same in all but the
+-- leap count
 pub cut : (halt : Halt) (a b : ℕ) (w : World) → Fit (r6501q halt) w → w .stop ≡ 0 → w .state .clock + (a + b) ≤ lastClock
     → calls (machine halt) (runFor a ∷ runFor b ∷ []) w .world ≡ calls (machine halt) (runFor (a + b) ∷ []) w .world
 cut halt a b w f on h = theory.cut (r6501q halt) (laws halt) a b w f on h
 
--- P7, "cut after a clocks from clock 0, an input on clock a is the first half's": none of clock a or before is left to the second
+-- P7, "cut after a clocks from clock 0, an input on clock a is the first half's": none of clock a or before is left to
+-- the second
 pub first-half : (halt : Halt) (a : ℕ) (w : World) → Fit (r6501q halt) w → w .state .clock ≡ 0 → a ≤ lastClock
     → calls (machine halt) (runFor a ∷ []) w .world .stop ≡ 0
     → (k : ℕ) → k < length (calls (machine halt) (runFor a ∷ []) w .world .inputClocks)

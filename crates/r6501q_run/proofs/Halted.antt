@@ -44,8 +44,9 @@ plain-run-twelve halt n w on = by-test (eqb (refusalIn (r6501q halt) n w) 0)
     by-test true = plains-twelve halt n w on
     by-test false = refusal-not-twelve halt n w
 
--- A call, single clock or run, tells 12 just where it is not refused and one of its clocks writes the halt address: the first that does is
--- the last that it does (`plains-halt`, `before-unwritten`, `first-written` of r6501q_step/proofs/Halted.antt).
+-- A call, single clock or run, tells 12 just where it is not refused and one of its clocks writes the halt address: the
+-- first that does is the last that it does (`plains-halt`, `before-unwritten`, `first-written` of
+-- r6501q_step/proofs/Halted.antt).
 pub call-twelve : (halt : Halt) (c : Call) (w : World) → Room w → w .stop ≡ 0
     → eqb (callOf (machine halt) c w .result .number) 12
     ≡ (eqb (refusalIn (r6501q halt) (countOf c) w) 0 && ltb (clocksBefore halt (countOf c) w) (countOf c))

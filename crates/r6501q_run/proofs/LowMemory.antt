@@ -25,7 +25,8 @@ loweredHanded low h = record {
   outputWords = h .outputWords;
 }
 
--- Two memories that agree from 40h on: the same results and records, the same bytes from 40h on, and each its own bytes below.
+-- Two memories that agree from 40h on: the same results and records, the same bytes from 40h on, and each its own bytes
+-- below.
 module _ (halt : Halt) (low : List ℕ) (whole : length low ≡ registerEnd) where
   pub plains-low : (n : ℕ) (w : World) → plains (chip halt) n (lowered low w) ≡ lowered low (plains (chip halt) n w)
   plains-low = plains-along (chip halt) (lowered low) (unseen low whole halt)

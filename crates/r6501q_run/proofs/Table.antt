@@ -1,5 +1,5 @@
--- P1 to P8 of document 01, "Joints, edges and proved examples", and worked examples of document 02, in one table under one theorem: each row
--- cites its crate's definitions.
+-- P1 to P8 of document 01, "Joints, edges and proved examples", and worked examples of document 02, in one table under
+-- one theorem: each row cites its crate's definitions.
 use mathlib.Core.Path.{_≡_}
 use mathlib.Core.Bool.{Bool, true, false}
 use mathlib.Core.List.{List, [], _∷_}
@@ -30,12 +30,14 @@ use Rattle.r6501q_step.proofs.IndirectJump.{jumpMemory, indirect-jump}
 use Rattle.r6501q_run.proofs.Fair.{first-half}
 
 pub record Examples : Type 0 where
-  -- "L = 0: underflow each clock.": of whole clocks with RES low, of which step 1 clears the flags of both counters and step 2 sets them again
+  -- "L = 0: underflow each clock.": of whole clocks with RES low, of which step 1 clears the flags of both counters and
+  -- step 2 sets them again
   pub p1-cleared : (clock : ℕ) → sensed (inputsSet (clocks.heldLow 0x30 clock) []) ≡ clocks.heldLow 0 (clock + 1)
   pub p1 : (n clock : ℕ) (memory times words : List ℕ)
       → plains (chip Nowhere) n (clocks.startWith (clocks.heldLow 0x30 clock) memory [] [] times words)
       ≡ clocks.startWith (clocks.heldLow 0x30 (clock + n)) memory [] [] times words
-  -- "L = 5 loaded on clock t: underflow on t + 6.": by STA 1Ah on clock 8; IFR4 after clocks 8 to 14; IFR5 of counter B by STA 1Eh
+  -- "L = 5 loaded on clock t: underflow on t + 6.": by STA 1Ah on clock 8; IFR4 after clocks 8 to 14; IFR5 of counter B
+  -- by STA 1Eh
   pub p2-loaded : plains (chip Nowhere) 8 (clocks.timerStart 0x18 0x1A) .state .peripherals .countera ≡ record { count = 5; latch = 5 }
   pub p2 : tabulate (λ k. bit 4 (plains (chip Nowhere) k (clocks.timerStart 0x18 0x1A) .state .peripherals .control .ifr)) 7 8
       ≡ false ∷ false ∷ false ∷ false ∷ false ∷ false ∷ true ∷ []
@@ -47,8 +49,9 @@ pub record Examples : Type 0 where
   -- "7Fh + 01h: 80h, V, N."
   pub p4 : (n v i z : Bool) → adcOf 0x7F 0x01 (record { n = n; v = v; d = false; i = i; z = z; c = false })
       ≡ record { value = 0x80; status = record { n = true; v = true; d = false; i = i; z = false; c = false } }
-  -- "41h, 8 bits, no parity, latch 0: 176 clocks from start to idle.": STA 17h on clock 16; the start bit is on the line after clock 17, one
-  -- bit is left after clock 192, and after clock 193 it is idle; the line's edges are the chip's records
+  -- "41h, 8 bits, no parity, latch 0: 176 clocks from start to idle.": STA 17h on clock 16; the start bit is on the
+  -- line after clock 17, one bit is left after clock 192, and after clock 193 it is idle; the line's edges are the
+  -- chip's records
   pub p5-start : plains (chip Nowhere) 17 clocks.senderStart .state .peripherals .transmitter ≡ record { left = 11; phase = 0; register = 0x682 }
   pub p5-last-bit : plains (chip Nowhere) 192 clocks.senderStart .state .peripherals .transmitter .left ≡ 1
   pub p5-idle : plains (chip Nowhere) 193 clocks.senderStart .state .peripherals .transmitter ≡ idleTransmitter
@@ -58,11 +61,12 @@ pub record Examples : Type 0 where
       ≡ record { subinterval = 1; half = false; left = 0; register = register }
   pub p6 : (register received : ℕ) (memory : List ℕ) → plains (chip Nowhere) 4 (clocks.lineStart register received memory) .state .peripherals .receiver
       ≡ record { subinterval = 0; half = false; left = 0; register = register }
-  -- 02, U1: 41h sent with SCCR A0h and latch 0, as port A is driven clock by clock; the next byte taken; SCCR written again; and 41h
-  -- received with SCCR 50h at rises of PA4 (r6501q_step/proofs/ShiftRegister.antt has the rows)
+  -- 02, U1: 41h sent with SCCR A0h and latch 0, as port A is driven clock by clock; the next byte taken; SCCR written
+  -- again; and 41h received with SCCR 50h at rises of PA4 (r6501q_step/proofs/ShiftRegister.antt has the rows)
   pub shift-register : ShiftRegister
-  -- 02, U4, document 01's tape with the halt address 0000h: stop, clock, wait and records written; 12 at clock 10, the record there, after
-  -- the leaps to clocks 1, 8 and 10; also where that clock is the run's last; 0 before it; 7 for that clock comes first
+  -- 02, U4, document 01's tape with the halt address 0000h: stop, clock, wait and records written; 12 at clock 10, the
+  -- record there, after the leaps to clocks 1, 8 and 10; also where that clock is the run's last; 0 before it; 7 for
+  -- that clock comes first
   pub halt-reached : clocks.reached (plains (chip (At 0)) 100 (clocks.tapeStart 1)) ≡ 12 ∷ 10 ∷ 2 ∷ 1 ∷ []
   pub halt-leaps : leapCount (chip (At 0)) 100 (clocks.tapeStart 1) ≡ 3
   pub halt-last : clocks.reached (plains (chip (At 0)) 10 (clocks.tapeStart 1)) ≡ 12 ∷ 10 ∷ 2 ∷ 1 ∷ []

@@ -1,5 +1,5 @@
--- An instruction that starts in a span: the gap before it is the CPU's wait, and its clock changes nothing but the CPU, the clock, the
--- counters that run, and memory.
+-- An instruction that starts in a span: the gap before it is the CPU's wait, and its clock changes nothing but the CPU,
+-- the clock, the counters that run, and memory.
 use mathlib.Core.Path.{_≡_, refl, sym, ap, _∙_}
 use mathlib.Core.Bool.{Bool, true, false, _&&_, _||_, not, cond, false≢true}
 use mathlib.Core.List.{List, [], _∷_}

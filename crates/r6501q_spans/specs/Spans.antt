@@ -71,7 +71,8 @@ unfoldable pub continuedBy : Halt → Work → Worked → Work
 continuedBy halt w worked = cond (endsSpan halt (writesOf (worked .written))) w (nextWork w worked)
 
 unfoldable pub committedBy : Halt → List ℕ → Worked → List ℕ
-committedBy halt memory worked = cond (endsSpan halt (writesOf (worked .written))) memory (committed memory (writesOf (worked .written)))
+committedBy halt memory worked =
+    cond (endsSpan halt (writesOf (worked .written))) memory (committed memory (writesOf (worked .written)))
 
 -- with no answer about a register: an instruction that asks for one, or is undefined, is left to the clock's own rules
 abbrev pub workBy : Halt → Work → Outcome → Work

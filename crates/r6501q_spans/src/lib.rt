@@ -1,5 +1,5 @@
-// Spans: clocks in which nothing of the chip acts but the CPU. Each instruction that starts in a span is a leap of its own; it is done
-// on a small record, and the rest of the chip is brought up to date once, at the end.
+// Spans: clocks in which nothing of the chip acts but the CPU. Each instruction that starts in a span is a leap of its
+// own; it is done on a small record, and the rest of the chip is brought up to date once, at the end.
 ghost use mathlib.Core.Path.{_≡_};
 ghost use Prim.Native.Nat.{_+_, _≤_};
 ghost use Rattle.cpu_opcodes.specs.Table.{opcodeTable};
@@ -100,7 +100,8 @@ fn continue_work(w: Work, worked: Worked, memory: &mut [u8], halt: Halt) -> Work
 }
 
 // The instructions that write nothing, and the one that comes next, if it starts within the span, neither reads nor
-// writes a register of the chip, and does not write the halt address. `entries` is what `cpu_opcodes::opcode_table` gave.
+// writes a register of the chip, and does not write the halt address. `entries` is what `cpu_opcodes::opcode_table`
+// gave.
 pub fn work_once(w: Work, span: Clocks, memory: &mut [u8], entries: &[u16], halt: Halt) -> Work
     requires { ⌜ WithinSpan w (span .0) ⌝ }
     requires { ⌜ now entries ≡ opcodeTable ⌝ }

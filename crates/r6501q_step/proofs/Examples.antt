@@ -1,4 +1,5 @@
--- P1, P2, P5 and P6 of document 01, of whole clocks as the chip makes them: steps 1 to 5, and where a register is written, by an instruction.
+-- P1, P2, P5 and P6 of document 01, of whole clocks as the chip makes them: steps 1 to 5, and where a register is
+-- written, by an instruction.
 use mathlib.Core.Path.{_≡_, refl}
 use mathlib.Core.Bool.{Bool, true, false}
 use mathlib.Core.List.{List, [], _∷_, _++_}
@@ -172,7 +173,8 @@ pub p5-start : plains (chip Nowhere) 17 senderStart .state .peripherals .transmi
 unfolding withBit setWhere flipWhere dueCount ticksOf inForce downA countsA clockA lowerA upperA loadCounterA reloadB downB clockB lowerB upperB copyB loadCounterB turnToC transmitterAsynchronous receiverAsynchronous receiverShifting holdsA keepsTransmitter keepsReceiver parityBit frameBits sentBits pace startDetected withLevel receivedByte wrongParity statusAfter keptWith frameEnded lookTaken looked receiveTick shiftedAtRise byteEnded receiveRise receiverClock receiverWithSccr framed taken idleTick frameEnd nextPhase ticked bitTick sendTick transmitterClock line shiftClock transmitterWithSccr decodeOf packed unpacked pushed memoryByte displacement flagsOf modeA modeB withInput driveA driveD drivenWord levelsOf rose fell edges withEdges resetOf sensedAt sensed fresh portValue registerValue afterRead startB startA entering keptFlag keptFlags writeOf wholeInstruction irqDue resetStart nmiStart irqStart startOf processorOf withInputs countA countB sentBy heardBy worked readyOf finished clockOf halts putByte committed plainOf plains putRecord located byteAfter peripheralsRead peripheralsWritten valueRead performed inOrder completion storeAt modifyAccesses branchOn bitBranchAccesses jumpTo pushAccesses pullAccesses returnAccesses interruptReturnAccesses entryAccesses breakAccesses callAccesses operationAccesses withRead changedBy byteToStore branchTaken bitBranchTaken byteToPush withPulled withRegister withFlag instructionAccesses resetAccesses interruptAccesses
 p5-start = refl
 
--- after clock 192 one bit is left, and after clock 193 it is idle, with an under-run; the line's six edges are its records
+-- after clock 192 one bit is left, and after clock 193 it is idle, with an under-run; the line's six edges are its
+-- records
 pub p5-last-bit : plains (chip Nowhere) 192 senderStart .state .peripherals .transmitter .left ≡ 1
 unfolding withBit setWhere flipWhere dueCount ticksOf inForce downA countsA clockA lowerA upperA loadCounterA reloadB downB clockB lowerB upperB copyB loadCounterB turnToC transmitterAsynchronous receiverAsynchronous receiverShifting holdsA keepsTransmitter keepsReceiver parityBit frameBits sentBits pace startDetected withLevel receivedByte wrongParity statusAfter keptWith frameEnded lookTaken looked receiveTick shiftedAtRise byteEnded receiveRise receiverClock receiverWithSccr framed taken idleTick frameEnd nextPhase ticked bitTick sendTick transmitterClock line shiftClock transmitterWithSccr decodeOf packed unpacked pushed memoryByte displacement flagsOf modeA modeB withInput driveA driveD drivenWord levelsOf rose fell edges withEdges resetOf sensedAt sensed fresh portValue registerValue afterRead startB startA entering keptFlag keptFlags writeOf wholeInstruction irqDue resetStart nmiStart irqStart startOf processorOf withInputs countA countB sentBy heardBy worked readyOf finished clockOf halts putByte committed plainOf plains putRecord located byteAfter peripheralsRead peripheralsWritten valueRead performed inOrder completion storeAt modifyAccesses branchOn bitBranchAccesses jumpTo pushAccesses pullAccesses returnAccesses interruptReturnAccesses entryAccesses breakAccesses callAccesses operationAccesses withRead changedBy byteToStore branchTaken bitBranchTaken byteToPush withPulled withRegister withFlag instructionAccesses resetAccesses interruptAccesses
 p5-last-bit = refl

@@ -1,5 +1,5 @@
--- Document 02, U4, "Stop where a byte is written", said of plain clocks: where 12 is the stop, what a halt address changes, and what the
--- writes that a clock tells are to memory and to leaps.
+-- Document 02, U4, "Stop where a byte is written", said of plain clocks: where 12 is the stop, what a halt address
+-- changes, and what the writes that a clock tells are to memory and to leaps.
 use mathlib.Core.Path.{_≡_, refl, sym, ap, _∙_}
 use mathlib.Core.Bool.{Bool, true, false, _&&_, not, cond, false≢true}
 use mathlib.Core.List.{List, [], _∷_}
@@ -56,7 +56,8 @@ twelve-itself : (t : Bool) → eqb (cond t haltStop 0) 12 ≡ t
 twelve-itself true = refl
 twelve-itself false = refl
 
--- A plain clock stops with 12 just where it is done and writes the halt address: 6 and 7 come first, and a clock not done writes nothing.
+-- A plain clock stops with 12 just where it is done and writes the halt address: 6 and 7 come first, and a clock not
+-- done writes nothing.
 pub stop-twelve : (halt : Halt) (w : World) → w .stop ≡ 0 → eqb (plain halt w .stop) 12 ≡ writesHalt halt w
 unfolding plainOf
 stop-twelve halt w on = rw (eq-eqb (w .stop) 0 on) (by-clock (clockIn w) refl)
@@ -118,8 +119,8 @@ abbrev pub clocksBefore : Halt → ℕ → World → ℕ
 clocksBefore halt zero w = 0
 clocksBefore halt (suc n) w = cond (writesHalt halt w) 0 (suc (clocksBefore halt n (plain Nowhere w)))
 
--- n plain clocks with a halt address: those with none up to the first that writes it, that one included, and the stop 12; where none
--- of the n writes it, those with none
+-- n plain clocks with a halt address: those with none up to the first that writes it, that one included, and the stop
+-- 12; where none of the n writes it, those with none
 pub plains-halt : (halt : Halt) (n : ℕ) (w : World)
     → plains (chip halt) n w
     ≡ cond (ltb (clocksBefore halt n w) n) (stoppedAt haltStop (plains (chip Nowhere) (suc (clocksBefore halt n w)) w)) (plains (chip Nowhere) n w)

@@ -1,4 +1,5 @@
--- Document 02, U5, of a whole clock: JMP (02FFh) takes the low byte of its target from 02FFh and the high byte from 0200h.
+-- Document 02, U5, of a whole clock: JMP (02FFh) takes the low byte of its target from 02FFh and the high byte from
+-- 0200h.
 use mathlib.Core.Path.{_≡_, refl}
 use mathlib.Core.Bool.{Bool, true, false}
 use mathlib.Core.List.{List, [], _∷_, _++_}

@@ -1,4 +1,5 @@
--- 01, Machine state: memory's "bytes at 0 to 3Fh, the registers, are never touched". What a clock comes to is the same whatever stands there.
+-- 01, Machine state: memory's "bytes at 0 to 3Fh, the registers, are never touched". What a clock comes to is the same
+-- whatever stands there.
 use mathlib.Core.Path.{_≡_, refl, sym, ap, _∙_}
 use mathlib.Core.Bool.{Bool, true, false, _&&_, not, cond}
 use mathlib.Core.List.{List, []}
@@ -88,8 +89,8 @@ module _ (low : List ℕ) (whole : length low ≡ registerEnd) where
   after-low halt w due (Stopped number) = refl
   after-low halt w due (Done e) = rw (committed-low (w .memory) (e .writes))
 
-  -- Memory at 0 to 3Fh is neither read nor written by a plain clock: with other bytes there, all that it comes to is the same, and these
-  -- bytes come back as they were.
+  -- Memory at 0 to 3Fh is neither read nor written by a plain clock: with other bytes there, all that it comes to is
+  -- the same, and these bytes come back as they were.
   pub plain-low : (halt : Halt) (w : World) → plain halt (lowered low w) ≡ lowered low (plain halt w)
   unfolding plainOf
   plain-low halt w =

@@ -1,5 +1,5 @@
--- Document 02, U1, of whole clocks as the chip makes them: a byte sent and a byte received in shift-register mode, each register write by an
--- instruction, each level by the pin list, each drive as it is recorded.
+-- Document 02, U1, of whole clocks as the chip makes them: a byte sent and a byte received in shift-register mode, each
+-- register write by an instruction, each level by the pin list, each drive as it is recorded.
 use mathlib.Core.Path.{_≡_, refl}
 use mathlib.Core.Bool.{Bool, true, false}
 use mathlib.Core.List.{List, [], _∷_, _++_}
@@ -94,8 +94,8 @@ abbrev pub receiverStart : World
 receiverStart = startWith shiftReceiver (replicate 0x40 0 ++ (0x4C ∷ 0x40 ∷ 0x00 ∷ [])) clockedAt clockedWith [] []
 
 pub record ShiftRegister : Type 0 where
-  -- 41h written on clock 16 with SCCR A0h and latch 0: taken on 17, shifted on each second clock; PA4 is low and high for each bit; after
-  -- clock 33 an under-run, both lines high
+  -- 41h written on clock 16 with SCCR A0h and latch 0: taken on 17, shifted on each second clock; PA4 is low and high
+  -- for each bit; after clock 33 an under-run, both lines high
   pub sent-clocks : plains (chip Nowhere) 33 (shiftStart thenNothing) .outputClocks ≡ tabulate (λ k. k) 17 17
   pub sent-words : plains (chip Nowhere) 33 (shiftStart thenNothing) .outputWords
       ≡ drivenA 0xEF ∷ drivenA 0xFF ∷ drivenA 0xAF ∷ drivenA 0xBF ∷ drivenA 0xAF ∷ drivenA 0xBF ∷ drivenA 0xAF ∷ drivenA 0xBF
@@ -109,7 +109,8 @@ pub record ShiftRegister : Type 0 where
   pub sccr-again : plains (chip Nowhere) 21 (shiftStart thenSccrAgain) .state .peripherals .transmitter ≡ idleTransmitter
   pub sccr-driven : drivenWord (plains (chip Nowhere) 20 (shiftStart thenSccrAgain) .state .peripherals) ≡ drivenA 0xBF
   pub sccr-high : drivenWord (plains (chip Nowhere) 21 (shiftStart thenSccrAgain) .state .peripherals) ≡ drivenA 0xFF
-  -- PA7 1, 0, 0, 0, 0, 0, 1, 0 at rises of PA4, SCCR 50h: 7 bits left and 400h after the first, 208h and the byte 41h at the last
+  -- PA7 1, 0, 0, 0, 0, 0, 1, 0 at rises of PA4, SCCR 50h: 7 bits left and 400h after the first, 208h and the byte 41h
+  -- at the last
   pub first-rise : plains (chip Nowhere) 2 receiverStart .state .peripherals .receiver ≡ record { subinterval = 0; half = false; left = 7; register = 0x400 }
   pub last-rise : plains (chip Nowhere) 16 receiverStart .state .peripherals .receiver ≡ record { subinterval = 0; half = false; left = 0; register = 0x208 }
   pub byte-received : plains (chip Nowhere) 16 receiverStart .state .peripherals .serial .received ≡ 0x41

@@ -29,7 +29,8 @@ abbrev pub isUndefined : Decoded → Bool
 isUndefined decoded.Undefined = true
 isUndefined (decoded.Defined e) = false
 
--- of a state after steps 1 to 3: RES is high, wait 0, neither reset nor NMI due, no IRQ, and the opcode at PC is undefined
+-- of a state after steps 1 to 3: RES is high, wait 0, neither reset nor NMI due, no IRQ, and the opcode at PC is
+-- undefined
 abbrev pub startsUndefined : State → List ℕ → Bool
 startsUndefined s memory =
     s .last .res && not (ltb 0 (s .cpu .wait)) && not (s .due .reset) && not (s .due .nmi) && not (irqDue s) && isUndefined (decodeOf (opcodeAt s memory))

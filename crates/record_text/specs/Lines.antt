@@ -1,5 +1,5 @@
--- What a program prints of a run: document 01, "Tape": "it prints `10 FFFFFF55` (clock, driven word in hex), then `end 100 0` (clocks
--- done, number or 0)". Characters are their ASCII codes.
+-- What a program prints of a run: document 01, "Tape": "it prints `10 FFFFFF55` (clock, driven word in hex), then `end
+-- 100 0` (clocks done, number or 0)". Characters are their ASCII codes.
 use mathlib.Core.Bool.{cond}
 use mathlib.Core.List.{List, [], _∷_, _++_}
 use Prim.Native.Nat.{ℕ, zero, suc, _+_, _/_, _%_}
@@ -41,7 +41,8 @@ recordLine clock word = decimalOf clock ++ ((space ∷ []) ++ (hexWord word ++ (
 
 -- `end 100 0`: "clocks done, number or 0"
 unfoldable pub endLine : ℕ → ℕ → List ℕ
-endLine done number = (101 ∷ 110 ∷ 100 ∷ space ∷ []) ++ (decimalOf done ++ ((space ∷ []) ++ (decimalOf number ++ (lineEnd ∷ []))))
+endLine done number =
+    (101 ∷ 110 ∷ 100 ∷ space ∷ []) ++ (decimalOf done ++ ((space ∷ []) ++ (decimalOf number ++ (lineEnd ∷ []))))
 
 -- a line for each record
 unfoldable pub recordLines : List ℕ → List ℕ → List ℕ

@@ -20,8 +20,8 @@ abbrev pub firstOf : List Refusal → ℕ
 firstOf [] = 0
 firstOf ((number, so) ∷ later) = cond so number (firstOf later)
 
--- the table's rows 1 to 5 in the order of the checks, for a state that is well-formed or not and is at this clock, a memory of `span`
--- bytes, and output lists of `times` and `words` entries
+-- the table's rows 1 to 5 in the order of the checks, for a state that is well-formed or not and is at this clock, a
+-- memory of `span` bytes, and output lists of `times` and `words` entries
 abbrev pub refusals : Limits → Bool → ℕ → ℕ → List ℕ → List ℕ → ℕ → ℕ → ℕ → List Refusal
 refusals limits formed clock span clocks codes times words n =
     (1, not (eqb span (limits .memory)))
@@ -33,4 +33,5 @@ refusals limits formed clock span clocks codes times words n =
 
 -- "Lowest number first for 1 to 5": the number of a refusal, or 0
 unfoldable pub refusalOf : Limits → Bool → ℕ → ℕ → List ℕ → List ℕ → ℕ → ℕ → ℕ → ℕ
-refusalOf limits formed clock span clocks codes times words n = firstOf (refusals limits formed clock span clocks codes times words n)
+refusalOf limits formed clock span clocks codes times words n =
+    firstOf (refusals limits formed clock span clocks codes times words n)

@@ -21,8 +21,8 @@ fn passes_last(clock: u32, n: u32) -> bool
     LAST_CLOCK - clock < n
 }
 
-// The number of the first check that fails, or 0: of a state that is well-formed or not and is at this clock, a memory of `span` bytes,
-// the input lists, output lists of `times` and `words` entries, and n clocks.
+// The number of the first check that fails, or 0: of a state that is well-formed or not and is at this clock, a memory
+// of `span` bytes, the input lists, output lists of `times` and `words` entries, and n clocks.
 pub fn refusal(
     limits: Limits,
     formed: bool,

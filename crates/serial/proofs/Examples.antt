@@ -33,8 +33,8 @@ drivenFor (suc n) mode sccr byte d =
 abbrev pub waiting : Driven
 waiting = record { counter = record { count = 0; latch = 0 }; sender = sending idleTransmitter 0 }
 
--- P5, "41h, 8 bits, no parity, latch 0: 176 clocks from start to idle": SCCR 80h. The first clock takes the byte, the start bit
--- is on the line; 175 clocks later one bit is left; 176 clocks later it is idle, with an under-run.
+-- P5, "41h, 8 bits, no parity, latch 0: 176 clocks from start to idle": SCCR 80h. The first clock takes the byte, the
+-- start bit is on the line; 175 clocks later one bit is left; 176 clocks later it is idle, with an under-run.
 pub p5-start : (mode : ℕ) → drivenFor 1 mode 0x80 0x41 waiting .sender .transmitter ≡ record { left = 11; phase = 0; register = 0x682 }
 unfolding inForce holdsA clockA countsA downA ticksOf transmitterClock sendTick idleTick taken framed sentBits frameBits withBit
 p5-start mode = refl
@@ -53,8 +53,8 @@ heardFor zero sccr high r = r
 heardFor (suc n) sccr high r =
     heardFor n sccr high (receiverClock (r .receiver) (ticksOf true) false sccr (r .scsr) (r .received) high)
 
--- P6, "one low sub-interval at the receiver: no start": two ticks with PA7 low and two with it high leave the receiver, the
--- status and the data as they were, with no bits left
+-- P6, "one low sub-interval at the receiver: no start": two ticks with PA7 low and two with it high leave the receiver,
+-- the status and the data as they were, with no bits left
 pub p6 : (register scsr received : ℕ) →
     let r : Receiver = record { subinterval = 0; half = false; left = 0; register = register } in
     heardFor 2 0x40 true (heardFor 2 0x40 false (receiving r scsr received)) ≡ receiving r scsr received
@@ -77,8 +77,8 @@ shiftedFor n mode =
 abbrev pub lines : Bool → Bool → ℕ → Lines
 lines pa6 pa4 left = record { pa6 = pa6; pa4 = pa4; left = left }
 
--- "its frame the byte alone, shifted at each tick that makes the phase even": the first clock takes the byte; bit 0 is on the line, the
--- clock low
+-- "its frame the byte alone, shifted at each tick that makes the phase even": the first clock takes the byte; bit 0 is
+-- on the line, the clock low
 pub shift-take : (mode : ℕ) → shiftedFor 1 mode ≡ lines true false 8
 unfolding inForce holdsA clockA countsA downA ticksOf transmitterClock sendTick idleTick taken framed sentBits withBit line shiftClock
 shift-take mode = refl

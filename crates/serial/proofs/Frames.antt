@@ -26,7 +26,8 @@ span-le sccr = pow-mono {i = width sccr} {j = 8} (omega arith)
 pub data-lt : (sccr x : ℕ) → x % 2 ^ width sccr < 256
 data-lt sccr x = omega (arith, mod-lt x (span-pos sccr), span-le sccr)
 
--- for each width and byte: the data bits write the byte modulo 2 to the width, whose own eight bits have the same parity
+-- for each width and byte: the data bits write the byte modulo 2 to the width, whose own eight bits have the same
+-- parity
 dataRight : ℕ → ℕ → Bool
 dataRight k x =
     eqb (number (bitsOf (8 - k) x)) (x % 2 ^ (8 - k))

@@ -87,7 +87,8 @@ byte-received r scsr received a b c d e f g h lt =
     let byte : putAll (r .register) levels / 8 % 256 ≡ number levels = ap (λ k. k % 256) top ∙ mod-eq-of-lt small in
     ap (λ k. keptWith k (withRegister r 0 (putAll (r .register) levels)) (statusAfter scsr false false) scsr received) byte
 
--- SCSR0 clear: the byte is kept and SCSR0 set; else SCSR1 is set and the old byte stays. SCSR2 and SCSR3 are not touched.
+-- SCSR0 clear: the byte is kept and SCSR0 set; else SCSR1 is set and the old byte stays. SCSR2 and SCSR3 are not
+-- touched.
 pub byte-kept : (r : Receiver) (byte scsr received : ℕ) → bit 0 scsr ≡ false
     → keptWith byte r (statusAfter scsr false false) scsr received ≡ receiving r (setWhere 0 true scsr) byte
 unfolding keptWith statusAfter setWhere

@@ -1,5 +1,5 @@
--- 02, U1: "The frame and shift rules share one statement about bits taken in turn." Of any bits, at either pace: 16 ticks a bit in an
--- asynchronous frame, 2 in a byte in shift-register mode.
+-- 02, U1: "The frame and shift rules share one statement about bits taken in turn." Of any bits, at either pace: 16
+-- ticks a bit in an asynchronous frame, 2 in a byte in shift-register mode.
 use mathlib.Core.Path.{_≡_, refl, ap, _∙_, sym, subst}
 use mathlib.Core.Logic.{_≢_}
 use mathlib.Core.Bool.{Bool, true, false, cond}
@@ -206,7 +206,8 @@ module _ (sccr : ℕ) (scsr byte : ℕ → ℕ) where
       (ap (λ (t : Transmitter). t .left) all)
       ∙ ap (λ t. frameEnd t sccr (scsr m) (byte m)) all
 
--- "None left: it takes the next data that tick, or sets SCSR7"; 001, 5.1: "the SO output and shift clock are held in a high state"
+-- "None left: it takes the next data that tick, or sets SCSR7"; 001, 5.1: "the SO output and shift clock are held in a
+-- high state"
 pub end-takes : (t : Transmitter) (sccr scsr byte : ℕ) → bit 6 scsr ≡ false
     → frameEnd t sccr scsr byte ≡ sending (sendingBits (sentBits sccr byte) 0) (withBit 7 false (withBit 6 true scsr))
 unfolding frameEnd taken framed

@@ -28,7 +28,8 @@ started r sccr = record { subinterval = 0; half = r .half; left = frameSize sccr
 
 -- "With no bits left, sub-interval counts lows running, a high zeroes it; a low at 3 or more makes a start"
 unfoldable pub startDetected : Receiver → ℕ → Bool → Receiver
-startDetected r sccr high = cond high (atSub r 0) (cond (ltb (r .subinterval) 3) (atSub r (r .subinterval + 1)) (started r sccr))
+startDetected r sccr high =
+    cond high (atSub r 0) (cond (ltb (r .subinterval) 3) (atSub r (r .subinterval + 1)) (started r sccr))
 
 -- "shifts the level into bit 10": in either mode
 unfoldable pub withLevel : ℕ → Bool → ℕ
@@ -36,7 +37,8 @@ withLevel register high = register / 2 + digit high * 1024
 
 -- ", one bit fewer left"
 abbrev pub shiftedIn : Receiver → Bool → Receiver
-shiftedIn r high = record { subinterval = 0; half = r .half; left = r .left - 1; register = withLevel (r .register) high }
+shiftedIn r high =
+    record { subinterval = 0; half = r .half; left = r .left - 1; register = withLevel (r .register) high }
 
 -- "bit 10 is the stop, parity and data below it", "the byte (high bits 0)"
 unfoldable pub receivedByte : ℕ → ℕ → ℕ
@@ -106,8 +108,8 @@ endedAtLast r scsr received = cond (eqb (r .left) 0) (byteEnded r scsr received)
 unfoldable pub receiveRise : Receiver → ℕ → ℕ → Bool → Receiving
 receiveRise r scsr received high = endedAtLast (shiftedAtRise r high) scsr received
 
--- 01, One clock, 3, for the receiver: asynchronous it goes by ticks, which are none or one in a clock; 02, U1: in shift-register mode
--- by a rise of PA4
+-- 01, One clock, 3, for the receiver: asynchronous it goes by ticks, which are none or one in a clock; 02, U1: in
+-- shift-register mode by a rise of PA4
 unfoldable pub receiverClock : Receiver → Ticks → Bool → ℕ → ℕ → ℕ → Bool → Receiving
 receiverClock r ticks rise sccr scsr received high =
     cond (not (eqb (ticks .0) 0) && receiverAsynchronous sccr) (receiveTick r sccr scsr received high)
@@ -117,6 +119,7 @@ receiverClock r ticks rise sccr scsr received high =
 unfoldable pub receiverWithSccr : ℕ → ℕ → Receiver → Receiver
 receiverWithSccr old sccr r = cond (keepsReceiver old sccr) r idleReceiver
 
--- 01, Machine state: "receiver sub-interval (0 to 7), half (0 or 1), bits left (0 to 11), register (11 bits)"; half is a flag
+-- 01, Machine state: "receiver sub-interval (0 to 7), half (0 or 1), bits left (0 to 11), register (11 bits)"; half is
+-- a flag
 abbrev pub receiverFits : Receiver → Bool
 receiverFits r = leb (r .subinterval) 7 && leb (r .left) 11 && ltb (r .register) 2048

@@ -22,7 +22,8 @@ idleTransmitter = record { left = 0; phase = 0; register = 0 }
 unfoldable pub framed : ℕ → ℕ → Transmitter
 framed sccr byte = record { left = length (sentBits sccr byte); phase = 0; register = number (sentBits sccr byte) }
 
--- "it takes the data, sets SCSR6"; 001, 5.3, SCSR 7: "Cleared by a transfer of new data into the Transmitter Shift Register"
+-- "it takes the data, sets SCSR6"; 001, 5.3, SCSR 7: "Cleared by a transfer of new data into the Transmitter Shift
+-- Register"
 unfoldable pub taken : ℕ → ℕ → ℕ → Sending
 taken sccr scsr byte = sending (framed sccr byte) (withBit underrun false (withBit transmitterEmpty true scsr))
 
@@ -32,7 +33,8 @@ idleTick t sccr scsr byte = cond (bit transmitterEmpty scsr) (sending t scsr) (t
 
 -- "None left: it takes the next data that tick, or sets SCSR7."
 unfoldable pub frameEnd : Transmitter → ℕ → ℕ → ℕ → Sending
-frameEnd t sccr scsr byte = cond (bit transmitterEmpty scsr) (sending t (withBit underrun true scsr)) (taken sccr scsr byte)
+frameEnd t sccr scsr byte =
+    cond (bit transmitterEmpty scsr) (sending t (withBit underrun true scsr)) (taken sccr scsr byte)
 
 -- "each later tick raises the phase", "from 15 to 0"
 unfoldable pub nextPhase : ℕ → ℕ
@@ -45,7 +47,8 @@ raised t = record { left = t .left; phase = nextPhase (t .phase); register = t .
 abbrev pub shiftedDown : Transmitter → Transmitter
 shiftedDown t = record { left = t .left - 1; phase = t .phase; register = t .register / 2 }
 
--- a tick of bits taken in turn, each for as many ticks as the pace says: 16 are "from 15 to 0", 2 "makes the phase even"
+-- a tick of bits taken in turn, each for as many ticks as the pace says: 16 are "from 15 to 0", 2 "makes the phase
+-- even"
 unfoldable pub ticked : ℕ → Transmitter → Transmitter
 ticked ticks t = cond (eqb (nextPhase (t .phase) % ticks) 0) (shiftedDown (raised t)) (raised t)
 
@@ -62,7 +65,8 @@ sendTick t sccr scsr byte = cond (eqb (t .left) 0) (idleTick t sccr scsr byte) (
 
 -- 01, One clock, 3, for the transmitter: the ticks of a clock are none or one
 unfoldable pub transmitterClock : Transmitter → Ticks → ℕ → ℕ → ℕ → Sending
-transmitterClock t ticks sccr scsr byte = cond (not (eqb (ticks .0) 0) && bit 7 sccr) (sendTick t sccr scsr byte) (sending t scsr)
+transmitterClock t ticks sccr scsr byte =
+    cond (not (eqb (ticks .0) 0) && bit 7 sccr) (sendTick t sccr scsr byte) (sending t scsr)
 
 -- "While bits are left, bit 0 is the line"; 01, Pin lists: "high when idle"
 unfoldable pub line : Transmitter → Bool

@@ -1,5 +1,5 @@
--- What follows from the definitions for every tape and memory: what a load leaves alone, and that a record's own digits may be
--- passed in the search for the next record.
+-- What follows from the definitions for every tape and memory: what a load leaves alone, and that a record's own digits
+-- may be passed in the search for the next record.
 use mathlib.Core.Path.{_≡_, refl, ap, _∙_}
 use mathlib.Core.Bool.{Bool, true, false, _&&_, cond}
 use mathlib.Core.List.{List, [], _∷_}
@@ -140,8 +140,8 @@ module _ (low : List ℕ) (whole : length low ≡ registerEnd) where
       by-mark true false later = ap (storeFrom text) (landed-low text m) ∙ later (landed text m)
       by-mark false z later = later m
 
-  -- 01, Machine state: memory's "bytes at 0 to 3Fh, the registers, are never touched". With other bytes there a load gives the same number
-  -- and place, the same bytes from 40h on, and those bytes back.
+  -- 01, Machine state: memory's "bytes at 0 to 3Fh, the registers, are never touched". With other bytes there a load
+  -- gives the same number and place, the same bytes from 40h on, and those bytes back.
   pub load-low : (tape m : List ℕ) → registerEnd ≤ length m
       → loadOf tape (withLow low m) ≡ loaded (loadOf tape m .result) (withLow low (loadOf tape m .memory))
   unfolding loadOf
@@ -183,7 +183,8 @@ module _ (text : List ℕ) (sound : faultOf text ≡ 0) where
   last-stored m z = rw z
 
   module _ (more : byteCountOf text ≡ 0 → ⊥) where
-    -- a record that is good and not the last: one record more is seen, its bytes land, and the tape goes on behind its digits
+    -- a record that is good and not the last: one record more is seen, its bytes land, and the tape goes on behind its
+    -- digits
     pub next-checked : (place seen : ℕ) → checkFrom place seen (mark ∷ text)
         ≡ checkFrom (place + 1 + recordLength (byteCountOf text)) (seen + 1) (drop (recordLength (byteCountOf text)) text)
     unfolding checkFrom recordBy

@@ -25,8 +25,8 @@ pub struct LoadResult {
     pub place: usize,
 }
 
-// The digits of a record's data, as a part of the tape, of the record whose `;` stands at `place`; none where no good record
-// stands there.
+// The digits of a record's data, as a part of the tape, of the record whose `;` stands at `place`; none where no good
+// record stands there.
 pub fn record_data(tape: &[u8], place: usize) -> &[u8]
     ensures { λ r. ⌜ now r ≡ dataAt (now (tape .entry)) place ⌝ }
 {

@@ -1,14 +1,14 @@
 // Runs scenarios from standard input, each by single clocks alone, and prints the records that they write.
 //
 // A scenario is a title (lines that begin with `#`), a tape, inputs `+CCCCCCCC KK` (clock and code, in hex) and at last
-// `=NNNN RR` (how many single clocks to do and how many output records are free, in hex). A title has no `;`, `+` or `=`.
-// A scenario begins with the fresh state and a memory of zeros into which the tape is loaded. It prints a line `clock WORD` for each
-// record, then `end K S`: K clocks done, and S the number that ended them, or 0.
+// `=NNNN RR` (how many single clocks to do and how many output records are free, in hex). A title has no `;`, `+` or
+// `=`. A scenario begins with the fresh state and a memory of zeros into which the tape is loaded. It prints a line
+// `clock WORD` for each record, then `end K S`: K clocks done, and S the number that ended them, or 0.
 //
-// The expected output was never made by this program. A scenario's title lines say how its outcome was obtained. "Hand": it was worked
-// out from the documents (which clock starts which instruction, when a counter underflows, when a frame's bits change), and an
-// independent model, written from the documents alone, which does one plain clock after another, gives the same. "By the plain-clock
-// model": by that model alone.
+// The expected output was never made by this program. A scenario's title lines say how its outcome was obtained.
+// "Hand": it was worked out from the documents (which clock starts which instruction, when a counter underflows, when a
+// frame's bits change), and an independent model, written from the documents alone, which does one plain clock after
+// another, gives the same. "By the plain-clock model": by that model alone.
 use cpu_access::halt::Halt;
 use libc::STDIN_FILENO;
 use libc::STDOUT_FILENO;

@@ -1,7 +1,8 @@
 // A case: `:AA XX YY SS PP CCCC NN aaaavv .. AA XX YY SS PP CCCC KK MM aaaavv ..`, all numbers in hex.
 //
-// A, X, Y, SP, P and PC before the instruction; NN bytes of memory that it reads, each an address and a value; the registers after
-// it; KK, its clocks; MM writes that it does, in their order. All other memory is 0, and no address is a register's.
+// A, X, Y, SP, P and PC before the instruction; NN bytes of memory that it reads, each an address and a value; the
+// registers after it; KK, its clocks; MM writes that it does, in their order. All other memory is 0, and no address is
+// a register's.
 ghost use mathlib.Core.Path.{_≡_};
 ghost use mathlib.Core.Bool.{true};
 ghost use Rattle.test_instructions.specs.Instruction.{stepAlone, doneWith};
@@ -40,7 +41,8 @@ struct Placed {
     rest: Cursor,
 }
 
-// What a case says beside the bytes of memory: the registers before and after, how many writes there are and where they begin.
+// What a case says beside the bytes of memory: the registers before and after, how many writes there are and where they
+// begin.
 struct Case {
     first: Cpu,
     last: Cpu,
@@ -162,7 +164,8 @@ fn writes_as(line: &[u8], case: Case, writes: Writes) -> bool {
     true
 }
 
-// Whether the instruction does what a case says, in all: it is the group's, its writes, the state and the whole memory after it.
+// Whether the instruction does what a case says, in all: it is the group's, its writes, the state and the whole memory
+// after it.
 fn holds(line: &[u8], case: Case, opcode: u8, memory: &mut [u8], expected: &[u8]) -> bool
     ensures { λ r. ⌜ (r ≡ true → stepAlone (case .first) (now (memory .entry)) .result ≡ doneWith (case .last)) ⌝ }
     ensures { λ r. ⌜ (r ≡ true → stepAlone (case .first) (now (memory .entry)) .memory ≡ now (expected .entry)) ⌝ }

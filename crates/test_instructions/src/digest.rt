@@ -1,7 +1,7 @@
 // A digest: `+PP AA HHHHHHHH`, all numbers in hex.
 //
-// For P and A before an immediate instruction, the FNV-1a digest of 32 bits over the operands 0 to 255 in order: for each operand the
-// byte A after it, then P after it.
+// For P and A before an immediate instruction, the FNV-1a digest of 32 bits over the operands 0 to 255 in order: for
+// each operand the byte A after it, then P after it.
 ghost use Prim.Native.Nat.{_<_, _^_};
 use crate::instruction::done_with;
 use crate::instruction::step_alone;
@@ -28,7 +28,8 @@ const OFFSET: u32 = 2166136261;
 
 const PRIME: u64 = 16777619;
 
-// The digest so far, and whether each instruction was as an immediate one is: two bytes, two clocks, no register changed but A and P.
+// The digest so far, and whether each instruction was as an immediate one is: two bytes, two clocks, no register
+// changed but A and P.
 struct Sum {
     digest: u32,
     good: bool,

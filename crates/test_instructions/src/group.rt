@@ -13,8 +13,8 @@ pub const GROUP_MARK: u8 = b'=';
 
 const COMMENT_MARK: u8 = b'#';
 
-// Its opcode, its cases and its digests so far. What stands in front of a file's first group, or behind a line that begins one and
-// is not right, is of no known opcode.
+// Its opcode, its cases and its digests so far. What stands in front of a file's first group, or behind a line that
+// begins one and is not right, is of no known opcode.
 pub struct Group {
     pub known: bool,
     pub opcode: u8,
@@ -82,7 +82,8 @@ impl Group {
         self.take_case(line)
     }
 
-    // The rest of its line, whose words are printed already. Of an unknown opcode there are none, and there may be nothing to tell.
+    // The rest of its line, whose words are printed already. Of an unknown opcode there are none, and there may be
+    // nothing to tell.
     pub(crate) fn print(self) {
         if !self.known {
             if self.cases.all == 0 {

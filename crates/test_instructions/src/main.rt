@@ -1,8 +1,10 @@
-// Runs cases of instructions, which another emulator gave, through the single-clock call, and prints for each group of them how many
-// agree. The arguments name the files. A line of a file is empty, or a comment that begins with `#`, or begins a group (group.rt), or is a
-// case of it (case.rt) or a digest of cases (digest.rt). A line that is none of these is a case that does not agree.
+// Runs cases of instructions, which another emulator gave, through the single-clock call, and prints for each group of
+// them how many agree. The arguments name the files. A line of a file is empty, or a comment that begins with `#`, or
+// begins a group (group.rt), or is a case of it (case.rt) or a digest of cases (digest.rt). A line that is none of
+// these is a case that does not agree.
 //
-// The expected output was never made by this program: `expect` counts the lines of the files, of which each has to agree.
+// The expected output was never made by this program: `expect` counts the lines of the files, of which each has to
+// agree.
 ghost use mathlib.Core.Path.{_≡_};
 ghost use Prim.Native.Nat.{_≤_};
 ghost use lib.ListN.{length};

@@ -1,9 +1,10 @@
-// Replays several tapes from standard input, each as the program `replay` does, and prints what each comes to. A `=` stands between
-// two tapes; lines that begin with `#` are titles, which a tape skips.
+// Replays several tapes from standard input, each as the program `replay` does, and prints what each comes to. A `=`
+// stands between two tapes; lines that begin with `#` are titles, which a tape skips.
 //
-// The expected output was never made by this program. It was worked out from the documents, as the titles say (on which clock an
-// instruction starts, when a counter underflows), and an independent model, written from the documents alone, which does one
-// plain clock after another, gives the same. Stop 7 is not among it: 100 clocks write 100 records at most, and so many are free.
+// The expected output was never made by this program. It was worked out from the documents, as the titles say (on which
+// clock an instruction starts, when a counter underflows), and an independent model, written from the documents alone,
+// which does one plain clock after another, gives the same. Stop 7 is not among it: 100 clocks write 100 records at
+// most, and so many are free.
 use libc::STDIN_FILENO;
 use libc::STDOUT_FILENO;
 use replay_text::TEXT_LENGTH;

@@ -54,7 +54,7 @@ cast-t15 c = search needs
 
 returns : tie.Need-returns
 unfolding addDecimal digitSum
-returns c = rw (c .corrected .ensures, c .before .digit8 .ensures, c .before .before .overflow .ensures, c .before .before .before .low-sum .ensures) refl
+returns c = rw (← (c .before .before .before .low-sum .ensures), ← (c .before .before .overflow .ensures), ← (c .before .digit8 .ensures), ← (c .corrected .ensures)) refl
 
 pub add-decimal-spec : {M : Type 1} → statement M
 add-decimal-spec =

@@ -1,4 +1,5 @@
--- `operation_of` meets its contract: each kind by its own number, the last since no number below 14 is left. Assumes nothing.
+-- `operation_of` meets its contract: each kind by its own number, the last since no number below 14 is left. Assumes
+-- nothing.
 use mathlib.Core.Path.{refl, sym}
 use lib.ListN.{List·getD-eq-default}
 use borrow.Author.Needs.{needs}
