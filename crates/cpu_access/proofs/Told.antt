@@ -14,6 +14,7 @@ use Rattle.cpu_access.specs.declared.stack.Writes.{Writes}
 use Rattle.cpu_access.specs.declared.halt.Halt.{Halt}
 use Rattle.cpu_access.specs.declared.halt.Halt.the-variants.{Nowhere, At}
 use Rattle.cpu_access.specs.Stack.{eachWrite}
+use Rattle.cpu_access.specs.Accesses.{inOrder}
 use Rattle.cpu_access.specs.Halt.{isWritten, halts}
 
 -- the writes that there are, in order
@@ -22,6 +23,15 @@ told w = take (w .count) (w .first ∷ w .second ∷ w .third ∷ [])
 
 pub told-three : (w : Writes) → length (told w) ≤ 3
 told-three w = omega (arith, length-take (w .count) (w .first ∷ w .second ∷ w .third ∷ []))
+
+-- of accesses that write at most three bytes just these are told, in order
+pub told-in-order : (ws : List Write) → length ws ≤ 3 → told (inOrder ws) ≡ ws
+unfolding inOrder
+told-in-order [] h = refl
+told-in-order (a ∷ []) h = refl
+told-in-order (a ∷ b ∷ []) h = refl
+told-in-order (a ∷ b ∷ c ∷ []) h = refl
+told-in-order (a ∷ b ∷ c ∷ d ∷ more) h = absurd (omega arith)
 
 -- one after the other
 abbrev pub inTurn : {A : Type 0} → (Write → A → A) → List Write → A → A

@@ -26,6 +26,7 @@ use Rattle.r6501q_step.specs.R6501q.{World, r6501q, chip, machine}
 use Rattle.r6501q_step.proofs.Halted.{toldBy, clockIn}
 use Rattle.r6501q_step.proofs.Examples as clocks
 use Rattle.r6501q_step.proofs.ShiftRegister.{ShiftRegister, shift-register}
+use Rattle.r6501q_step.proofs.AccessOrder.{AccessOrder, access-order}
 use Rattle.r6501q_step.proofs.IndirectJump.{jumpMemory, indirect-jump}
 use Rattle.r6501q_run.proofs.Fair.{first-half}
 
@@ -74,6 +75,9 @@ pub record Examples : Type 0 where
   pub halt-full : clocks.reached (plains (chip (At 0)) 100 (clocks.tapeStart 0)) ≡ 7 ∷ 9 ∷ 0 ∷ 0 ∷ []
   -- 02, U4, JSR with SP 00h: it tells 0000h, then 00FFh
   pub call-told : told (toldBy (clockIn clocks.callingStart)) ≡ writeAt 0x0000 0x00 ∷ writeAt 0x00FF 0x42 ∷ []
+  -- 01, One clock, 4, "All its reads and writes happen now": JSR over its own operand, a port's latch and its levels,
+  -- an entry's pushes, RTI's pulls (r6501q_step/proofs/AccessOrder.antt has the rows)
+  pub access-order : AccessOrder
   -- 02, U5, JMP (02FFh): the low byte of the target is at 02FFh, the high byte at 0200h, and five clocks
   pub indirect-jump : (first last next : ℕ)
       → plains (chip Nowhere) 1 (clocks.startWith (clocks.running 0) (jumpMemory first last next) [] [] [] []) .state .cpu
@@ -108,6 +112,7 @@ examples = record {
   halt-before = clocks.halt-before;
   halt-full = clocks.halt-full;
   call-told = clocks.call-told;
+  access-order = access-order;
   indirect-jump = indirect-jump;
   p7 = first-half;
   p8 = opcodes.p8;

@@ -6,3 +6,4 @@ pub mod Halted
 pub mod Examples
 pub mod ShiftRegister
 pub mod IndirectJump
+pub mod AccessOrder

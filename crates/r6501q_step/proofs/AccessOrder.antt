@@ -1,0 +1,95 @@
+-- The order of an instruction's accesses (01, One clock, 4; the Programming Manual's cycles), of whole clocks.
+use mathlib.Core.Path.{_≡_, refl}
+use mathlib.Core.Bool.{Bool, true, false}
+use mathlib.Core.List.{List, [], _∷_, _++_}
+use Prim.Native.Nat.{ℕ, zero, suc, _+_}
+use Rattle.bits.specs.Bits.{bit}
+use Rattle.bits.specs.Lists.{tabulate}
+use Rattle.bits.specs.Bits.{withBit, setWhere, flipWhere}
+use Rattle.pin_lists.specs.PinLists.{dueCount}
+use Rattle.counters.specs.Counters.{ticksOf, inForce, downA, countsA, clockA, lowerA, upperA, loadCounterA, reloadB, downB, clockB, lowerB, upperB, copyB, loadCounterB, turnToC}
+use Rattle.serial.specs.Format.{transmitterAsynchronous, receiverAsynchronous, receiverShifting, holdsA, keepsTransmitter, keepsReceiver, parityBit, frameBits, sentBits, pace}
+use Rattle.serial.specs.Receiver.{startDetected, withLevel, receivedByte, wrongParity, statusAfter, keptWith, frameEnded, lookTaken, looked, receiveTick, shiftedAtRise, byteEnded, receiveRise, receiverClock, receiverWithSccr}
+use Rattle.serial.specs.Transmitter.{framed, taken, idleTick, frameEnd, nextPhase, ticked, bitTick, sendTick, transmitterClock, line, shiftClock, transmitterWithSccr}
+use Rattle.cpu_opcodes.specs.Decode.{decodeOf}
+use Rattle.cpu_alu.specs.Status.{packed, unpacked, pushed}
+use Rattle.cpu_access.specs.declared.halt.Halt.the-variants.{Nowhere, At}
+use Rattle.cpu_access.specs.Halt.{isWritten, halts}
+use Rattle.cpu_access.proofs.Told.{told}
+use Rattle.cpu_access.specs.Stack.{writeAt}
+use Rattle.cpu_access.specs.Bus.{memoryByte}
+use Rattle.cpu_access.specs.Accesses.{byteAfter, peripheralsRead, peripheralsWritten, valueRead, performed, inOrder}
+use Rattle.cpu_access.specs.Operands.{located}
+use Rattle.cpu_access.specs.Modes.{displacement}
+use Rattle.cpu_operations.specs.Kinds.{withRead, changedBy, byteToStore, branchTaken, bitBranchTaken, byteToPush, withPulled, withRegister, withFlag}
+use Rattle.cpu.specs.Sequence.{completion, storeAt, modifyAccesses, branchOn, bitBranchAccesses, jumpTo, pushAccesses, pullAccesses, returnAccesses, interruptReturnAccesses, entryAccesses, breakAccesses, callAccesses, operationAccesses, instructionAccesses, resetAccesses, interruptAccesses}
+use Rattle.r6501q_cpu.specs.Processor.{wholeInstruction, irqDue, resetStart, nmiStart, irqStart, startOf, processorOf}
+use Rattle.r6501q_state.specs.Control.{flagsOf, modeA, modeB}
+use Rattle.r6501q_state.specs.Inputs.{withInput}
+use Rattle.r6501q_state.specs.Pins.{driveA, driveD, drivenWord, levelsOf, rose, fell, edges, withEdges, resetOf, sensedAt, sensed}
+use Rattle.r6501q_state.specs.State.{fresh}
+use Rattle.r6501q_registers.specs.Read.{portValue, registerValue, afterRead}
+use Rattle.r6501q_registers.specs.Write.{startB, startA, entering, keptFlag, keptFlags, writeOf}
+use Rattle.r6501q_clock.specs.Clock.{withInputs, countA, countB, sentBy, heardBy, worked, readyOf, finished, clockOf}
+use Rattle.r6501q_clock.specs.Commit.{putByte, committed}
+use Rattle.r6501q_state.specs.declared.state.Levels.{Levels}
+use Rattle.r6501q_state.specs.declared.state.State.{State}
+use Rattle.r6501q_state.specs.State.{freshCpu, freshPorts, freshLevels, freshPeripherals}
+use Rattle.r6501q_state.specs.Copies.{flagged, withCounterA, withCounterB, withPeripherals}
+use Rattle.serial.specs.Transmitter.{idleTransmitter}
+use Rattle.r6501q_clock.specs.Clock.{inputsSet}
+use Rattle.leaps.specs.Leaps.{eventsIn, quietEnd, plains, trace, leapCount}
+use Rattle.leaps.specs.World.{putRecord, plainOf, doneIn, eventIn}
+use Rattle.r6501q_gaps.specs.Events.{hasInput, sameLevels, levelsChange, underflowsA, underflowsB, portsFresh, controlFresh, transmitterIdle, receiverIdle, isReset, resetChanges, cpuStarts, eventOf}
+use Rattle.r6501q_step.specs.R6501q.{World, plain, chip}
+use Rattle.r6501q_step.proofs.Halted.{toldBy, clockIn}
+use lib.ListN.{replicate}
+use Rattle.cpu_alu.specs.Shift.{incrementOf}
+use Rattle.bits.specs.Bits.{word}
+use Rattle.r6501q_step.proofs.Examples.{startWith}
+
+-- SP, P, the interrupt flags and enables, and the external levels of the ports; PC 0040h, nothing due, no wait
+abbrev pub readyAt : ℕ → ℕ → ℕ → ℕ → ℕ → State
+readyAt sp p ifr ier ports = record {
+  cpu = record { a = 0; x = 0; y = 0; sp = sp; p = p; pc = 0x40; wait = 0 };
+  due = record { reset = false; nmi = false };
+  peripherals = record {
+    ports = freshPorts;
+    countera = freshPeripherals .countera;
+    counterb = freshPeripherals .counterb;
+    control = record { ifr = ifr; ier = ier; mcr = 0; sccr = 0; scsr = 0x40 };
+    serial = freshPeripherals .serial;
+    transmitter = idleTransmitter;
+    receiver = freshPeripherals .receiver;
+  };
+  external = record { ports = ports; nmi = true; res = true };
+  last = record { ports = ports; nmi = true; res = true };
+  clock = 0;
+}
+
+abbrev pub startAt : State → List ℕ → World
+startAt s program = startWith s (replicate 0x40 0 ++ program) [] [] (0 ∷ []) (0 ∷ [])
+
+pub record AccessOrder : Type 0 where
+  -- JSR with SP at its own last byte: the high byte of the target is the one that was just pushed
+  pub call-over-itself : (l h : ℕ) → plains (chip Nowhere) 1 (startAt (readyAt 0x42 0 0 0 0xFFFFFFFF) (0x20 ∷ l ∷ h ∷ [])) .state .cpu .pc ≡ word 0x00 l
+  -- INC 00h with PA0 held low from outside: the latch FFh is read, not the levels FEh
+  pub modify-by-latch : plains (chip Nowhere) 1 (startAt (readyAt 0xFF 0 0 0 0xFFFFFFFE) (0xE6 ∷ 0x00 ∷ [])) .state .peripherals .ports .a ≡ 0x00
+  -- LDA 00h there: step 1's levels
+  pub read-by-levels : plains (chip Nowhere) 1 (startAt (readyAt 0xFF 0 0 0 0xFFFFFFFE) (0xA5 ∷ 0x00 ∷ [])) .state .cpu .a ≡ 0xFE
+  -- an IRQ entry pushes PC high, PC low, P with bit 5 and not bit 4
+  pub entry-pushes : told (toldBy (clockIn (startAt (readyAt 0xFF 0x01 0x01 0x01 0xFFFFFFFF) [])))
+      ≡ writeAt 0x00FF 0x00 ∷ writeAt 0x00FE 0x40 ∷ writeAt 0x00FD 0x21 ∷ []
+  -- RTI pulls P, then PC, low byte first
+  pub return-pulls : plains (chip Nowhere) 1 (startAt (readyAt 0x42 0 0 0 0xFFFFFFFF) (0x40 ∷ 0 ∷ 0 ∷ 0xC3 ∷ 0x34 ∷ 0x12 ∷ [])) .state .cpu
+      ≡ record { a = 0; x = 0; y = 0; sp = 0x45; p = 0xC3; pc = 0x1234; wait = 5 }
+
+pub access-order : AccessOrder
+unfolding withBit setWhere flipWhere dueCount ticksOf inForce downA countsA clockA lowerA upperA loadCounterA reloadB downB clockB lowerB upperB copyB loadCounterB turnToC transmitterAsynchronous receiverAsynchronous receiverShifting holdsA keepsTransmitter keepsReceiver parityBit frameBits sentBits pace startDetected withLevel receivedByte wrongParity statusAfter keptWith frameEnded lookTaken looked receiveTick shiftedAtRise byteEnded receiveRise receiverClock receiverWithSccr framed taken idleTick frameEnd nextPhase ticked bitTick sendTick transmitterClock line shiftClock transmitterWithSccr decodeOf packed unpacked pushed memoryByte displacement flagsOf modeA modeB withInput driveA driveD drivenWord levelsOf rose fell edges withEdges resetOf sensedAt sensed fresh portValue registerValue afterRead startB startA entering keptFlag keptFlags writeOf wholeInstruction irqDue resetStart nmiStart irqStart startOf processorOf withInputs countA countB sentBy heardBy worked readyOf finished clockOf isWritten halts putByte committed plainOf plains putRecord located byteAfter peripheralsRead peripheralsWritten valueRead performed inOrder completion storeAt modifyAccesses branchOn bitBranchAccesses jumpTo pushAccesses pullAccesses returnAccesses interruptReturnAccesses entryAccesses breakAccesses callAccesses operationAccesses withRead changedBy byteToStore branchTaken bitBranchTaken byteToPush withPulled withRegister withFlag instructionAccesses resetAccesses interruptAccesses incrementOf
+access-order = record {
+  call-over-itself = λ l h. refl;
+  modify-by-latch = refl;
+  read-by-levels = refl;
+  entry-pushes = refl;
+  return-pulls = refl;
+}
