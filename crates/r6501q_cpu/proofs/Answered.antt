@@ -76,7 +76,7 @@ module _ (s : State) (memory : List ℕ) where
       let fits = done-fits registers answers memory (workedOf l ws) (outcome-at answers (over (leaves l) ws) e) in
       let few : inOrder (withStore ws (l .store)) .count ≤ 3 = rw (writes-as (l .store) ws) at (fits .writes) in
       turn-over Undefined s p answers memory (suc n) _ (omega arith) (turn-at p answers (over (leaves l) ws) e)
-      ∙ rw (writes-as (l .store) ws, store-after (s .last .ports) p ws (l .store) few)
+      ∙ rw (writes-as (l .store) ws, store-after (s .last .ports) p ws (l .store) few) refl
 
   asks-from : (n : ℕ) (p : Peripherals) (answers : List ℕ) (latch : Bool) (a : ℕ) (ws : List Write) → turn answers ≡ asks latch a ws
       → instructionFrom Undefined (suc n) s p answers memory
@@ -85,7 +85,7 @@ module _ (s : State) (memory : List ℕ) where
   asks-from n p answers latch a ws e =
       let few = asked-writes registers answers memory _ (outcome-at answers (asks latch a ws) e) in
       turn-answered Undefined s p answers memory (suc n) n _ refl (turn-at p answers (asks latch a ws) e)
-      ∙ rw (all-after (s .last .ports) p ws few)
+      ∙ rw (all-after (s .last .ports) p ws few) refl
 
   bound : (answers : List ℕ) (latch : Bool) (a : ℕ) (ws : List Write) → turn answers ≡ asks latch a ws → length answers < 5
   bound answers latch a ws e = by-length (ltb (length answers) 5) refl

@@ -1,4 +1,4 @@
-use mathlib.Core.Path.{sym}
+use mathlib.Core.Path.{refl}
 use Rattle.r6501q_cpu.proofs.Answered.{reset-answered}
 use borrow.Author.Needs.{needs}
 use Rattle.r6501q_cpu.proofs.start_reset.Statement.{statement}
@@ -23,7 +23,7 @@ next-state-requires c κs = search needs
 
 -- src/lib.rt:171:1
 returns : tie.Need-returns
-returns c = rw (c .next-state .ensures, c .before .reset-entry .ensures, c .before .before .registers-of .ensures) (sym (reset-answered _ _))
+returns c = rw (c .next-state .ensures, c .before .reset-entry .ensures, c .before .before .registers-of .ensures, reset-answered) refl
 
 pub start-reset-spec : {M : Type 1} → statement M
 start-reset-spec =
