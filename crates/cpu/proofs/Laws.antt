@@ -36,7 +36,7 @@ use Rattle.cpu.specs.declared.Outcome.the-variants.{Undefined, Asked, Do
 use Rattle.cpu_operations.specs.declared.Executed.{Executed}
 use Rattle.cpu_operations.specs.declared.Access.{Access}
 use Rattle.cpu_operations.specs.declared.Access.the-variants.{Nothing, Read, Modify, Call}
-use Rattle.cpu_operations.specs.Effects.{withPc, writesOf}
+use Rattle.cpu_operations.specs.Effects.{withPc, pushesOf}
 use Rattle.cpu_operations.specs.Operations.{accessOf, isCall}
 use Rattle.cpu.specs.Instruction.{askWith, outcomeOf, operandByte, operandOf, carriedOut, writesAsked, callTo, subroutineCall, executeOf, decodedTo, instructionOf}
 use Rattle.cpu_operations.proofs.Sound.{Cost, costOf, Sound, work-sound}
@@ -44,7 +44,7 @@ use Rattle.cpu_operations.proofs.Stores.{isStore, stores, Stores, work-stores}
 
 -- an instruction that is done
 pub record Fits (w : Worked) : Type 0 where
-  pub writes : writesOf (w .written) .count ≤ 3
+  pub writes : pushesOf (w .written) .count ≤ 3
   pub least : 2 ≤ w .length
   pub most : w .length ≤ 7
   pub store : isStore (w .written) ≡ true → 3 ≤ w .length
@@ -113,8 +113,8 @@ pushed-writes : (sp pc : ℕ) → pushWord sp pc .count ≤ 3
 unfolding pushWord
 pushed-writes sp pc = lit≤ tt
 
-called-writes : (sp pc : ℕ) → writesOf (Pushed (pushWord sp pc)) .count ≤ 3
-unfolding writesOf
+called-writes : (sp pc : ℕ) → pushesOf (Pushed (pushWord sp pc)) .count ≤ 3
+unfolding pushesOf
 called-writes sp pc = pushed-writes sp pc
 
 asking-writes : (b : Bus) (sp pc : ℕ) → writesAsked b (pushWord sp pc) .count ≤ 3

@@ -3,7 +3,7 @@
 use mathlib.Core.Path.{_≡_, refl, sym, ap, _∙_}
 use mathlib.Core.Bool.{Bool, true, false, not, cond}
 use mathlib.Core.List.{List, [], _∷_, _++_}
-use Prim.Native.Nat.{ℕ, _+_, _%_, _<_}
+use Prim.Native.Nat.{ℕ, _+_, _%_, _<_, _≤_}
 use native.Mathlib.Omega.{arith}
 use lib.Dec.{ltb, eqb}
 use lib.ListN.{length, drop}
@@ -28,6 +28,8 @@ use Rattle.cpu_access.specs.declared.CpuRegisters.{CpuRegisters}
 use Rattle.cpu_access.specs.declared.modes.Place.{Place}
 use Rattle.cpu_access.specs.declared.stack.Write.{Write}
 use Rattle.cpu_access.specs.declared.stack.Writes.{Writes}
+use Rattle.cpu_access.specs.declared.waiting.Waiting.{Waiting}
+use Rattle.cpu_access.specs.declared.waiting.Waiting.the-variants as waiting
 use Rattle.cpu_access.specs.Bus.{memoryByte, nextAddress, irqVector, vectorOf, idle, got, answered, asking, askOf, readOf, fetchOf}
 use Rattle.cpu_access.specs.Stack.{writeAt, noWrites, stackAddress, down, up, pushHigh, pushLow, pushAt, pushWord, pushInterrupt, pullOf, pullWord, writtenOver, readAfter}
 use Rattle.cpu_access.specs.Modes.{relativeTo, locateOf}
@@ -42,30 +44,38 @@ use Rattle.cpu_operations.specs.declared.Written.{Written}
 use Rattle.cpu_operations.specs.declared.Written.the-variants as written
 use Rattle.cpu_operations.specs.Updates.{withSp, withPc, withStatus, intoA}
 use Rattle.cpu_operations.specs.Kinds.{withRead, changedBy, byteToStore, branchTaken, bitBranchTaken, byteToPush, withPulled, withRegister, withFlag}
-use Rattle.cpu_operations.specs.Effects.{writesOf, executed, quiet, completed, stored, modified, branched, branchOperand, bitBranched, jumped, pushedByte, pulledByte, returned, returnedFromInterrupt, interrupted, breakTaken}
+use Rattle.cpu_operations.specs.Effects.{pushesOf, waitingOf, executed, quiet, completed, stored, modified, branched, branchOperand, bitBranched, jumped, pushedByte, pulledByte, returned, returnedFromInterrupt, interrupted, breakTaken}
 use Rattle.cpu_operations.specs.Operations.{accessOf, workOf}
 use Rattle.cpu.specs.declared.Ask.{Ask}
 use Rattle.cpu.specs.declared.Outcome.{Outcome}
 use Rattle.cpu.specs.declared.Outcome.the-variants.{Undefined, Asked, Done}
 use Rattle.cpu.specs.Instruction.{askWith, outcomeOf, operandByte, operandOf, carriedOut, writesAsked, callTo, subroutineCall, executeOf, decodedTo, instructionOf}
-use Rattle.cpu.specs.Sequence.{LastStore, noStore, oneStore, Conclusion, Ending, undefined, leaves, withStore, conclusion, completion, storeAt, storeBack, modifyAccesses, branchOn, bitBranchAccesses, jumpTo, pushAccesses, pullAccesses, returnAccesses, interruptReturnAccesses, entryAccesses, breakAccesses, callAccesses, pastOperand, operationAccesses, opcodeAccesses, instructionAccesses}
+use Rattle.cpu.specs.Sequence.{Conclusion, Ending, undefined, leaves, conclusion, completion, storeAt, storeBack, modifyAccesses, branchOn, bitBranchAccesses, jumpTo, pushAccesses, pullAccesses, returnAccesses, interruptReturnAccesses, entryAccesses, breakAccesses, callAccesses, pastOperand, operationAccesses, opcodeAccesses, instructionAccesses}
 
--- what was asked, or how it ended, as the code has it
-abbrev pub writtenAs : LastStore → List Write → Written
-writtenAs noStore [] = written.Nothing
-writtenAs noStore (w ∷ ws) = written.Pushed (inOrder (w ∷ ws))
-writtenAs (oneStore x) [] = written.Stored x
-writtenAs (oneStore x) (w ∷ ws) = written.Pushed (inOrder (withStore (w ∷ ws) (oneStore x)))
+-- What was asked, or how it ended, as the code has it. Of an instruction that pushes and stores the code has no words,
+-- and there is none: four pushes stand for it, and no instruction has so many (`done-fits`).
+abbrev pub writtenAs : Waiting → List Write → Written
+writtenAs waiting.Nothing [] = written.Nothing
+writtenAs waiting.Nothing (w ∷ ws) = written.Pushed (inOrder (w ∷ ws))
+writtenAs (waiting.Byte x) [] = written.Stored x
+writtenAs (waiting.Byte x) (w ∷ ws) = written.Pushed (inOrder (w ∷ w ∷ w ∷ w ∷ ws))
 
-pub writes-as : (store : LastStore) (pushes : List Write) → writesOf (writtenAs store pushes) ≡ inOrder (withStore pushes store)
-unfolding writesOf inOrder
-writes-as noStore [] = refl
-writes-as noStore (w ∷ ws) = refl
-writes-as (oneStore x) [] = refl
-writes-as (oneStore x) (w ∷ ws) = refl
+pub pushes-as : (store : Waiting) (pushes : List Write) → pushesOf (writtenAs store pushes) .count ≤ 3 → pushesOf (writtenAs store pushes) ≡ inOrder pushes
+unfolding pushesOf inOrder
+pushes-as waiting.Nothing [] h = refl
+pushes-as waiting.Nothing (w ∷ ws) h = refl
+pushes-as (waiting.Byte x) [] h = refl
+pushes-as (waiting.Byte x) (w ∷ ws) h = absurd (omega (arith, h))
+
+pub waiting-as : (store : Waiting) (pushes : List Write) → pushesOf (writtenAs store pushes) .count ≤ 3 → waitingOf (writtenAs store pushes) ≡ store
+unfolding pushesOf waitingOf inOrder
+waiting-as waiting.Nothing [] h = refl
+waiting-as waiting.Nothing (w ∷ ws) h = refl
+waiting-as (waiting.Byte x) [] h = refl
+waiting-as (waiting.Byte x) (w ∷ ws) h = absurd (omega (arith, h))
 
 abbrev pub workedOf : Conclusion → List Write → Worked
-workedOf l pushes = record { registers = l .registers; written = writtenAs (l .store) pushes; length = l .clocks }
+workedOf l pushes = record { registers = l .registers; written = writtenAs (l .waiting) pushes; length = l .clocks }
 
 abbrev pub outcomeFrom : Reply Ending → Outcome
 outcomeFrom (asks latch a ws) = Asked (record { address = a; latch = latch; writes = inOrder ws })

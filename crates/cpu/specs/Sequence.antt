@@ -1,7 +1,6 @@
 -- One whole instruction and the entries by their accesses, in the order of the Programming Manual's cycles, idle ones
 -- left out (01, One clock, 4).
 use mathlib.Core.Bool.{Bool, true, false, cond}
-use mathlib.Core.List.{List, [], _∷_, _++_}
 use Prim.Native.Nat.{ℕ, _+_}
 use Rattle.bits.specs.Bits.{digit, low, high, word}
 use Rattle.cpu_opcodes.specs.Decode.{decodeOf}
@@ -15,7 +14,8 @@ use Rattle.cpu_opcodes.specs.declared.operation.PullOperation.{PullOperation}
 use Rattle.cpu_alu.specs.Status.{unpacked, pushed, withI}
 use Rattle.cpu_alu.specs.declared.Computed.{Computed}
 use Rattle.cpu_access.specs.declared.CpuRegisters.{CpuRegisters}
-use Rattle.cpu_access.specs.declared.stack.Write.{Write}
+use Rattle.cpu_access.specs.declared.waiting.Waiting.{Waiting}
+use Rattle.cpu_access.specs.declared.waiting.Waiting.the-variants.{Nothing, Byte}
 use Rattle.cpu_access.specs.Bus.{nextAddress, resetVector, irqVector}
 use Rattle.cpu_access.specs.Stack.{writeAt, stackAddress, down, up}
 use Rattle.cpu_access.specs.Accesses.{Accesses, ends, reads, writes, _>>=_, _>>_, byteAt, latchAt, wordAt, push}
@@ -23,21 +23,12 @@ use Rattle.cpu_access.specs.Operands.{Located, located, branchTarget}
 use Rattle.cpu_operations.specs.Updates.{withSp, withPc, withStatus, intoA}
 use Rattle.cpu_operations.specs.Kinds.{withRead, changedBy, byteToStore, branchTaken, bitBranchTaken, byteToPush, withPulled, withRegister, withFlag}
 
--- the store of an instruction, which is its last access
-pub data LastStore : Type 0 where
-  noStore : LastStore
-  oneStore : Write → LastStore
-
--- what an instruction or an entry ends with: the registers, its store, and the clocks that it takes
+-- what an instruction or an entry ends with: the registers, the byte of its store, which waits for the last clock, and
+-- the clocks that it takes
 pub record Conclusion : Type 0 where
   pub registers : CpuRegisters
-  pub store : LastStore
+  pub waiting : Waiting
   pub clocks : ℕ
-
--- all its writes: the pushes, then the store
-abbrev pub withStore : List Write → LastStore → List Write
-withStore pushes noStore = pushes
-withStore pushes (oneStore w) = pushes ++ (w ∷ [])
 
 -- an opcode may be undefined
 pub data Ending : Type 0 where
@@ -45,7 +36,7 @@ pub data Ending : Type 0 where
   leaves : Conclusion → Ending
 
 abbrev pub conclusion : CpuRegisters → ℕ → Conclusion
-conclusion r n = record { registers = r; store = noStore; clocks = n }
+conclusion r n = record { registers = r; waiting = Nothing; clocks = n }
 
 -- ---- by kind; n is the length in the opcode's row, p the operand's place
 
@@ -54,7 +45,7 @@ unfoldable pub completion : ℕ → Located → CpuRegisters → Accesses Conclu
 completion n p r = ends (conclusion r (n + digit (p .crossed)))
 
 unfoldable pub storeAt : ℕ → Located → CpuRegisters → ℕ → Accesses Conclusion
-storeAt n p r v = ends (record { registers = r; store = oneStore (writeAt (p .address) v); clocks = n })
+storeAt n p r v = ends (record { registers = r; waiting = Byte (writeAt (p .address) v); clocks = n })
 
 -- a byte that was read and changed goes back to where it came from
 abbrev pub storeBack : ℕ → Located → CpuRegisters → Computed → Accesses Conclusion

@@ -1,6 +1,7 @@
 pub mod Bus
 pub mod Stack
 pub mod Halt
+pub mod Waiting
 pub mod Modes
 pub mod Accesses
 pub mod Operands

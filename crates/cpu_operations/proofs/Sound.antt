@@ -21,7 +21,7 @@ use Rattle.cpu_access.specs.Modes.{relativeTo}
 use Rattle.cpu_access.proofs.Accesses.{fetch-keeps, pull-keeps, pull-word-keeps, relative-keeps}
 use Rattle.cpu_operations.specs.declared.Operand.{Operand}
 use Rattle.cpu_operations.specs.declared.Executed.{Executed}
-use Rattle.cpu_operations.specs.Effects.{withPc, withStatus, intoA, quiet, completed, stored, modified, branched, branchOperand, bitBranched, jumped, pushedByte, pulledByte, returned, returnedFromInterrupt, interrupted, breakTaken, writesOf}
+use Rattle.cpu_operations.specs.Effects.{withPc, withStatus, intoA, quiet, completed, stored, modified, branched, branchOperand, bitBranched, jumped, pushedByte, pulledByte, returned, returnedFromInterrupt, interrupted, breakTaken, pushesOf}
 use Rattle.cpu_operations.specs.Operations.{workOf}
 
 -- the reads so far, with those of an operation, and the clocks that it may add to its entry's length
@@ -70,7 +70,7 @@ costOf operation.Rts = returning
 -- n: the length of the opcode's entry
 pub record Sound (P : ℕ → Bus → Type 0) (k n : ℕ) (c : Cost) (e : Executed) : Type 0 where
   pub bus : P (c .reads k) (e .bus)
-  pub writes : writesOf (e .worked .written) .count ≤ 3
+  pub writes : pushesOf (e .worked .written) .count ≤ 3
   pub least : 2 ≤ n → 2 ≤ e .worked .length
   pub most : n + c .extra ≤ 7 → e .worked .length ≤ 7
 
@@ -78,17 +78,17 @@ module _ (P : ℕ → Bus → Type 0) (answers memory : List ℕ)
     (more : (k : ℕ) (b : Bus) → P k b → P (suc k) b)
     (asks : (k a : ℕ) (latch : Bool) (b : Bus) → isRegister a ≡ true → P k b → P (suc k) (askOf answers a latch b .bus)) where
   completed-sound : (k : ℕ) (o : Operand) (r : CpuRegisters) → P k (o .bus) → Sound P k (o .length) settling (completed o r)
-  unfolding completed writesOf
+  unfolding completed pushesOf
   completed-sound k o r h =
       let d = digit-le (o .crossed) in
       record { bus = h; writes = lit≤ tt; least = λ l. omega arith; most = λ l. omega arith }
 
   stored-sound : (k : ℕ) (o : Operand) (r : CpuRegisters) (v : ℕ) → P k (o .bus) → Sound P k (o .length) plain (stored o r v)
-  unfolding stored writesOf
+  unfolding stored pushesOf
   stored-sound k o r v h = record { bus = h; writes = lit≤ tt; least = λ l. l; most = λ l. omega arith }
 
   quiet-sound : (k n : ℕ) (r : CpuRegisters) (b : Bus) → P k b → Sound P k n plain (quiet r n b)
-  unfolding writesOf
+  unfolding pushesOf
   quiet-sound k n r b h = record { bus = h; writes = lit≤ tt; least = λ l. l; most = λ l. omega arith }
 
   modified-sound : (k : ℕ) (o : Operand) (r : CpuRegisters) (v : Computed) → P k (o .bus) → Sound P k (o .length) plain (modified o r v)
@@ -99,7 +99,7 @@ module _ (P : ℕ → Bus → Type 0) (answers memory : List ℕ)
       (λ t. stored-sound k o (withStatus (v .status) r) (v .value) h)
 
   branched-sound : (k : ℕ) (o : Operand) (r : CpuRegisters) (taken : Bool) → P k (o .bus) → Sound P k (o .length) branching (branched o r taken)
-  unfolding branched writesOf
+  unfolding branched pushesOf
   branched-sound k o r taken h =
       let d = digit-le (o .crossed) in
       cond-both (Sound P k (o .length) branching) taken (quiet (withPc (o .address) r) (o .length + 1 + digit (o .crossed)) (o .bus)) (quiet r (o .length) (o .bus))
@@ -120,21 +120,21 @@ module _ (P : ℕ → Bus → Type 0) (answers memory : List ℕ)
   jumped-sound k o r h = quiet-sound k (o .length) (withPc (o .address) r) (o .bus) h
 
   pushed-sound : (k : ℕ) (o : Operand) (r : CpuRegisters) (v : ℕ) → P k (o .bus) → Sound P k (o .length) plain (pushedByte o r v)
-  unfolding pushedByte writesOf
+  unfolding pushedByte pushesOf
   pushed-sound k o r v h = record { bus = h; writes = lit≤ tt; least = λ l. l; most = λ l. omega arith }
 
   pulled-sound : (k : ℕ) (p : PullOperation) (o : Operand) (r : CpuRegisters) → P k (o .bus) → Sound P k (o .length) pulling (pulledByte answers memory p o r)
-  unfolding pulledByte writesOf
+  unfolding pulledByte pushesOf
   pulled-sound k p o r h =
       record { bus = pull-keeps P answers memory more asks k (r .sp) (o .bus) h; writes = lit≤ tt; least = λ l. l; most = λ l. omega arith }
 
   returned-sound : (k : ℕ) (o : Operand) (r : CpuRegisters) → P k (o .bus) → Sound P k (o .length) returning (returned answers memory o r)
-  unfolding returned writesOf
+  unfolding returned pushesOf
   returned-sound k o r h =
       record { bus = pull-word-keeps P answers memory more asks k (r .sp) (o .bus) h; writes = lit≤ tt; least = λ l. l; most = λ l. omega arith }
 
   returnedFromInterrupt-sound : (k : ℕ) (o : Operand) (r : CpuRegisters) → P k (o .bus) → Sound P k (o .length) resuming (returnedFromInterrupt answers memory o r)
-  unfolding returnedFromInterrupt writesOf
+  unfolding returnedFromInterrupt pushesOf
   returnedFromInterrupt-sound k o r h =
       let p = pullOf answers memory (r .sp) (o .bus) in
       record {
@@ -145,7 +145,7 @@ module _ (P : ℕ → Bus → Type 0) (answers memory : List ℕ)
       }
 
   breakTaken-sound : (k : ℕ) (o : Operand) (r : CpuRegisters) → P k (o .bus) → Sound P k (o .length) plain (breakTaken memory o r)
-  unfolding breakTaken interrupted pushInterrupt writesOf
+  unfolding breakTaken interrupted pushInterrupt pushesOf
   breakTaken-sound k o r h = record { bus = h; writes = lit≤ tt; least = λ l. lit≤ tt; most = λ l. lit≤ tt }
 
   pub work-sound : (op : Operation) (k : ℕ) (r : CpuRegisters) (o : Operand) → P k (o .bus) → Sound P k (o .length) (costOf op) (workOf answers memory op r o)

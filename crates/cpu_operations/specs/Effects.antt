@@ -14,6 +14,8 @@ use Rattle.cpu_access.specs.declared.modes.Place.{Place}
 use Rattle.cpu_access.specs.declared.stack.Writes.{Writes}
 use Rattle.cpu_access.specs.declared.stack.Pulled.{Pulled}
 use Rattle.cpu_access.specs.declared.stack.PulledWord.{PulledWord}
+use Rattle.cpu_access.specs.declared.waiting.Waiting.{Waiting}
+use Rattle.cpu_access.specs.declared.waiting.Waiting.the-variants as waiting
 use Rattle.cpu_access.specs.Bus.{irqVector, nextAddress, vectorOf, fetchOf}
 use Rattle.cpu_access.specs.Stack.{writeAt, noWrites, oneWrite, down, pushAt, pushInterrupt, pullOf, pullWord}
 use Rattle.cpu_access.specs.Modes.{relativeTo}
@@ -26,11 +28,17 @@ use Rattle.cpu_operations.specs.declared.Executed.{Executed}
 pub use Rattle.cpu_operations.specs.Updates.{withSp, withPc, withStatus, intoA, intoX, intoY, loadA, loadX, loadY}
 use Rattle.cpu_operations.specs.Kinds.{withPulled}
 
--- what is written in order, each write once: the pushes, or the store
-unfoldable pub writesOf : Written → Writes
-writesOf Nothing = noWrites
-writesOf (Pushed w) = w
-writesOf (Stored x) = oneWrite x
+-- what is written on the first clock, in order: the pushes
+unfoldable pub pushesOf : Written → Writes
+pushesOf Nothing = noWrites
+pushesOf (Pushed w) = w
+pushesOf (Stored x) = noWrites
+
+-- what waits for the last clock: the store
+unfoldable pub waitingOf : Written → Waiting
+waitingOf Nothing = waiting.Nothing
+waitingOf (Pushed w) = waiting.Nothing
+waitingOf (Stored x) = waiting.Byte x
 
 unfoldable pub writesNothing : Written → Bool
 writesNothing Nothing = true

@@ -1,14 +1,14 @@
 // What each operation does: how it uses the byte at its operand's address, and what it leaves.
 ghost use mathlib.Core.Path.{_≡_};
 ghost use Prim.Native.Nat.{_≤_};
-ghost use Rattle.cpu_operations.specs.Effects.{writesOf, writesNothing};
+ghost use Rattle.cpu_operations.specs.Effects.{pushesOf, waitingOf, writesNothing};
 ghost use Rattle.cpu_operations.specs.Operations.{accessOf, isCall, workOf};
 use cpu_access::Bus;
 use cpu_access::CpuRegisters;
 use cpu_access::stack::Write;
 use cpu_access::stack::Writes;
 use cpu_access::stack::no_writes;
-use cpu_access::stack::one_write;
+use cpu_access::waiting::Waiting;
 use cpu_opcodes::operation::Operation;
 use effects::bit_branched;
 use effects::branched;
@@ -73,14 +73,25 @@ pub enum Access {
     Call,
 }
 
-// The writes in their order, pushes or store.
-pub fn writes_of(written: Written) -> Writes
-    ensures { λ r. ⌜ r ≡ writesOf written ⌝ }
+// The pushes in their order.
+pub fn pushes_of(written: Written) -> Writes
+    ensures { λ r. ⌜ r ≡ pushesOf written ⌝ }
 {
     match written {
         Written::Nothing => no_writes(),
         Written::Pushed(pushes) => pushes,
-        Written::Stored(store) => one_write(store.address, store.value),
+        Written::Stored(_) => no_writes(),
+    }
+}
+
+// The store, which waits for the last clock.
+pub fn waiting_of(written: Written) -> Waiting
+    ensures { λ r. ⌜ r ≡ waitingOf written ⌝ }
+{
+    match written {
+        Written::Nothing => Waiting::Nothing,
+        Written::Pushed(_) => Waiting::Nothing,
+        Written::Stored(store) => Waiting::Byte(store),
     }
 }
 

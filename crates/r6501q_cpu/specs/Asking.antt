@@ -14,7 +14,7 @@ use Rattle.cpu_access.specs.declared.stack.Writes.{Writes}
 use Rattle.memory.specs.Memory.{isRegister}
 use Rattle.cpu_access.specs.Stack.{eachWrite}
 use Rattle.cpu_operations.specs.declared.Worked.{Worked}
-use Rattle.cpu_operations.specs.Effects.{writesOf}
+use Rattle.cpu_operations.specs.Effects.{pushesOf, waitingOf}
 use Rattle.cpu.specs.declared.Ask.{Ask}
 use Rattle.cpu.specs.declared.Outcome.{Outcome}
 use Rattle.cpu.specs.declared.Outcome.the-variants as outcome
@@ -43,18 +43,18 @@ answerOf p levels ask = record {
   peripherals = afterRead p (ask .address);
 }
 
--- the state after an entry or an instruction, and its writes, which are done with its end
+-- the state after the first clock of an entry or an instruction, and its pushes, which are done with its end
 abbrev pub nextOf : State → Due → Peripherals → Worked → Next
 nextOf s due p w = record {
   state = record {
-    cpu = cpuOf (w .registers) (w .length - 1);
+    cpu = cpuOf (w .registers) (w .length - 1) (waitingOf (w .written));
     due = due;
-    peripherals = registersAfter p (writesOf (w .written));
+    peripherals = registersAfter p (pushesOf (w .written));
     external = s .external;
     last = s .last;
     clock = s .clock;
   };
-  writes = writesOf (w .written);
+  writes = pushesOf (w .written);
 }
 
 -- what an instruction comes to with the answers so far: it is undefined, it is done, or it asks, and is answered

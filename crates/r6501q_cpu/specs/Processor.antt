@@ -2,14 +2,14 @@
 use mathlib.Core.Bool.{Bool, true, false, _&&_, not, cond}
 use mathlib.Core.List.{List, []}
 use Prim.Native.Nat.{ℕ, _-_}
-use lib.Dec.{ltb}
+use lib.Dec.{ltb, eqb}
 use Rattle.bits.specs.Bits.{bit}
 use Rattle.cpu_alu.specs.Status.{packed, unpacked}
 use Rattle.r6501q_state.specs.declared.state.Cpu.{Cpu}
 use Rattle.r6501q_state.specs.declared.state.Due.{Due}
 use Rattle.r6501q_state.specs.declared.state.Peripherals.{Peripherals}
 use Rattle.r6501q_state.specs.declared.state.State.{State}
-use Rattle.r6501q_state.specs.Pins.{atWait}
+use Rattle.r6501q_state.specs.Copies.{waitingAt, withWait}
 use Rattle.r6501q_state.specs.Control.{pending}
 use Rattle.r6501q_registers.specs.Read.{registerValue, afterRead}
 use Rattle.r6501q_registers.specs.Write.{writeOf}
@@ -17,9 +17,11 @@ use Rattle.cpu_access.specs.declared.CpuRegisters.{CpuRegisters}
 use Rattle.cpu_access.specs.declared.stack.Write.{Write}
 use Rattle.cpu_access.specs.Bus.{memoryByte, nmiVector, irqVector}
 use Rattle.memory.specs.Memory.{isRegister}
-use Rattle.cpu_access.specs.Stack.{noWrites}
+use Rattle.cpu_access.specs.Stack.{noWrites, oneWrite}
+use Rattle.cpu_access.specs.declared.waiting.Waiting.{Waiting}
+use Rattle.cpu_access.specs.declared.waiting.Waiting.the-variants.{Nothing, Byte}
 use Rattle.cpu_access.specs.Accesses.{Accesses, RegisterFile, Performed, peripheralsWritten, performed, inOrder}
-use Rattle.cpu.specs.Sequence.{LastStore, noStore, oneStore, Conclusion, Ending, undefined, leaves, withStore, instructionAccesses, resetAccesses, interruptAccesses}
+use Rattle.cpu.specs.Sequence.{Conclusion, Ending, undefined, leaves, instructionAccesses, resetAccesses, interruptAccesses}
 use Rattle.r6501q_cpu.specs.declared.Next.{Next}
 use Rattle.r6501q_cpu.specs.declared.Processed.{Processed}
 use Rattle.r6501q_cpu.specs.declared.Processed.the-variants.{Undefined, Done}
@@ -28,9 +30,10 @@ use Rattle.r6501q_cpu.specs.declared.Processed.the-variants.{Undefined, 
 abbrev pub registersOf : Cpu → CpuRegisters
 registersOf c = record { a = c .a; x = c .x; y = c .y; sp = c .sp; pc = c .pc; status = unpacked (c .p) }
 
--- and back, with the clocks still to wait
-abbrev pub cpuOf : CpuRegisters → ℕ → Cpu
-cpuOf r wait = record { a = r .a; x = r .x; y = r .y; sp = r .sp; p = packed (r .status); pc = r .pc; wait = wait }
+-- and back, with the clocks still to wait, and the byte that waits
+abbrev pub cpuOf : CpuRegisters → ℕ → Waiting → Cpu
+cpuOf r wait waiting =
+    record { a = r .a; x = r .x; y = r .y; sp = r .sp; p = packed (r .status); pc = r .pc; wait = wait; waiting = waiting }
 
 -- the register file, with step 1's levels
 abbrev pub registerFile : ℕ → RegisterFile Peripherals
@@ -40,27 +43,26 @@ registerFile levels = record {
   afterWrite = writeOf;
 }
 
--- "All its reads and writes happen now, each once"
+-- ---- the first clock
+
+-- "All its reads and writes happen now, each once": the reads, and the pushes (02, U6: "Stack pushes remain on the first
+-- clock.")
 abbrev pub performedIn : {A : Type 0} → State → List ℕ → Accesses A → Performed Peripherals A
 performedIn s memory t = performed (registerFile (s .last .ports)) memory (s .peripherals) [] t
 
--- the store, if there is one, comes last
-abbrev pub afterStore : ℕ → Peripherals → LastStore → Peripherals
-afterStore levels p noStore = p
-afterStore levels p (oneStore w) = peripheralsWritten (registerFile levels) p (w .address) (w .value)
-
--- the state after an entry or an instruction, and its writes; "Wait becomes the length minus 1."
+-- the state after the first clock of an entry or an instruction, and its pushes; "Wait becomes the length minus 1.";
+-- 02, U6: "The state then holds one byte waiting, with its address, or none."
 abbrev pub nextAfter : State → Due → Performed Peripherals Conclusion → Next
 nextAfter s due x = record {
   state = record {
-    cpu = cpuOf (x .end .registers) (x .end .clocks - 1);
+    cpu = cpuOf (x .end .registers) (x .end .clocks - 1) (x .end .waiting);
     due = due;
-    peripherals = afterStore (s .last .ports) (x .peripherals) (x .end .store);
+    peripherals = x .peripherals;
     external = s .external;
     last = s .last;
     clock = s .clock;
   };
-  writes = inOrder (withStore (x .writes) (x .end .store));
+  writes = inOrder (x .writes);
 }
 
 abbrev pub processedBy : State → Peripherals → List Write → Ending → Processed
@@ -109,12 +111,36 @@ startOf s memory =
 abbrev pub withoutWrites : State → Processed
 withoutWrites s = Done (record { state = s; writes = noWrites })
 
-abbrev pub withWait : State → ℕ → State
-withWait s w = record { cpu = atWait (s .cpu) w; due = s .due; peripherals = s .peripherals; external = s .external; last = s .last; clock = s .clock }
+-- ---- the clocks after the first
 
--- "CPU, if RES is high. With wait above 0: wait minus 1."
+-- "With wait above 0: wait minus 1."
+abbrev pub waitLess : State → Processed
+waitLess s = withoutWrites (withWait s (s .cpu .wait - 1))
+
+-- 02, U6: "Let a store or a read-modify-write put its byte on its last clock, after counters and serial."
+unfoldable pub bytePut : State → Write → Next
+bytePut s w = record {
+  state = record {
+    cpu = waitingAt (s .cpu) 0 Nothing;
+    due = s .due;
+    peripherals = peripheralsWritten (registerFile (s .last .ports)) (s .peripherals) (w .address) (w .value);
+    external = s .external;
+    last = s .last;
+    clock = s .clock;
+  };
+  writes = oneWrite w;
+}
+
+-- the last clock is that with wait 1
+abbrev pub waitedBy : State → Waiting → Processed
+waitedBy s Nothing = waitLess s
+waitedBy s (Byte w) = cond (eqb (s .cpu .wait) 1) (Done (bytePut s w)) (waitLess s)
+
+-- ---- step 4
+
+-- "CPU, if RES is high. With wait above 0: wait minus 1." "Otherwise start"
 unfoldable pub processorOf : State → List ℕ → Processed
 processorOf s memory =
     cond (s .last .res)
-    (cond (ltb 0 (s .cpu .wait)) (withoutWrites (withWait s (s .cpu .wait - 1))) (startOf s memory))
+    (cond (ltb 0 (s .cpu .wait)) (waitedBy s (s .cpu .waiting)) (startOf s memory))
     (withoutWrites s)

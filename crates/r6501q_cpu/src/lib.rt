@@ -1,9 +1,9 @@
 // Step 4 of a clock: the CPU on the state that steps 1 to 3 leave. Nothing is written to memory here.
 ghost use mathlib.Core.Path.{_≡_};
 ghost use mathlib.Core.List.{[]};
-ghost use Prim.Native.Nat.{_≤_};
+ghost use Prim.Native.Nat.{_<_};
 ghost use Rattle.cpu_opcodes.specs.Table.{opcodeTable};
-ghost use Rattle.r6501q_cpu.specs.Processor.{registersOf, cpuOf, irqDue, resetStart, nmiStart, irqStart, startOf, withoutWrites, withWait, processorOf};
+ghost use Rattle.r6501q_cpu.specs.Processor.{registersOf, cpuOf, irqDue, resetStart, nmiStart, irqStart, startOf, withoutWrites, waitLess, bytePut, waitedBy, processorOf};
 ghost use Rattle.r6501q_cpu.specs.Asking.{putRegister, registersAfter, answerOf, nextOf, turnOf, instructionFrom, answeredInstruction};
 use cpu::Ask;
 use cpu::Outcome;
@@ -16,9 +16,12 @@ use cpu_access::NMI_VECTOR;
 use cpu_access::stack::Write;
 use cpu_access::stack::Writes;
 use cpu_access::stack::no_writes;
+use cpu_access::stack::one_write;
+use cpu_access::waiting::Waiting;
 use cpu_alu::Status;
 use cpu_operations::Worked;
-use cpu_operations::writes_of;
+use cpu_operations::pushes_of;
+use cpu_operations::waiting_of;
 use memory::is_register;
 use r6501q_registers::read::Reading;
 use r6501q_state::state::Cpu;
@@ -65,9 +68,9 @@ pub fn registers_of(c: Cpu) -> CpuRegisters
     }
 }
 
-// The registers kept, and the clocks still to wait.
-pub fn cpu_of(r: CpuRegisters, wait: u8) -> Cpu
-    ensures { λ x. ⌜ x ≡ cpuOf r wait ⌝ }
+// The registers kept, the clocks still to wait, and the byte that waits.
+pub fn cpu_of(r: CpuRegisters, wait: u8, waiting: Waiting) -> Cpu
+    ensures { λ x. ⌜ x ≡ cpuOf r wait waiting ⌝ }
 {
     Cpu {
         a: r.a,
@@ -77,6 +80,7 @@ pub fn cpu_of(r: CpuRegisters, wait: u8) -> Cpu
         p: r.status.pack(),
         pc: r.pc,
         wait: wait,
+        waiting: waiting,
     }
 }
 
@@ -117,13 +121,13 @@ fn answer(p: Peripherals, levels: u32, ask: Ask) -> Reading
     }
 }
 
-// The state after an entry or an instruction.
+// The state after the first clock of an entry or an instruction.
 fn next_state(s: State, due: Due, p: Peripherals, w: Worked) -> Next
     ensures { λ r. ⌜ r ≡ nextOf s due p w ⌝ }
 {
     let written = w.written;
-    let cpu = cpu_of(w.registers, bits::one_less(w.length));
-    let writes = writes_of(written);
+    let cpu = cpu_of(w.registers, bits::one_less(w.length), waiting_of(written));
+    let writes = pushes_of(written);
     let peripherals = registers_after(p, writes);
     let mut state = s;
     state.cpu = cpu;
@@ -236,6 +240,51 @@ fn without_writes(s: State) -> Processed
     })
 }
 
+// A clock less to wait.
+fn wait_less(s: State) -> Processed
+    requires { ⌜ 0 < s .cpu .wait ⌝ }
+    ensures { λ r. ⌜ r ≡ waitLess s ⌝ }
+{
+    let mut state = s;
+    let wait = s.cpu.wait - 1;
+    state.cpu.wait = wait;
+    without_writes(state)
+}
+
+// The last clock of a store: its byte is put.
+fn put_byte(s: State, w: Write) -> Next
+    ensures { λ r. ⌜ r ≡ bytePut s w ⌝ }
+{
+    let peripherals = put_register(true, w, s.peripherals);
+    let writes = one_write(w.address, w.value);
+    let none = Waiting::Nothing;
+    let mut state = s;
+    state.cpu.wait = 0;
+    state.cpu.waiting = none;
+    state.peripherals = peripherals;
+    Next {
+        state: state,
+        writes: writes,
+    }
+}
+
+// A clock after the first.
+fn wait_on(s: State) -> Processed
+    requires { ⌜ 0 < s .cpu .wait ⌝ }
+    ensures { λ r. ⌜ r ≡ waitedBy s (s .cpu .waiting) ⌝ }
+{
+    let waiting = s.cpu.waiting;
+    match waiting {
+        Waiting::Nothing => wait_less(s),
+        Waiting::Byte(w) => {
+            if s.cpu.wait == 1 {
+                return Processed::Done(put_byte(s, w));
+            }
+            wait_less(s)
+        }
+    }
+}
+
 // The CPU's part of a clock. `entries` is what `cpu_opcodes::opcode_table` gave.
 pub fn process(s: State, memory: &[u8], entries: &[u16]) -> Processed
     requires { ⌜ now entries ≡ opcodeTable ⌝ }
@@ -243,10 +292,7 @@ pub fn process(s: State, memory: &[u8], entries: &[u16]) -> Processed
 {
     if s.last.res {
         if 0 < s.cpu.wait {
-            let mut state = s;
-            let wait = s.cpu.wait - 1;
-            state.cpu.wait = wait;
-            return without_writes(state);
+            return wait_on(s);
         }
         return start(s, memory, entries);
     }

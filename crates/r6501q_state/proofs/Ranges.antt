@@ -1,15 +1,17 @@
 -- Everything here takes well-formed states to well-formed states.
 use mathlib.Core.Path.{_≡_, refl}
-use mathlib.Core.Bool.{Bool, true, false, _&&_}
+use mathlib.Core.Bool.{Bool, true, false, _&&_, not}
 use Prim.Native.Nat.{ℕ, _/_, _%_, _<_}
 use native.Mathlib.Omega.{arith}
 use lib.Dec.{leb, ltb, eqb}
-use borrow.Author.Tests.{ltb-true, lt-ltb}
+use borrow.Author.Tests.{ltb-true, lt-ltb, not-true}
 use Rattle.bits.specs.Bits.{withBit, setWhere}
 use Rattle.bits.proofs.Cond.{and-left, and-right, and-both, cond-both}
 use Rattle.bits.proofs.Bits.{bit-room}
 use Rattle.serial.specs.Transmitter.{transmitterFits}
 use Rattle.serial.specs.Receiver.{receiverFits}
+use Rattle.cpu_access.specs.Waiting.{byteWaits}
+use Rattle.r6501q_state.specs.declared.state.Cpu.{Cpu}
 use Rattle.r6501q_state.specs.declared.state.Peripherals.{Peripherals}
 use Rattle.r6501q_state.specs.declared.state.Levels.{Levels}
 use Rattle.r6501q_state.specs.declared.state.State.{State}
@@ -51,9 +53,30 @@ pub formed : (s : State) → cpuFits (s .cpu) ≡ true → peripheralsFit (s .pe
 unfolding wellFormed
 formed s e f = and-both (cpuFits (s .cpu)) (peripheralsFit (s .peripherals)) e f
 
+-- the CPU's ranges one by one
+pub record InCpu (c : Cpu) : Type 0 where
+  pub status : eqb (c .p / 16 % 4) 0 ≡ true
+  pub wait : leb (c .wait) 6 ≡ true
+  pub waits : byteWaits (c .waiting) && eqb (c .wait) 0 ≡ false
+
+pub in-cpu : (c : Cpu) → cpuFits c ≡ true → InCpu c
+in-cpu c e =
+    let status = eqb (c .p / 16 % 4) 0 in
+    let wait = leb (c .wait) 6 in
+    let waits = byteWaits (c .waiting) && eqb (c .wait) 0 in
+    let both = and-left (status && wait) (not waits) e in
+    record {
+      status = and-left status wait both;
+      wait = and-right status wait both;
+      waits = not-true waits (and-right (status && wait) (not waits) e);
+    }
+
+pub fit-cpu : (c : Cpu) → InCpu c → cpuFits c ≡ true
+fit-cpu c i = rw (i .status, i .wait, i .waits) refl
+
 -- 01, Machine state: "Fresh"
 pub fresh-formed : wellFormed fresh ≡ true
-unfolding wellFormed fresh
+unfolding wellFormed fresh byteWaits
 fresh-formed = refl
 
 -- 01, One clock, 1: an input sets an external level, on which the ranges do not hang
@@ -85,9 +108,8 @@ withEdges-formed s now e =
 
 -- RES low
 pub reset-formed : (s : State) → wellFormed s ≡ true → wellFormed (resetOf s) ≡ true
-unfolding resetOf
-reset-formed s e =
-    formed (resetOf s) (and-both _ _ (and-left (eqb (s .cpu .p / 16 % 4) 0) (leb (s .cpu .wait) 6) (formed-cpu s e)) refl) refl
+unfolding resetOf byteWaits
+reset-formed s e = let c = in-cpu (s .cpu) (formed-cpu s e) in formed (resetOf s) (rw (c .status) refl) refl
 
 -- step 1
 pub sensed-formed : (s : State) → wellFormed s ≡ true → wellFormed (sensed s) ≡ true

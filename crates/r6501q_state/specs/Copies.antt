@@ -1,5 +1,6 @@
 -- Records with one part set anew, all others kept: what antt has no shorter way to write. No rule stands here.
 use Prim.Native.Nat.{ℕ}
+use Rattle.cpu_access.specs.declared.waiting.Waiting.{Waiting}
 use Rattle.counters.specs.declared.a.CounterA.{CounterA}
 use Rattle.counters.specs.declared.b.CounterB.{CounterB}
 use Rattle.serial.specs.declared.transmitter.Transmitter.{Transmitter}
@@ -10,8 +11,12 @@ use Rattle.r6501q_state.specs.declared.state.Control.{Control}
 use Rattle.r6501q_state.specs.declared.state.Peripherals.{Peripherals}
 use Rattle.r6501q_state.specs.declared.state.State.{State}
 
+-- the clocks to wait, and the byte that waits
+abbrev pub waitingAt : Cpu → ℕ → Waiting → Cpu
+waitingAt c n w = record { a = c .a; x = c .x; y = c .y; sp = c .sp; p = c .p; pc = c .pc; wait = n; waiting = w }
+
 abbrev pub atWait : Cpu → ℕ → Cpu
-atWait c w = record { a = c .a; x = c .x; y = c .y; sp = c .sp; p = c .p; pc = c .pc; wait = w }
+atWait c n = waitingAt c n (c .waiting)
 
 abbrev pub withPortA : Ports → ℕ → Ports
 withPortA p v = record { a = v; b = p .b; c = p .c; d = p .d }
@@ -109,3 +114,16 @@ withPeripherals s p = record {
   last = s .last;
   clock = s .clock;
 }
+
+abbrev pub withCpu : State → Cpu → State
+withCpu s c = record {
+  cpu = c;
+  due = s .due;
+  peripherals = s .peripherals;
+  external = s .external;
+  last = s .last;
+  clock = s .clock;
+}
+
+abbrev pub withWait : State → ℕ → State
+withWait s n = withCpu s (atWait (s .cpu) n)

@@ -3,6 +3,7 @@ use mathlib.Core.Bool.{Bool, true, false, _&&_, _||_, not, cond}
 use Prim.Native.Nat.{ℕ, _+_, _*_}
 use lib.Bits.{bitAnd}
 use Rattle.bits.specs.Bits.{bit, withBit, setWhere}
+use Rattle.cpu_access.specs.declared.waiting.Waiting.the-variants.{Nothing}
 use Rattle.serial.specs.declared.transmitter.Transmitter.{Transmitter}
 use Rattle.serial.specs.Format.{transmitterShifts}
 use Rattle.serial.specs.Transmitter.{line, shiftClock, idleTransmitter}
@@ -12,8 +13,7 @@ use Rattle.r6501q_state.specs.declared.state.Peripherals.{Peripherals}
 use Rattle.r6501q_state.specs.declared.state.Levels.{Levels}
 use Rattle.r6501q_state.specs.declared.state.State.{State}
 use Rattle.r6501q_state.specs.State.{freshPorts, freshControl}
-use Rattle.r6501q_state.specs.Copies.{flagged}
-pub use Rattle.r6501q_state.specs.Copies.{atWait}
+use Rattle.r6501q_state.specs.Copies.{waitingAt, flagged}
 
 -- 02, U1, of a transmitter in shift-register mode: "PA4's drive is its clock"
 abbrev pub withShiftClock : ℕ → Transmitter → ℕ → ℕ
@@ -85,10 +85,11 @@ resetPeripherals p = record {
   receiver = idleReceiver;
 }
 
--- "RES low puts the fresh values ..., drops NMI due, sets wait to 0 and makes reset due."
+-- "RES low puts the fresh values ..., drops NMI due, sets wait to 0 and makes reset due."; 02, U6: "RES low drops a
+-- waiting byte."
 unfoldable pub resetOf : State → State
 resetOf s = record {
-  cpu = atWait (s .cpu) 0;
+  cpu = waitingAt (s .cpu) 0 Nothing;
   due = record { reset = true; nmi = false };
   peripherals = resetPeripherals (s .peripherals);
   external = s .external;

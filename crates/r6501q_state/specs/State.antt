@@ -1,7 +1,9 @@
 -- Document 01, "Machine state".
-use mathlib.Core.Bool.{Bool, true, false, _&&_}
+use mathlib.Core.Bool.{Bool, true, false, _&&_, not}
 use Prim.Native.Nat.{ℕ, _/_, _%_}
 use lib.Dec.{leb, ltb, eqb}
+use Rattle.cpu_access.specs.declared.waiting.Waiting.the-variants.{Nothing}
+use Rattle.cpu_access.specs.Waiting.{byteWaits}
 use Rattle.serial.specs.Transmitter.{idleTransmitter, transmitterFits}
 use Rattle.serial.specs.Receiver.{idleReceiver, receiverFits}
 use Rattle.r6501q_state.specs.declared.state.Cpu.{Cpu}
@@ -12,9 +14,9 @@ use Rattle.r6501q_state.specs.declared.state.Peripherals.{Peripherals}
 use Rattle.r6501q_state.specs.declared.state.Levels.{Levels}
 use Rattle.r6501q_state.specs.declared.state.State.{State}
 
--- "Fresh: A, X, Y, PC, wait 0; SP FFh; P with I set alone"
+-- "Fresh: A, X, Y, PC, wait 0; SP FFh; P with I set alone"; no byte waits (02, U6)
 abbrev pub freshCpu : Cpu
-freshCpu = record { a = 0; x = 0; y = 0; sp = 0xFF; p = 0x04; pc = 0; wait = 0 }
+freshCpu = record { a = 0; x = 0; y = 0; sp = 0xFF; p = 0x04; pc = 0; wait = 0; waiting = Nothing }
 
 -- "reset due, NMI not"
 abbrev pub freshDue : Due
@@ -55,9 +57,10 @@ fresh = record {
   clock = 0;
 }
 
--- "wait (0 to 6)"; "Bits 4 and 5 of P are 0"
+-- "wait (0 to 6)"; "Bits 4 and 5 of P are 0"; and the one rule across fields, 02, U6: "A byte waiting with wait 0 isn't
+-- well-formed."
 abbrev pub cpuFits : Cpu → Bool
-cpuFits c = eqb (c .p / 16 % 4) 0 && leb (c .wait) 6
+cpuFits c = eqb (c .p / 16 % 4) 0 && leb (c .wait) 6 && not (byteWaits (c .waiting) && eqb (c .wait) 0)
 
 -- "IFR bits 0 to 5", and the serial progress
 abbrev pub peripheralsFit : Peripherals → Bool

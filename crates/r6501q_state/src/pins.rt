@@ -7,6 +7,7 @@ use crate::state::Peripherals;
 use crate::state::State;
 use crate::state::fresh_control;
 use crate::state::fresh_ports;
+use cpu_access::waiting::Waiting;
 use serial::format::transmitter_on;
 use serial::format::transmitter_shifts;
 use serial::receiver::idle_receiver;
@@ -133,7 +134,8 @@ impl State {
         ensures { λ r. ⌜ r ≡ resetOf self ⌝ }
     {
         let peripherals = self.peripherals.reset();
-        self.cpu.wait = 0;
+        let cpu = self.cpu.waiting_at(0, Waiting::Nothing);
+        self.cpu = cpu;
         self.due.reset = true;
         self.due.nmi = false;
         self.peripherals = peripherals;

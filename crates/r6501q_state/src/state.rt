@@ -1,15 +1,17 @@
 // The machine state (document 01, "Machine state"): nested structs by value.
 ghost use mathlib.Core.Path.{_≡_};
+ghost use Rattle.r6501q_state.specs.Copies.{waitingAt};
 ghost use Rattle.r6501q_state.specs.State.{freshCpu, freshPorts, freshControl, freshPeripherals, freshLevels, fresh, wellFormed};
 use counters::a::CounterA;
 use counters::b::CounterB;
+use cpu_access::waiting::Waiting;
+use cpu_access::waiting::byte_waits;
 use serial::receiver::Receiver;
 use serial::receiver::idle_receiver;
 use serial::transmitter::Transmitter;
 use serial::transmitter::idle_transmitter;
 
-// The CPU's registers, and the clocks that the present instruction still takes.
-#[repr(C)]
+// The CPU's registers, the clocks that the present instruction still takes, and the byte that it puts on the last.
 pub struct Cpu {
     pub a: u8,
     pub x: u8,
@@ -18,6 +20,7 @@ pub struct Cpu {
     pub p: u8,
     pub pc: u16,
     pub wait: u8,
+    pub waiting: Waiting,
 }
 
 // The entries that are due.
@@ -74,7 +77,6 @@ pub struct Levels {
 }
 
 // The whole chip.
-#[repr(C)]
 pub struct State {
     pub cpu: Cpu,
     pub due: Due,
@@ -95,6 +97,7 @@ fn fresh_cpu() -> Cpu
         p: 4,
         pc: 0,
         wait: 0,
+        waiting: Waiting::Nothing,
     }
 }
 
@@ -158,6 +161,24 @@ fn fresh_levels() -> Levels
     }
 }
 
+impl Cpu {
+    // With so many clocks to wait, and this byte waiting.
+    pub fn waiting_at(self, wait: u8, waiting: Waiting) -> Cpu
+        ensures { λ r. ⌜ r ≡ waitingAt self wait waiting ⌝ }
+    {
+        Cpu {
+            a: self.a,
+            x: self.x,
+            y: self.y,
+            sp: self.sp,
+            p: self.p,
+            pc: self.pc,
+            wait: wait,
+            waiting: waiting,
+        }
+    }
+}
+
 // A chip that has not run yet.
 pub fn fresh_state() -> State
     ensures { λ r. ⌜ r ≡ fresh ⌝ }
@@ -175,12 +196,17 @@ pub fn fresh_state() -> State
     }
 }
 
-// Whether every field is within its range. What is not tested here has its range by its type.
+// Whether every field is within its range, and no byte waits with wait 0. What is not tested here has its range by its
+// type.
 pub fn well_formed(s: State) -> bool
     ensures { λ r. ⌜ r ≡ wellFormed s ⌝ }
 {
+    let cpu = s.cpu;
+    let waiting = cpu.waiting;
+    let waits = byte_waits(waiting);
     (s.cpu.p / 16 % 4 == 0)
         & (s.cpu.wait <= 6)
+        & !(waits & (s.cpu.wait == 0))
         & ((s.peripherals.control.ifr < 64)
             & ((s.peripherals.transmitter.left <= 12)
                 & (s.peripherals.transmitter.phase <= 15)
