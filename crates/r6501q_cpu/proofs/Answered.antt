@@ -20,19 +20,19 @@ use Rattle.cpu_access.specs.Bus.{nextAddress, nmiVector, irqVector, vectorOf}
 use Rattle.cpu_access.specs.Stack.{pushInterrupt}
 use Rattle.cpu_access.specs.Accesses.{RegisterFile, Performed, byteAfter, peripheralsRead, peripheralsWritten, valueRead, performed, inOrder}
 use Rattle.cpu_access.proofs.Asked.{Reply, asks, over, asked}
-use Rattle.cpu_access.proofs.Answering.{allWritten, all-more, performs}
-use Rattle.cpu_operations.specs.Effects.{writesOf, interrupted}
+use Rattle.cpu_access.proofs.Answering.{allWritten, performs}
+use Rattle.cpu_operations.specs.Effects.{pushesOf, waitingOf, interrupted}
 use Rattle.cpu.specs.Entries.{resetEntry, interruptEntry}
 use Rattle.cpu.specs.declared.Outcome.{Outcome}
 use Rattle.cpu.specs.declared.Outcome.the-variants as outcome
 use Rattle.cpu.specs.Instruction.{instructionOf}
-use Rattle.cpu.specs.Sequence.{LastStore, noStore, oneStore, Conclusion, Ending, undefined, leaves, withStore, entryAccesses, instructionAccesses, resetAccesses, interruptAccesses}
+use Rattle.cpu.specs.Sequence.{Conclusion, Ending, undefined, leaves, entryAccesses, instructionAccesses, resetAccesses, interruptAccesses}
 use Rattle.cpu.proofs.Laws.{done-fits, asked-writes, asks-end}
-use Rattle.cpu.proofs.Sequence.{writes-as, workedOf, outcomeFrom, unpushed, instruction-asked}
+use Rattle.cpu.proofs.Sequence.{pushes-as, waiting-as, workedOf, outcomeFrom, unpushed, instruction-asked}
 use Rattle.r6501q_cpu.specs.declared.Processed.{Processed}
 use Rattle.r6501q_cpu.specs.declared.Processed.the-variants.{Undefined, Done}
 use Rattle.r6501q_cpu.specs.declared.Turn.the-variants.{Over, Answered}
-use Rattle.r6501q_cpu.specs.Processor.{registersOf, registerFile, performedIn, afterStore, nextAfter, processedBy, processedAfter, wholeInstruction, resetStart, nmiStart, irqStart}
+use Rattle.r6501q_cpu.specs.Processor.{registersOf, registerFile, performedIn, nextAfter, processedBy, processedAfter, wholeInstruction, resetStart, nmiStart, irqStart}
 use Rattle.r6501q_cpu.specs.Asking.{putRegister, registersAfter, answerOf, nextOf, turnBy, turnOf, instructionFrom, answeredInstruction}
 use Rattle.r6501q_cpu.proofs.Asks.{turn-over, turn-answered}
 
@@ -44,11 +44,6 @@ all-after levels p (a ∷ []) h = refl
 all-after levels p (a ∷ b ∷ []) h = refl
 all-after levels p (a ∷ b ∷ c ∷ []) h = refl
 all-after levels p (a ∷ b ∷ c ∷ d ∷ more) h = absurd (omega (arith, h))
-
-store-after : (levels : ℕ) (p : Peripherals) (pushes : List Write) (store : LastStore) → inOrder (withStore pushes store) .count ≤ 3
-    → registersAfter p (inOrder (withStore pushes store)) ≡ afterStore levels (allWritten (registerFile levels) p pushes) store
-store-after levels p pushes noStore h = all-after levels p pushes h
-store-after levels p pushes (oneStore w) h = all-after levels p (pushes ++ (w ∷ [])) h ∙ all-more (registerFile levels) p pushes w
 
 module _ (s : State) (memory : List ℕ) where
   abbrev registers : CpuRegisters
@@ -74,9 +69,10 @@ module _ (s : State) (memory : List ℕ) where
       turn-over Undefined s p answers memory (suc n) _ (omega arith) (turn-at p answers (over undefined ws) e)
   over-from n p answers (leaves l) ws e =
       let fits = done-fits registers answers memory (workedOf l ws) (outcome-at answers (over (leaves l) ws) e) in
-      let few : inOrder (withStore ws (l .store)) .count ≤ 3 = rw (writes-as (l .store) ws) at (fits .writes) in
+      let pushes = pushes-as (l .waiting) ws (fits .writes) in
+      let few : inOrder ws .count ≤ 3 = rw pushes at (fits .writes) in
       turn-over Undefined s p answers memory (suc n) _ (omega arith) (turn-at p answers (over (leaves l) ws) e)
-      ∙ rw (writes-as (l .store) ws, store-after (s .last .ports) p ws (l .store) few) refl
+      ∙ rw (waiting-as (l .waiting) ws (fits .writes), pushes, all-after (s .last .ports) p ws few) refl
 
   asks-from : (n : ℕ) (p : Peripherals) (answers : List ℕ) (latch : Bool) (a : ℕ) (ws : List Write) → turn answers ≡ asks latch a ws
       → instructionFrom Undefined (suc n) s p answers memory
@@ -107,14 +103,14 @@ module _ (s : State) (memory : List ℕ) where
   -- a vector lies above the registers and the stack
   interrupt-answered : (due : Due) (vector : ℕ) → isRegister vector ≡ false → isRegister (nextAddress vector) ≡ false → 255 < vector → 255 < nextAddress vector
       → nextAfter s due (performedIn s memory (interruptAccesses vector registers)) ≡ nextOf s due (s .peripherals) (interruptEntry memory vector registers)
-  unfolding interruptAccesses entryAccesses interruptEntry interrupted writesOf pushInterrupt vectorOf performed peripheralsRead peripheralsWritten valueRead inOrder registersAfter putRegister
+  unfolding interruptAccesses entryAccesses interruptEntry interrupted pushesOf waitingOf pushInterrupt vectorOf performed peripheralsRead peripheralsWritten valueRead inOrder registersAfter putRegister
   interrupt-answered due vector low high under under' =
       let p = pushed (registers .status) false in
       rw (low, high, unpushed p registers vector _ under, unpushed p registers (nextAddress vector) _ under')
 
   pub reset-answered : resetStart s memory
       ≡ nextOf s (record { reset = false; nmi = s .due .nmi }) (s .peripherals) (resetEntry memory registers)
-  unfolding resetStart resetAccesses resetEntry writesOf vectorOf performed peripheralsRead valueRead byteAfter inOrder registersAfter putRegister
+  unfolding resetStart resetAccesses resetEntry pushesOf waitingOf vectorOf performed peripheralsRead valueRead byteAfter inOrder registersAfter putRegister
   reset-answered = refl
 
   pub nmi-answered : nmiStart s memory

@@ -5,9 +5,9 @@ use mathlib.Core.List.{List, [], _∷_, _++_}
 use Prim.Native.Nat.{ℕ, zero, suc, _+_, _-_, _*_, _/_, _%_, _≤_, _<_}
 use native.Mathlib.Omega.{arith}
 use lib.Dec.{ltb, leb, eqb}
-use borrow.Author.Tests.{eq-eqb, le-leb, leb-true, eqb-true, ltb-true}
+use borrow.Author.Tests.{eq-eqb, ne-eqb, le-leb, leb-true, eqb-true, eqb-false, ltb-true}
 use Rattle.bits.specs.Bits.{digit}
-use Rattle.bits.proofs.Cond.{cond-both, digit-le, and-both, and-left, and-right}
+use Rattle.bits.proofs.Cond.{cond-both, digit-le}
 use Rattle.cpu_alu.specs.declared.Status.{Status}
 use Rattle.cpu_alu.specs.Status.{packed}
 use Rattle.r6501q_state.specs.declared.state.Cpu.{Cpu}
@@ -15,8 +15,8 @@ use Rattle.r6501q_state.specs.declared.state.Due.{Due}
 use Rattle.r6501q_state.specs.declared.state.Peripherals.{Peripherals}
 use Rattle.r6501q_state.specs.declared.state.State.{State}
 use Rattle.r6501q_state.specs.State.{cpuFits, peripheralsFit, wellFormed}
-use Rattle.r6501q_state.specs.Pins.{atWait}
-use Rattle.r6501q_state.proofs.Ranges.{formed, formed-cpu, formed-peripherals}
+use Rattle.r6501q_state.specs.Copies.{atWait, withWait}
+use Rattle.r6501q_state.proofs.Ranges.{formed, formed-cpu, formed-peripherals, in-cpu, fit-cpu}
 use Rattle.r6501q_registers.specs.declared.read.Reading.{Reading}
 use Rattle.r6501q_registers.specs.Read.{afterRead}
 use Rattle.r6501q_registers.specs.Write.{writeOf}
@@ -26,8 +26,12 @@ use Rattle.cpu_access.specs.declared.stack.Write.{Write}
 use Rattle.cpu_access.specs.declared.stack.Writes.{Writes}
 use Rattle.memory.specs.Memory.{isRegister}
 use Rattle.cpu_access.specs.Stack.{pushInterrupt}
+use Rattle.cpu_access.specs.declared.waiting.Waiting.{Waiting}
+use Rattle.cpu_access.specs.declared.waiting.Waiting.the-variants.{Nothing, Byte}
+use Rattle.cpu_access.specs.Waiting.{byteWaits}
+use Rattle.cpu_access.specs.Accesses.{peripheralsWritten}
 use Rattle.cpu_operations.specs.declared.Worked.{Worked}
-use Rattle.cpu_operations.specs.Effects.{interrupted, writesOf}
+use Rattle.cpu_operations.specs.Effects.{interrupted, pushesOf, waitingOf}
 use Rattle.cpu.specs.declared.Outcome.{Outcome}
 use Rattle.cpu.specs.declared.Outcome.the-variants as outcome
 use Rattle.cpu.specs.Entries.{resetEntry, interruptEntry}
@@ -38,7 +42,7 @@ use Rattle.r6501q_cpu.specs.declared.Next.{Next}
 use Rattle.r6501q_cpu.specs.declared.Processed.{Processed}
 use Rattle.r6501q_cpu.specs.declared.Processed.the-variants.{Undefined, Done}
 use Rattle.r6501q_cpu.specs.declared.Turn.{Turn}
-use Rattle.r6501q_cpu.specs.Processor.{registersOf, cpuOf, irqDue, startOf, withoutWrites, withWait, processorOf}
+use Rattle.r6501q_cpu.specs.Processor.{registersOf, cpuOf, irqDue, startOf, withoutWrites, waitLess, bytePut, waitedBy, processorOf}
 use Rattle.r6501q_cpu.specs.Asking.{putRegister, registersAfter, answerOf, nextOf, turnBy, turned, turnOf, instructionFrom, answeredInstruction}
 use Rattle.r6501q_cpu.proofs.Answered.{instruction-answered, reset-answered, nmi-answered, irq-answered}
 
@@ -50,9 +54,20 @@ packed-clear s =
     let i = digit-le (s .i) in let z = digit-le (s .z) in let c = digit-le (s .c) in
     omega arith
 
-cpu-of-fits : (r : CpuRegisters) (length : ℕ) → length ≤ 7 → cpuFits (cpuOf r (length - 1)) ≡ true
-cpu-of-fits r length h =
-    and-both _ _ (eq-eqb (packed (r .status) / 16 % 4) 0 (packed-clear (r .status))) (le-leb (length - 1) 6 (omega arith))
+pub never-both : (b : Bool) → (b && false) ≡ false
+never-both true = refl
+never-both false = refl
+
+-- an instruction takes two clocks at least, so that a byte never waits with wait 0
+cpu-of-fits : (w : Worked) → Fits w → cpuFits (cpuOf (w .registers) (w .length - 1) (waitingOf (w .written))) ≡ true
+cpu-of-fits w f =
+    let least = f .least in
+    let most = f .most in
+    fit-cpu (cpuOf (w .registers) (w .length - 1) (waitingOf (w .written))) (record {
+      status = eq-eqb (packed (w .registers .status) / 16 % 4) 0 (packed-clear (w .registers .status));
+      wait = le-leb (w .length - 1) 6 (omega arith);
+      waits = rw (ne-eqb (w .length - 1) 0 (λ e. omega arith)) (never-both (byteWaits (waitingOf (w .written))));
+    })
 
 -- register writes keep the peripherals in their ranges
 put-fits : (there : Bool) (w : Write) (p : Peripherals) → peripheralsFit p ≡ true → peripheralsFit (putRegister there w p) ≡ true
@@ -66,12 +81,19 @@ unfolding registersAfter
 after-fits p w e =
     put-fits (ltb 2 (w .count)) (w .third) _ (put-fits (ltb 1 (w .count)) (w .second) _ (put-fits (ltb 0 (w .count)) (w .first) p e))
 
+-- so does a byte that is put
+put-byte-fits : (s : State) (w : Write) → wellFormed s ≡ true → wellFormed (bytePut s w .state) ≡ true
+unfolding bytePut byteWaits peripheralsWritten putRegister
+put-byte-fits s w e =
+    let c = in-cpu (s .cpu) (formed-cpu s e) in
+    formed _ (rw (c .status) refl) (put-fits true w (s .peripherals) (formed-peripherals s e))
+
 reset-entry-fits : (memory : List ℕ) (r : CpuRegisters) → Fits (resetEntry memory r)
-unfolding resetEntry writesOf
+unfolding resetEntry pushesOf
 reset-entry-fits memory r = record { writes = omega arith; least = omega arith; most = omega arith; store = λ e. absurd (false≢true e) }
 
 interrupt-entry-fits : (memory : List ℕ) (vector : ℕ) (r : CpuRegisters) → Fits (interruptEntry memory vector r)
-unfolding interruptEntry interrupted pushInterrupt writesOf
+unfolding interruptEntry interrupted pushInterrupt pushesOf
 interrupt-entry-fits memory vector r =
     record { writes = omega arith; least = omega arith; most = omega arith; store = λ e. absurd (false≢true e) }
 
@@ -112,36 +134,66 @@ module _ (s : State) (memory : List ℕ) (Q : Peripherals → Type 0) (P : Next 
       (λ _. rw (irq-answered s memory) (ends _ _ _ first (interrupt-entry-fits memory irqVector (registersOf (s .cpu)))))
       (λ _. rw (instruction-answered s memory) (instruction-ends 6 (s .peripherals) [] first))))
 
-  pub processor-ends : Ends P (withoutWrites (withWait s (s .cpu .wait - 1))) → Ends P (withoutWrites s) → Ends P (processorOf s memory)
+  -- a clock after the first: one less to wait, or the last of a store
+  abbrev Less : Type 0
+  Less = byteWaits (s .cpu .waiting) && eqb (s .cpu .wait) 1 ≡ false → Ends P (waitLess s)
+
+  waited-ends : Less → ((w : Write) → P (bytePut s w)) → (v : Waiting) → s .cpu .waiting ≡ v → Ends P (waitedBy s v)
+  unfolding byteWaits
+  waited-ends less puts Nothing e = less (rw e refl)
+  waited-ends less puts (Byte w) e =
+      cond-both (Ends P) (eqb (s .cpu .wait) 1) _ _ (λ _. puts w) (λ f. less (rw (e, f) refl))
+
+  pub processor-ends : Less → ((w : Write) → P (bytePut s w)) → Ends P (withoutWrites s) → Ends P (processorOf s memory)
   unfolding processorOf
-  processor-ends waits rests =
+  processor-ends less puts rests =
       cond-both (Ends P) (s .last .res) _ _
-      (λ _. cond-both (Ends P) (ltb 0 (s .cpu .wait)) _ _ (λ _. waits) (λ _. start-ends))
+      (λ _. cond-both (Ends P) (ltb 0 (s .cpu .wait)) _ _ (λ _. waited-ends less puts (s .cpu .waiting) refl) (λ _. start-ends))
       (λ _. rests)
 
--- "wait minus 1" stays in its range
-fewer-formed : (s : State) → wellFormed s ≡ true → wellFormed (withWait s (s .cpu .wait - 1)) ≡ true
-fewer-formed s e =
-    let f = formed-cpu s e in
-    let status = eqb (s .cpu .p / 16 % 4) 0 in
-    let fits = leb-true (s .cpu .wait) 6 (and-right status (leb (s .cpu .wait) 6) f) in
-    formed _
-    (and-both status (leb (s .cpu .wait - 1) 6) (and-left status (leb (s .cpu .wait) 6) f) (le-leb (s .cpu .wait - 1) 6 (omega arith)))
+-- "wait minus 1" stays in its range, and above 0 where a byte waits that is not put
+pub not-last : (b : Bool) (wait : ℕ) → (b && eqb wait 0) ≡ false → (b && eqb wait 1) ≡ false → (b && eqb (wait - 1) 0) ≡ false
+not-last true wait h k =
+    let some = eqb-false wait 0 h in
+    let more = eqb-false wait 1 k in
+    ne-eqb (wait - 1) 0 (λ e. omega arith)
+not-last false wait h k = refl
+
+fewer-formed : (s : State) → wellFormed s ≡ true → byteWaits (s .cpu .waiting) && eqb (s .cpu .wait) 1 ≡ false
+    → wellFormed (withWait s (s .cpu .wait - 1)) ≡ true
+fewer-formed s e h =
+    let c = in-cpu (s .cpu) (formed-cpu s e) in
+    let fits = leb-true (s .cpu .wait) 6 (c .wait) in
+    formed (withWait s (s .cpu .wait - 1))
+    (fit-cpu (atWait (s .cpu) (s .cpu .wait - 1)) (record {
+      status = c .status;
+      wait = le-leb (s .cpu .wait - 1) 6 (omega arith);
+      waits = not-last (byteWaits (s .cpu .waiting)) (s .cpu .wait) (c .waits) h;
+    }))
     (formed-peripherals s e)
 
 -- every field stays in its range
 pub processor-formed : (s : State) (memory : List ℕ) → wellFormed s ≡ true → Ends (λ n. wellFormed (n .state) ≡ true) (processorOf s memory)
 processor-formed s memory e =
     processor-ends s memory (λ p. peripheralsFit p ≡ true) (λ n. wellFormed (n .state) ≡ true) (formed-peripherals s e) read-fits
-    (λ due p w q f. formed _ (cpu-of-fits (w .registers) (w .length) (f .most)) (after-fits p (writesOf (w .written)) q))
-    (fewer-formed s e) e
+    (λ due p w q f. formed _ (cpu-of-fits w f) (after-fits p (pushesOf (w .written)) q))
+    (fewer-formed s e) (λ w. put-byte-fits s w e) e
+
+put-clock : (s : State) (w : Write) → bytePut s w .state .clock ≡ s .clock
+unfolding bytePut
+put-clock s w = refl
+
+put-count : (s : State) (w : Write) → bytePut s w .writes .count ≤ 3
+unfolding bytePut
+put-count s w = omega arith
 
 -- the clock is left alone
 pub processor-clock : (s : State) (memory : List ℕ) → Ends (λ n. n .state .clock ≡ s .clock) (processorOf s memory)
 processor-clock s memory =
-    processor-ends s memory (λ p. Unit {0}) (λ n. n .state .clock ≡ s .clock) tt (λ p a q. tt) (λ due p w q f. refl) refl refl
+    processor-ends s memory (λ p. Unit {0}) (λ n. n .state .clock ≡ s .clock) tt (λ p a q. tt) (λ due p w q f. refl) (λ h. refl) (put-clock s) refl
 
 -- at most three writes
 pub processor-writes : (s : State) (memory : List ℕ) → Ends (λ n. n .writes .count ≤ 3) (processorOf s memory)
 processor-writes s memory =
-    processor-ends s memory (λ p. Unit {0}) (λ n. n .writes .count ≤ 3) tt (λ p a q. tt) (λ due p w q f. f .writes) (omega arith) (omega arith)
+    processor-ends s memory (λ p. Unit {0}) (λ n. n .writes .count ≤ 3) tt (λ p a q. tt) (λ due p w q f. f .writes) (λ h. omega arith)
+    (put-count s) (omega arith)

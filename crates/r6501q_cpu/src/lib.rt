@@ -257,10 +257,9 @@ fn put_byte(s: State, w: Write) -> Next
 {
     let peripherals = put_register(true, w, s.peripherals);
     let writes = one_write(w.address, w.value);
-    let none = Waiting::Nothing;
+    let cpu = s.cpu.waiting_at(0, Waiting::Nothing);
     let mut state = s;
-    state.cpu.wait = 0;
-    state.cpu.waiting = none;
+    state.cpu = cpu;
     state.peripherals = peripherals;
     Next {
         state: state,
@@ -273,7 +272,8 @@ fn wait_on(s: State) -> Processed
     requires { ⌜ 0 < s .cpu .wait ⌝ }
     ensures { λ r. ⌜ r ≡ waitedBy s (s .cpu .waiting) ⌝ }
 {
-    let waiting = s.cpu.waiting;
+    let cpu = s.cpu;
+    let waiting = cpu.waiting;
     match waiting {
         Waiting::Nothing => wait_less(s),
         Waiting::Byte(w) => {
