@@ -8,7 +8,9 @@ use native.Mathlib.Omega.{arith}
 use lib.Dec.{eqb}
 use lib.ListN.{take}
 use borrow.Author.Tests.{eqb-false, ne-eqb, not-false}
+use Rattle.bits.specs.Bits.{digit}
 use Rattle.bits.proofs.Cond.{cond-both}
+use Rattle.cpu_access.specs.Waiting.{byteWaits}
 use Rattle.counters.specs.declared.time.Clocks.{Clocks}
 use Rattle.counters.specs.Counters.{passA, passB}
 use Rattle.r6501q_state.specs.declared.state.State.{State}
@@ -19,7 +21,7 @@ use Rattle.r6501q_state.specs.Inputs.{lastPin}
 use Rattle.pin_lists.specs.PinLists.{pinsRight, dueCount}
 use Rattle.pin_lists.proofs.PinLists.{right-above}
 use Rattle.r6501q_gaps.specs.Events.{hasInput, sameLevels, levelsChange, isReset, resetChanges, eventOf}
-use Rattle.r6501q_gaps.specs.Gaps.{clocksOf, runningA, runningB, toInput, toChange, toUnderflowA, toUnderflowB, toReset, toStart, gapOf, waitAfter, passOf}
+use Rattle.r6501q_gaps.specs.Gaps.{clocksOf, runningA, runningB, toInput, toChange, toUnderflowA, toUnderflowB, toReset, untilCpu, toCpu, gapOf, waitAfter, passOf}
 use Rattle.r6501q_gaps.proofs.Same.{same-levels, levels-same}
 use Rattle.r6501q_gaps.proofs.Quiet.{Quiet, no-both, both-no, clock-quiet, quiet-event, event-quiet}
 use Rattle.r6501q_gaps.proofs.Passing.{pass-change, pass-reset}
@@ -33,16 +35,26 @@ gap-le n s clocks = omega arith
 pub nearer-of : {a b r : Clocks} {x y : ℕ} → a ≡ clocksOf x → b ≡ clocksOf y → r ≡ clocksOf (min (a .0) (b .0)) → r ≡ clocksOf (min x y)
 nearer-of p q e = e ∙ rw (p, q)
 
--- 02, U3, "a gap of 0 is then shown to be the least": where no clock comes before the CPU's start, whatever the other
+-- 02, U3, "a gap of 0 is then shown to be the least": where no clock comes before the CPU acts, whatever the other
 -- distances are
-pub none-before-start : (n : ℕ) (s : State) (clocks : List ℕ) → toStart n s ≡ 0 → gapOf n s clocks ≡ clocksOf 0
+pub none-before-cpu : (n : ℕ) (s : State) (clocks : List ℕ) → toCpu n s ≡ 0 → gapOf n s clocks ≡ clocksOf 0
 unfolding gapOf
-none-before-start n s clocks e = ap clocksOf (omega arith)
+none-before-cpu n s clocks e = ap clocksOf (omega arith)
 
--- so where the next clock is the CPU's start: RES was high and no wait is left
-pub cpu-next : (n : ℕ) (s : State) (clocks : List ℕ) → s .last .res ≡ true → s .cpu .wait ≡ 0 → gapOf n s clocks ≡ clocksOf 0
-unfolding toStart
-cpu-next n s clocks high over = none-before-start n s clocks (rw (high, over))
+-- so where the next clock is the CPU's start, or its byte is put: RES was high and no wait is left, or 1 and a byte
+-- waits
+pub cpu-next : (n : ℕ) (s : State) (clocks : List ℕ) → s .last .res ≡ true → untilCpu (s .cpu) ≡ 0 → gapOf n s clocks ≡ clocksOf 0
+unfolding toCpu
+cpu-next n s clocks high over = none-before-cpu n s clocks (rw (high, over))
+
+pub start-next : (n : ℕ) (s : State) (clocks : List ℕ) → s .last .res ≡ true → s .cpu .wait ≡ 0 → gapOf n s clocks ≡ clocksOf 0
+unfolding untilCpu
+start-next n s clocks high over = cpu-next n s clocks high (omega arith)
+
+pub put-next : (n : ℕ) (s : State) (clocks : List ℕ) → s .last .res ≡ true → s .cpu .wait ≡ 1 → byteWaits (s .cpu .waiting) ≡ true
+    → gapOf n s clocks ≡ clocksOf 0
+unfolding untilCpu
+put-next n s clocks high last waits = cpu-next n s clocks high (rw (last, waits))
 
 -- ---- a gap above 0
 
@@ -57,7 +69,7 @@ count-above false k n h e = absurd (false≢true e)
 
 -- no clock of it is an event clock
 gap-quiet : (n : ℕ) (s : State) (clocks : List ℕ) → 0 < gapOf n s clocks .0 → Quiet s
-unfolding gapOf toChange toUnderflowA toUnderflowB toReset toStart levelsChange resetChanges
+unfolding gapOf toChange toUnderflowA toUnderflowB toReset toCpu levelsChange resetChanges
 gap-quiet n s clocks h = record {
   still = record {
     levels = same-levels (levelsOf s) (s .last) (not-false _ (no-event (levelsChange s) n (omega arith)));
@@ -65,7 +77,7 @@ gap-quiet n s clocks h = record {
     above-b = count-above (runningB (s .peripherals .control)) (s .peripherals .counterb .count) n (omega arith);
     reset = both-no (s .last .res) (isReset s) (no-event (resetChanges s) n (omega arith));
   };
-  waits = count-above (s .last .res) (s .cpu .wait) n (omega arith);
+  waits = count-above (s .last .res) (untilCpu (s .cpu)) n (omega arith);
 }
 
 pub not-due : (n clock : ℕ) (clocks : List ℕ) → 0 < toInput n clock clocks → dueCount (clock + 1) clocks ≡ 0
@@ -96,13 +108,13 @@ above-count : (t : Bool) (k n : ℕ) → (t ≡ true → 0 < k) → 0 < n → 0 
 above-count t k n a h = cond-both (λ (d : ℕ). 0 < d) t k n a (λ _. h)
 
 quiet-gap : (n : ℕ) (s : State) (clocks : List ℕ) → 0 < n → Quiet s → 0 < toInput n (s .clock) clocks → 0 < gapOf n s clocks .0
-unfolding gapOf toChange toUnderflowA toUnderflowB toReset toStart levelsChange resetChanges
+unfolding gapOf toChange toUnderflowA toUnderflowB toReset toCpu levelsChange resetChanges
 quiet-gap n s clocks h q i =
     let change = above-event (not (sameLevels (levelsOf s) (s .last))) n (ap not (levels-same (levelsOf s) (s .last) (q .still .levels))) h in
     let a = above-count (runningA (s .peripherals .control) (s .last .ports)) (s .peripherals .countera .count) n (q .still .above-a) h in
     let b = above-count (runningB (s .peripherals .control)) (s .peripherals .counterb .count) n (q .still .above-b) h in
     let reset = above-event (not (s .last .res) && not (isReset s)) n (no-both (s .last .res) (isReset s) (q .still .reset)) h in
-    let start = above-count (s .last .res) (s .cpu .wait) n (q .waits) h in
+    let cpu = above-count (s .last .res) (untilCpu (s .cpu)) n (q .waits) h in
     omega arith
 
 -- the next input is later, or the next clock has it
@@ -161,6 +173,10 @@ less-count : (t : Bool) (k n g : ℕ) → cond t (cond t (k - g) k) (n - g) ≡ 
 less-count true k n g = refl
 less-count false k n g = refl
 
+less-until : (t : Bool) (wait d n g : ℕ) → cond t (cond t (wait - g) wait - d) (n - g) ≡ cond t (wait - d) n - g
+less-until true wait d n g = omega arith
+less-until false wait d n g = refl
+
 less-input : (n : ℕ) (s : State) (g : ℕ) (clocks : List ℕ) → toInput (n - g) (passOf s (clocksOf g) .clock) clocks ≡ toInput n (s .clock) clocks - g
 unfolding toInput passOf
 less-input n s g [] = refl
@@ -186,12 +202,12 @@ module _ (n : ℕ) (s : State) (g : ℕ) where
   unfolding toReset
   less-reset = rw (pass-reset s g) (less-event (resetChanges s) n g)
 
-  less-start : toStart (n - g) (passOf s (clocksOf g)) ≡ toStart n s - g
-  unfolding toStart passOf waitAfter
-  less-start = less-count (s .last .res) (s .cpu .wait) n g
+  less-cpu : toCpu (n - g) (passOf s (clocksOf g)) ≡ toCpu n s - g
+  unfolding toCpu untilCpu passOf waitAfter
+  less-cpu = less-until (s .last .res) (s .cpu .wait) (digit (byteWaits (s .cpu .waiting))) n g
 
   -- after g clocks of it, the gap is g clocks shorter
   pub gap-passed : (clocks : List ℕ) → gapOf (n - g) (passOf s (clocksOf g)) clocks .0 ≡ gapOf n s clocks .0 - g
   unfolding gapOf
   gap-passed clocks =
-      rw (less-input n s g clocks, less-change, less-underflow-a, less-underflow-b, less-reset, less-start) (simp less-min)
+      rw (less-input n s g clocks, less-change, less-underflow-a, less-underflow-b, less-reset, less-cpu) (simp less-min)

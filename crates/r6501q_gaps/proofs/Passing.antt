@@ -1,12 +1,13 @@
 -- Gaps passed add up, and what a gap passed leaves as it was.
 use mathlib.Core.Path.{_≡_, refl}
-use mathlib.Core.Bool.{Bool, true, false}
-use Prim.Native.Nat.{ℕ, _+_, _-_, _/_, _%_}
+use mathlib.Core.Bool.{Bool, true, false, _&&_}
+use Prim.Native.Nat.{ℕ, _+_, _-_, _≤_}
 use native.Mathlib.Nat.{add-zero, add-assoc}
 use native.Mathlib.Omega.{arith}
 use lib.Dec.{leb, eqb}
-use borrow.Author.Tests.{leb-true, le-leb}
-use Rattle.bits.proofs.Cond.{and-left, and-right, and-both}
+use borrow.Author.Tests.{leb-true, le-leb, eqb-false, ne-eqb}
+use Rattle.bits.specs.Bits.{digit}
+use Rattle.cpu_access.specs.Waiting.{byteWaits}
 use Rattle.counters.specs.declared.a.CounterA.{CounterA}
 use Rattle.counters.specs.declared.b.CounterB.{CounterB}
 use Rattle.counters.specs.Counters.{passA, passB}
@@ -14,9 +15,9 @@ use Rattle.counters.proofs.Gaps.{pass-add-a, pass-add-b}
 use Rattle.r6501q_state.specs.declared.state.State.{State}
 use Rattle.r6501q_state.specs.State.{wellFormed}
 use Rattle.r6501q_state.specs.Pins.{driveA, driveD, drivenWord, levelsOf}
-use Rattle.r6501q_state.proofs.Ranges.{formed, formed-cpu, formed-peripherals}
+use Rattle.r6501q_state.proofs.Ranges.{formed, formed-cpu, formed-peripherals, in-cpu, fit-cpu}
 use Rattle.r6501q_gaps.specs.Events.{levelsChange, isReset, resetChanges}
-use Rattle.r6501q_gaps.specs.Gaps.{clocksOf, waitAfter, passOf}
+use Rattle.r6501q_gaps.specs.Gaps.{clocksOf, untilCpu, waitAfter, passOf}
 
 -- "clock plus gap"
 pub pass-clock : (s : State) (g : ℕ) → passOf s (clocksOf g) .clock ≡ s .clock + g
@@ -71,19 +72,30 @@ pub pass-add : (s : State) (g h : ℕ) → passOf (passOf s (clocksOf g)) (clock
 unfolding passOf
 pass-add s g h = rw (wait-add, pass-add-a, pass-add-b, add-assoc)
 
--- ---- a well-formed state stays well-formed
+-- ---- a well-formed state stays well-formed, as long as the CPU does not act
 
 wait-fits : (wait : ℕ) (high : Bool) (g : ℕ) → leb wait 6 ≡ true → leb (waitAfter wait high (clocksOf g)) 6 ≡ true
 unfolding waitAfter
 wait-fits wait true g e = let h = leb-true wait 6 e in le-leb (wait - g) 6 (omega arith)
 wait-fits wait false g e = e
 
-pub pass-formed : (s : State) (g : ℕ) → wellFormed s ≡ true → wellFormed (passOf s (clocksOf g)) ≡ true
-unfolding passOf
-pass-formed s g e =
-    let cpu = formed-cpu s e in
-    let status = eqb (s .cpu .p / 16 % 4) 0 in
-    let wait = leb (s .cpu .wait) 6 in
+still-waits : (b high : Bool) (wait g : ℕ) → (high ≡ true → g ≤ wait - digit b) → (b && eqb wait 0) ≡ false
+    → (b && eqb (waitAfter wait high (clocksOf g)) 0) ≡ false
+unfolding waitAfter
+still-waits true true wait g h e = let k = h refl in let some = eqb-false wait 0 e in ne-eqb (wait - g) 0 (λ z. omega arith)
+still-waits true false wait g h e = e
+still-waits false high wait g h e = refl
+
+pub pass-formed : (s : State) (g : ℕ) → (s .last .res ≡ true → g ≤ untilCpu (s .cpu)) → wellFormed s ≡ true
+    → wellFormed (passOf s (clocksOf g)) ≡ true
+unfolding passOf untilCpu
+pass-formed s g h e =
+    let c = in-cpu (s .cpu) (formed-cpu s e) in
+    let high = s .last .res in
     formed (passOf s (clocksOf g))
-    (and-both status _ (and-left status wait cpu) (wait-fits (s .cpu .wait) (s .last .res) g (and-right status wait cpu)))
+    (fit-cpu (passOf s (clocksOf g) .cpu) (record {
+      status = c .status;
+      wait = wait-fits (s .cpu .wait) high g (c .wait);
+      waits = still-waits (byteWaits (s .cpu .waiting)) high (s .cpu .wait) g h (c .waits);
+    }))
     (formed-peripherals s e)

@@ -2,12 +2,16 @@
 use mathlib.Core.Path.{_≡_, refl, sym, ap, _∙_}
 use mathlib.Core.Bool.{Bool, true, false, _&&_, _||_, not, cond, false≢true}
 use mathlib.Core.List.{List, [], _∷_}
-use Prim.Native.Nat.{ℕ, zero, suc, _+_, _<_}
+use Prim.Native.Nat.{ℕ, zero, suc, _+_, _-_, _<_}
 use native.Mathlib.Omega.{arith}
 use lib.Dec.{ltb, eqb}
 use lib.ListN.{getD}
 use borrow.Author.Tests.{eqb-true, eqb-false, ne-eqb, le-ltb, lt-ltb, not-false}
-use Rattle.bits.specs.Bits.{bit, setWhere, flipWhere}
+use Rattle.bits.specs.Bits.{bit, digit, setWhere, flipWhere}
+use Rattle.bits.proofs.Cond.{cond-yes, cond-no}
+use Rattle.cpu_access.specs.declared.waiting.Waiting.{Waiting}
+use Rattle.cpu_access.specs.declared.waiting.Waiting.the-variants.{Nothing, Byte}
+use Rattle.cpu_access.specs.Waiting.{byteWaits}
 use Rattle.bits.specs.Lists.{anyOf}
 use Rattle.counters.specs.declared.a.CounterA.{CounterA}
 use Rattle.counters.specs.declared.b.CounterB.{CounterB}
@@ -21,9 +25,9 @@ use Rattle.r6501q_state.specs.Copies.{withCounterA, withCounterB}
 use Rattle.r6501q_state.specs.Pins.{levelsOf, rose, fell, edges, withEdges, resetOf, sensedAt, sensed}
 use Rattle.r6501q_state.specs.Control.{modeA, modeB}
 use Rattle.r6501q_clock.specs.Clock.{withInputs, inputsSet, countA, countB, sentBy, heardBy, worked, readyOf}
-use Rattle.r6501q_cpu.specs.Processor.{processorOf, withoutWrites}
-use Rattle.r6501q_gaps.specs.Events.{hasInput, levelsChange, underflowsA, underflowsB, isReset, resetChanges, cpuStarts, eventTests, eventOf}
-use Rattle.r6501q_gaps.specs.Gaps.{clocksOf, runningA, runningB, waitAfter, passCounters, passOf}
+use Rattle.r6501q_cpu.specs.Processor.{processorOf, withoutWrites, waitLess, waitedBy}
+use Rattle.r6501q_gaps.specs.Events.{hasInput, levelsChange, underflowsA, underflowsB, isReset, resetChanges, cpuStarts, putsByte, eventTests, eventOf}
+use Rattle.r6501q_gaps.specs.Gaps.{clocksOf, runningA, runningB, untilCpu, waitAfter, passCounters, passOf}
 use Rattle.r6501q_gaps.proofs.Same.{same-levels, levels-same, reset-same}
 
 -- ---- no edge between equal levels
@@ -129,7 +133,7 @@ pub record Still (s : State) : Type 0 where
 
 pub record Quiet (s : State) : Type 0 where
   pub still : Still s
-  pub waits : s .last .res ≡ true → 0 < s .cpu .wait
+  pub waits : s .last .res ≡ true → 0 < untilCpu (s .cpu)
 
 -- ---- step 1
 
@@ -214,14 +218,48 @@ ready-still s q =
 ready-quiet : (s : State) → Quiet s → readyOf s [] ≡ workedTo (ahead s) (passCounters (s .peripherals) (s .last .ports) (clocksOf 1))
 ready-quiet s q = ready-still s (q .still)
 
+-- the CPU neither starts nor puts a byte: it waits, and where a byte waits for more than a clock
+not-put : (r b : Bool) (wait : ℕ) → (r ≡ true → 0 < wait - digit b) → (r && b && eqb wait 1) ≡ false
+not-put true true wait h = ne-eqb wait 1 (λ e. let k = h refl in omega arith)
+not-put true false wait h = refl
+not-put false b wait h = refl
+
+not-over : (r : Bool) (d wait : ℕ) → (r ≡ true → 0 < wait - d) → r ≡ true → 0 < wait
+not-over r d wait h e = let k = h e in omega arith
+
+acts-later : (r b : Bool) (wait : ℕ) → (r && eqb wait 0) ≡ false → (r && b && eqb wait 1) ≡ false → r ≡ true → 0 < wait - digit b
+acts-later true true wait e f z = let some = eqb-false wait 0 e in let more = eqb-false wait 1 f in omega arith
+acts-later true false wait e f z = let some = eqb-false wait 0 e in omega arith
+acts-later false b wait e f z = absurd (false≢true z)
+
+-- a clock after the first
+pub clock-waits : (s : State) (memory : List ℕ) → s .last .res ≡ true → 0 < s .cpu .wait → processorOf s memory ≡ waitedBy s (s .cpu .waiting)
+unfolding processorOf
+clock-waits s memory high some = cond-yes (s .last .res) _ _ high ∙ cond-yes (ltb 0 (s .cpu .wait)) _ _ (lt-ltb 0 (s .cpu .wait) some)
+
+-- where no byte is put, it is one less to wait
+pub waited-less : (s : State) → (byteWaits (s .cpu .waiting) && eqb (s .cpu .wait) 1) ≡ false → waitedBy s (s .cpu .waiting) ≡ waitLess s
+unfolding byteWaits
+waited-less s h = by-waiting (s .cpu .waiting) h
+  where
+    by-waiting : (v : Waiting) → (byteWaits v && eqb (s .cpu .wait) 1) ≡ false → waitedBy s v ≡ waitLess s
+    by-waiting Nothing e = refl
+    by-waiting (Byte w) e = cond-no (eqb (s .cpu .wait) 1) _ _ e
+
 -- steps 1 to 4 of a clock without inputs
 pub clock-quiet : (s : State) (memory : List ℕ) → Quiet s → processorOf (readyOf s []) memory ≡ withoutWrites (passOf s (clocksOf 1))
-unfolding processorOf passOf waitAfter
+unfolding processorOf passOf waitAfter untilCpu
 clock-quiet s memory q = rw (ready-quiet s q) (by-res (s .last .res) refl)
   where
+    ready : State
+    ready = workedTo (ahead s) (passCounters (s .peripherals) (s .last .ports) (clocksOf 1))
+
     by-res : (r : Bool) → s .last .res ≡ r
         → processorOf (workedTo (ahead s) (passCounters (s .peripherals) (s .last .ports) (clocksOf 1))) memory ≡ withoutWrites (passOf s (clocksOf 1))
-    by-res true e = rw (e, lt-ltb 0 (s .cpu .wait) (q .waits e))
+    by-res true e =
+        let some = not-over true _ (s .cpu .wait) (λ _. q .waits e) refl in
+        let none = not-put true (byteWaits (s .cpu .waiting)) (s .cpu .wait) (λ _. q .waits e) in
+        clock-waits ready memory e some ∙ waited-less ready none ∙ rw e refl
     by-res false e = rw e
 
 -- ---- no event clock
@@ -241,8 +279,12 @@ unfolding resetChanges
 quiet-reset s q = rw reset-ahead (no-both (s .last .res) (isReset s) (q .still .reset))
 
 quiet-start : (s : State) → Quiet s → cpuStarts (ahead s) ≡ false
-unfolding cpuStarts
-quiet-start s q = not-at-zero (s .last .res) (s .cpu .wait) (q .waits)
+unfolding cpuStarts untilCpu
+quiet-start s q = not-at-zero (s .last .res) (s .cpu .wait) (not-over (s .last .res) _ (s .cpu .wait) (q .waits))
+
+quiet-put : (s : State) → Quiet s → putsByte (ahead s) ≡ false
+unfolding putsByte untilCpu
+quiet-put s q = not-put (s .last .res) (byteWaits (s .cpu .waiting)) (s .cpu .wait) (q .waits)
 
 -- none of the kinds of event
 pub quiet-event : (s : State) → Quiet s → eventOf s [] ≡ false
@@ -257,6 +299,7 @@ quiet-event s q =
       quiet-underflow-b s q,
       quiet-reset s q,
       quiet-start s q,
+      quiet-put s q,
     )
 
 -- ---- and back
@@ -269,7 +312,7 @@ none-of (false ∷ tests) e zero = refl
 none-of (false ∷ tests) e (suc k) = none-of tests e k
 
 pub event-quiet : (s : State) → eventOf s [] ≡ false → Quiet s
-unfolding eventOf hasInput levelsChange resetChanges cpuStarts
+unfolding eventOf hasInput levelsChange resetChanges cpuStarts putsByte untilCpu
 event-quiet s e =
     let none : (k : ℕ) → getD (false ∷ eventTests (ahead s)) k false ≡ false = none-of (false ∷ eventTests (ahead s)) (rw (inputsSet-ahead s) at e) in
     let levels : levelsOf s ≡ s .last = sym (levels-ahead s) ∙ same-levels (levelsOf (ahead s)) (s .last) (not-false _ (none 1)) in
@@ -283,5 +326,5 @@ event-quiet s e =
         above-b = above-zero _ (s .peripherals .counterb .count) (sym (still-b (ahead s)) ∙ ap (underflowsB (s .last .ports)) (sym same) ∙ none 3);
         reset = reset;
       };
-      waits = above-zero (s .last .res) (s .cpu .wait) (ap cpuStarts (sym same) ∙ none 5);
+      waits = acts-later (s .last .res) (byteWaits (s .cpu .waiting)) (s .cpu .wait) (ap cpuStarts (sym same) ∙ none 5) (ap putsByte (sym same) ∙ none 6);
     }

@@ -1,9 +1,12 @@
 -- Levels that are found the same are the same, and RES low changes no field of a state just where the tests say so.
 use mathlib.Core.Path.{_≡_, refl, sym, ap}
-use mathlib.Core.Bool.{Bool, true, false, _&&_, not, Bool·beq}
+use mathlib.Core.Bool.{Bool, true, false, _&&_, not, Bool·beq, false≢true}
 use lib.Dec.{eqb}
 use borrow.Author.Tests.{eqb-true, eq-eqb, not-true}
 use Rattle.bits.proofs.Cond.{and-left, and-right}
+use Rattle.cpu_access.specs.declared.waiting.Waiting.{Waiting}
+use Rattle.cpu_access.specs.declared.waiting.Waiting.the-variants.{Nothing, Byte}
+use Rattle.cpu_access.specs.Waiting.{byteWaits}
 use Rattle.serial.specs.declared.transmitter.Transmitter.{Transmitter}
 use Rattle.serial.specs.declared.receiver.Receiver.{Receiver}
 use Rattle.serial.specs.Transmitter.{idleTransmitter}
@@ -109,11 +112,18 @@ receiver-idle r e =
       register = eqb-true (r .register) 0 (and-right (sub && half && left) register e) i;
     }
 
+none-waits : (v : Waiting) → byteWaits v ≡ false → v ≡ Nothing
+unfolding byteWaits
+none-waits Nothing e = refl
+none-waits (Byte w) e = absurd (false≢true (sym e))
+
 -- where the tests pass, RES low changes no field
 pub reset-same : (s : State) → isReset s ≡ true → resetOf s ≡ s
 unfolding isReset resetOf
 reset-same s e =
-    let wait = eqb (s .cpu .wait) 0 in
+    let over = eqb (s .cpu .wait) 0 in
+    let none = not (byteWaits (s .cpu .waiting)) in
+    let wait = over && none in
     let reset = s .due .reset in
     let nmi = not (s .due .nmi) in
     let ports = portsFresh (s .peripherals .ports) in
@@ -133,7 +143,8 @@ reset-same s e =
         sp = s .cpu .sp;
         p = s .cpu .p;
         pc = s .cpu .pc;
-        wait = eqb-true (s .cpu .wait) 0 (and-left wait reset two) i;
+        wait = eqb-true (s .cpu .wait) 0 (and-left over none (and-left wait reset two)) i;
+        waiting = none-waits (s .cpu .waiting) (not-true _ (and-right over none (and-left wait reset two))) i;
       };
       due = record { reset = and-right wait reset two i; nmi = not-true (s .due .nmi) (and-right (wait && reset) nmi three) i };
       peripherals = record {
@@ -154,5 +165,5 @@ reset-same s e =
 
 -- and where RES low changes no field, they pass
 pub same-reset : (s : State) → resetOf s ≡ s → isReset s ≡ true
-unfolding isReset portsFresh controlFresh transmitterIdle receiverIdle resetOf
+unfolding isReset portsFresh controlFresh transmitterIdle receiverIdle resetOf byteWaits
 same-reset s e = ap isReset (sym e)

@@ -13,6 +13,7 @@ use Rattle.r6501q_state.specs.declared.state.Ports.{Ports}
 use Rattle.r6501q_state.specs.declared.state.Control.{Control}
 use Rattle.r6501q_state.specs.declared.state.Levels.{Levels}
 use Rattle.r6501q_state.specs.declared.state.State.{State}
+use Rattle.cpu_access.specs.Waiting.{byteWaits}
 use Rattle.r6501q_state.specs.Pins.{levelsOf, rose, withEdges, sensed}
 use Rattle.r6501q_state.specs.Control.{modeA, modeB}
 use Rattle.r6501q_clock.specs.Clock.{inputsSet}
@@ -56,10 +57,11 @@ transmitterIdle t = eqb (t .left) 0 && eqb (t .phase) 0 && eqb (t .register) 0
 unfoldable pub receiverIdle : Receiver → Bool
 receiverIdle r = eqb (r .subinterval) 0 && not (r .half) && eqb (r .left) 0 && eqb (r .register) 0
 
--- RES low changes no field: those, and "drops NMI due, sets wait to 0 and makes reset due" (`reset-same`, `same-reset`)
+-- RES low changes no field: those, and "drops NMI due, sets wait to 0 and makes reset due", and 02, U6: "drops a waiting
+-- byte" (`reset-same`, `same-reset`)
 unfoldable pub isReset : State → Bool
 isReset s =
-    eqb (s .cpu .wait) 0 && s .due .reset && not (s .due .nmi)
+    eqb (s .cpu .wait) 0 && not (byteWaits (s .cpu .waiting)) && s .due .reset && not (s .due .nmi)
     && portsFresh (s .peripherals .ports) && controlFresh (s .peripherals .control)
     && transmitterIdle (s .peripherals .transmitter) && receiverIdle (s .peripherals .receiver)
 
@@ -71,6 +73,10 @@ resetChanges s = not (s .last .res) && not (isReset s)
 unfoldable pub cpuStarts : State → Bool
 cpuStarts s = s .last .res && eqb (s .cpu .wait) 0
 
+-- 02, U6: "A last clock with a byte waiting is an event clock."
+unfoldable pub putsByte : State → Bool
+putsByte s = s .last .res && byteWaits (s .cpu .waiting) && eqb (s .cpu .wait) 1
+
 -- the kinds of event that are seen on the state, once the clock is counted and its inputs have set the external levels
 abbrev pub eventTests : State → List Bool
 eventTests b =
@@ -79,6 +85,7 @@ eventTests b =
     ∷ underflowsB (b .last .ports) (sensed b)
     ∷ resetChanges (withEdges b (levelsOf b))
     ∷ cpuStarts (sensed b)
+    ∷ putsByte (sensed b)
     ∷ []
 
 -- the next clock of a state is an event clock, given the codes of that clock's inputs

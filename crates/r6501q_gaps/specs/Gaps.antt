@@ -2,10 +2,12 @@
 use mathlib.Core.Bool.{Bool, true, false, not, cond}
 use mathlib.Core.List.{List, [], _∷_}
 use Prim.Native.Nat.{ℕ, _+_, _-_, min}
-use Rattle.bits.specs.Bits.{bit}
+use Rattle.bits.specs.Bits.{bit, digit}
+use Rattle.cpu_access.specs.Waiting.{byteWaits}
 use Rattle.counters.specs.declared.time.Clocks.{Clocks}
 use Rattle.counters.specs.Counters.{runsA, runsB, passA, passB}
 use Rattle.r6501q_state.specs.declared.state.Control.{Control}
+use Rattle.r6501q_state.specs.declared.state.Cpu.{Cpu}
 use Rattle.r6501q_state.specs.declared.state.Peripherals.{Peripherals}
 use Rattle.r6501q_state.specs.declared.state.State.{State}
 use Rattle.r6501q_state.specs.Copies.{atWait, withCounterA, withCounterB}
@@ -44,16 +46,21 @@ toUnderflowB n s = cond (runningB (s .peripherals .control)) (s .peripherals .co
 unfoldable pub toReset : ℕ → State → ℕ
 toReset n s = cond (resetChanges s) 0 n
 
--- "the CPU starts": once its wait is over
-unfoldable pub toStart : ℕ → State → ℕ
-toStart n s = cond (s .last .res) (s .cpu .wait) n
+-- the clocks before the CPU acts, where RES is high: before it starts, its wait; before it puts a byte that waits, one
+-- less (02, U6: "on its last clock")
+unfoldable pub untilCpu : Cpu → ℕ
+untilCpu c = c .wait - digit (byteWaits (c .waiting))
+
+-- "the CPU starts"; 02, U6: "A last clock with a byte waiting"
+unfoldable pub toCpu : ℕ → State → ℕ
+toCpu n s = cond (s .last .res) (untilCpu (s .cpu)) n
 
 -- "the gap (clocks before the next event clock, at most those left), the least over the kinds of event": n clocks are
 -- left, and `clocks` are those of the rest of the input list
 unfoldable pub gapOf : ℕ → State → List ℕ → Clocks
 gapOf n s clocks =
     clocksOf (min n (min (toInput n (s .clock) clocks) (min (toChange n s)
-    (min (toUnderflowA n s) (min (toUnderflowB n s) (min (toReset n s) (toStart n s)))))))
+    (min (toUnderflowA n s) (min (toUnderflowB n s) (min (toReset n s) (toCpu n s)))))))
 
 -- "wait too if RES is high"
 unfoldable pub waitAfter : ℕ → Bool → Clocks → ℕ

@@ -1,11 +1,13 @@
 // The clocks before the next event clock of each kind, where there is one to be seen, else the clocks left.
 ghost use mathlib.Core.Bool.{cond};
 ghost use mathlib.Core.Path.{_≡_};
-ghost use Rattle.r6501q_gaps.specs.Gaps.{clocksOf, runningA, runningB, toInput, toChange, toUnderflowA, toUnderflowB, toReset, toStart};
+ghost use Rattle.r6501q_gaps.specs.Gaps.{clocksOf, runningA, runningB, toInput, toChange, toUnderflowA, toUnderflowB, toReset, untilCpu, toCpu};
 use crate::events::levels_change;
 use crate::events::reset_changes;
 use counters::time::Clocks;
+use cpu_access::waiting::byte_waits;
 use r6501q_state::state::Control;
+use r6501q_state::state::Cpu;
 use r6501q_state::state::State;
 
 // Whether counter A counts in every clock of a gap, given the port levels.
@@ -76,9 +78,21 @@ pub fn to_reset(left: Clocks, s: State) -> Clocks
     where_seen(reset_changes(s), Clocks(0), left)
 }
 
-// The CPU's start.
-pub fn to_start(left: Clocks, s: State) -> Clocks
-    ensures { λ r. ⌜ r ≡ clocksOf (toStart (left .0) s) ⌝ }
+// The clocks before the CPU acts: it starts, or puts the byte that waits.
+fn until_cpu(c: Cpu) -> u8
+    ensures { λ r. ⌜ r ≡ untilCpu c ⌝ }
 {
-    where_seen(s.last.res, Clocks(s.cpu.wait as u32), left)
+    let waiting = c.waiting;
+    if byte_waits(waiting) {
+        return bits::one_less(c.wait);
+    }
+    c.wait
+}
+
+// The CPU.
+pub fn to_cpu(left: Clocks, s: State) -> Clocks
+    ensures { λ r. ⌜ r ≡ clocksOf (toCpu (left .0) s) ⌝ }
+{
+    let until = until_cpu(s.cpu);
+    where_seen(s.last.res, Clocks(until as u32), left)
 }

@@ -1,6 +1,7 @@
 // Events that the next clock brings: pin levels unlike the last ones, and RES low where it changes a field.
 ghost use mathlib.Core.Path.{_≡_};
 ghost use Rattle.r6501q_gaps.specs.Events.{sameLevels, levelsChange, portsFresh, controlFresh, transmitterIdle, receiverIdle, isReset, resetChanges};
+use cpu_access::waiting::byte_waits;
 use r6501q_state::state::Control;
 use r6501q_state::state::Levels;
 use r6501q_state::state::Ports;
@@ -59,7 +60,10 @@ fn is_reset(s: State) -> bool
     let control = control_fresh(s.peripherals.control);
     let transmitter = transmitter_idle(s.peripherals.transmitter);
     let receiver = receiver_idle(s.peripherals.receiver);
-    (s.cpu.wait == 0) & s.due.reset & !s.due.nmi & ports & control & transmitter & receiver
+    let cpu = s.cpu;
+    let waiting = cpu.waiting;
+    let waits = byte_waits(waiting);
+    (s.cpu.wait == 0) & !waits & s.due.reset & !s.due.nmi & ports & control & transmitter & receiver
 }
 
 // Whether RES is low and changes a field.

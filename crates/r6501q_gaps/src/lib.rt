@@ -16,7 +16,7 @@ use distances::running_b;
 use distances::to_change;
 use distances::to_input;
 use distances::to_reset;
-use distances::to_start;
+use distances::to_cpu;
 use distances::to_underflow_a;
 use distances::to_underflow_b;
 use r6501q_state::state::Peripherals;
@@ -33,15 +33,15 @@ pub fn nearer(a: Clocks, b: Clocks) -> Clocks
 }
 
 // The clocks before the next event clock, at most those left. `clocks` are those of the rest of the input list. The CPU
-// comes first: where it starts on the next clock, there is no gap, and no other distance is worked out.
+// comes first: where it starts or puts a byte on the next clock, there is no gap, and no other distance is worked out.
 pub fn gap(state: State, left: Clocks, clocks: &[u32]) -> Clocks
     ensures { λ r. ⌜ r ≡ gapOf (left .0) state (now (clocks .entry)) ⌝ }
 {
-    let start = to_start(left, state);
-    if start.0 == 0 {
+    let cpu = to_cpu(left, state);
+    if cpu.0 == 0 {
         return Clocks(0);
     }
-    let reset = nearer(to_reset(left, state), start);
+    let reset = nearer(to_reset(left, state), cpu);
     let underflow_b = nearer(to_underflow_b(left, state), reset);
     let underflow_a = nearer(to_underflow_a(left, state), underflow_b);
     let change = nearer(to_change(left, state), underflow_a);

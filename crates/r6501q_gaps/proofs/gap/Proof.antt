@@ -1,8 +1,8 @@
 use mathlib.Core.Path.{_≡_, refl, sym, ap}
 use native.Mathlib.Omega.{arith}
 use Rattle.counters.specs.declared.time.Clocks.{Clocks}
-use Rattle.r6501q_gaps.specs.Gaps.{toStart, gapOf}
-use Rattle.r6501q_gaps.proofs.Gaps.{none-before-start, nearer-of}
+use Rattle.r6501q_gaps.specs.Gaps.{toCpu, gapOf}
+use Rattle.r6501q_gaps.proofs.Gaps.{none-before-cpu, nearer-of}
 use borrow.Author.Needs.{needs}
 use Rattle.r6501q_gaps.proofs.gap.Statement.{statement}
 use Rattle.r6501q_gaps.proofs.gap.Tie as tie
@@ -11,21 +11,21 @@ use Rattle.r6501q_gaps.proofs.gap.Lts as lts
 use Rattle.r6501q_gaps.proofs.distances.to_change.Reads as to-change-reads
 use Rattle.r6501q_gaps.proofs.distances.to_input.Reads as to-input-reads
 use Rattle.r6501q_gaps.proofs.distances.to_reset.Reads as to-reset-reads
-use Rattle.r6501q_gaps.proofs.distances.to_start.Reads as to-start-reads
+use Rattle.r6501q_gaps.proofs.distances.to_cpu.Reads as to-cpu-reads
 use Rattle.r6501q_gaps.proofs.distances.to_underflow_a.Reads as to-underflow-a-reads
 use Rattle.r6501q_gaps.proofs.distances.to_underflow_b.Reads as to-underflow-b-reads
 use Rattle.r6501q_gaps.proofs.nearer.Reads as nearer-reads
 
 -- src/lib.rt:38:17
-to-start-requires : tie.Need-to-start-requires
-to-start-requires c κs = search needs
+to-cpu-requires : tie.Need-to-cpu-requires
+to-cpu-requires c κs = search needs
 
 -- src/lib.rt:40:9
 returns : tie.Need-returns
 returns c =
     let at = c .before .before .before .before .args in
-    let start : toStart (at .left .0) (at .state) ≡ 0 = omega (arith, ap (λ (r : Clocks). r .0) (c .before .before .to-start .ensures), c .if1 .taken) in
-    sym (none-before-start (at .left .0) (at .state) _ start)
+    let cpu : toCpu (at .left .0) (at .state) ≡ 0 = omega (arith, ap (λ (r : Clocks). r .0) (c .before .before .to-cpu .ensures), c .if1 .taken) in
+    sym (none-before-cpu (at .left .0) (at .state) _ cpu)
 
 -- src/lib.rt:42:24
 to-reset-requires : tie.Need-to-reset-requires
@@ -75,7 +75,7 @@ nearer-requires-6 c κs = search needs
 returns-2 : tie.Need-returns-2
 unfolding gapOf
 returns-2 c =
-    let reset = nearer-of (c .before .before .before .before .before .before .before .before .before .before .to-reset .ensures) (c .before .before .before .before .before .before .before .before .before .before .before .before .before .to-start .ensures) (c .before .before .before .before .before .before .before .before .before .nearer .ensures) in
+    let reset = nearer-of (c .before .before .before .before .before .before .before .before .before .before .to-reset .ensures) (c .before .before .before .before .before .before .before .before .before .before .before .before .before .to-cpu .ensures) (c .before .before .before .before .before .before .before .before .before .nearer .ensures) in
     let underflow-b = nearer-of (c .before .before .before .before .before .before .before .before .to-underflow-b .ensures) reset (c .before .before .before .before .before .before .before .nearer2 .ensures) in
     let underflow-a = nearer-of (c .before .before .before .before .before .before .to-underflow-a .ensures) underflow-b (c .before .before .before .before .before .nearer3 .ensures) in
     let change = nearer-of (c .before .before .before .before .to-change .ensures) underflow-a (c .before .before .before .nearer4 .ensures) in
@@ -86,7 +86,7 @@ pub gap-spec : {M : Type 1} → statement M
 gap-spec =
     tie.close
     (tie.spec
-    to-start-requires
+    to-cpu-requires
     returns
     to-reset-requires
     nearer-requires
