@@ -1,5 +1,5 @@
 -- What crosses to and from programs in C and Rust: document 01, "Machine state", with each flag and level as a byte.
-use mathlib.Core.Bool.{Bool, true, false, _&&_, cond}
+use mathlib.Core.Bool.{Bool, true, false, _&&_, _||_, cond}
 use Prim.Native.Nat.{ℕ}
 use lib.Dec.{leb, eqb}
 use Rattle.bits.specs.Bits.{digit}
@@ -9,13 +9,20 @@ use Rattle.bit_rate.specs.BitRate.{latchNumber}
 use Rattle.counters.specs.declared.b.CounterB.{CounterB}
 use Rattle.cpu_access.specs.declared.halt.Halt.{Halt}
 use Rattle.cpu_access.specs.declared.halt.Halt.the-variants.{Nowhere, At}
+use Rattle.cpu_access.specs.declared.waiting.Waiting.{Waiting}
+use Rattle.cpu_access.specs.declared.waiting.Waiting.the-variants as waiting
+use Rattle.cpu_access.specs.declared.waiting.Waiting.the-variants.{Byte}
+use Rattle.cpu_access.specs.Stack.{writeAt}
 use Rattle.serial.specs.declared.receiver.Receiver.{Receiver}
+use Rattle.r6501q_state.specs.declared.state.Cpu.{Cpu}
 use Rattle.r6501q_state.specs.declared.state.Due.{Due}
 use Rattle.r6501q_state.specs.declared.state.Peripherals.{Peripherals}
 use Rattle.r6501q_state.specs.declared.state.Levels.{Levels}
 use Rattle.r6501q_state.specs.declared.state.State.{State}
 use Rattle.r6501q_step.specs.declared.CallResult.{CallResult}
 use Rattle.tape.specs.declared.LoadResult.{LoadResult}
+use Rattle.r6501q.specs.declared.host.HostWaiting.{HostWaiting}
+use Rattle.r6501q.specs.declared.host.HostCpu.{HostCpu}
 use Rattle.r6501q.specs.declared.host.HostDue.{HostDue}
 use Rattle.r6501q.specs.declared.host.HostCounterB.{HostCounterB}
 use Rattle.r6501q.specs.declared.host.HostReceiver.{HostReceiver}
@@ -30,6 +37,21 @@ use Rattle.r6501q.specs.declared.host.HostLatchResult.{HostLatchResult}
 
 abbrev pub flagOf : ℕ → Bool
 flagOf b = eqb b 1
+
+abbrev pub waitingFromHost : HostWaiting → Waiting
+waitingFromHost h = cond (flagOf (h .there)) (Byte (writeAt (h .address) (h .value))) waiting.Nothing
+
+abbrev pub cpuFromHost : HostCpu → Cpu
+cpuFromHost h = record {
+  a = h .a;
+  x = h .x;
+  y = h .y;
+  sp = h .sp;
+  p = h .p;
+  pc = h .pc;
+  wait = h .wait;
+  waiting = waitingFromHost (h .waiting);
+}
 
 abbrev pub dueFromHost : HostDue → Due
 dueFromHost h = record { reset = flagOf (h .reset); nmi = flagOf (h .nmi) }
@@ -61,7 +83,7 @@ peripheralsFromHost h = record {
 
 unfoldable pub stateFromHost : HostState → State
 stateFromHost h = record {
-  cpu = h .cpu;
+  cpu = cpuFromHost (h .cpu);
   due = dueFromHost (h .due);
   peripherals = peripheralsFromHost (h .peripherals);
   external = levelsFromHost (h .external);
@@ -73,9 +95,14 @@ stateFromHost h = record {
 abbrev pub isFlag : ℕ → Bool
 isFlag b = leb b 1
 
+-- 02, U6: "one byte waiting, with its address, or none": none is one value, 0 in each of the three fields
+unfoldable pub waitingFits : HostWaiting → Bool
+waitingFits h = eqb (h .there) 1 || (eqb (h .there) 0 && eqb (h .address) 0 && eqb (h .value) 0)
+
 unfoldable pub flagsFit : HostState → Bool
 flagsFit h =
-    (isFlag (h .due .reset) && isFlag (h .due .nmi))
+    waitingFits (h .cpu .waiting)
+    && (isFlag (h .due .reset) && isFlag (h .due .nmi))
     && (isFlag (h .peripherals .counterb .turnc) && isFlag (h .peripherals .receiver .half))
     && (isFlag (h .external .nmi) && isFlag (h .external .res))
     && (isFlag (h .last .nmi) && isFlag (h .last .res))
@@ -86,6 +113,22 @@ unfoldable pub haltOf : ℕ → Halt
 haltOf halt = cond (leb halt 65535) (At halt) Nowhere
 
 -- ---- to the host
+
+abbrev pub hostWaiting : Waiting → HostWaiting
+hostWaiting waiting.Nothing = record { there = 0; address = 0; value = 0 }
+hostWaiting (Byte w) = record { there = 1; address = w .address; value = w .value }
+
+abbrev pub hostCpu : Cpu → HostCpu
+hostCpu c = record {
+  a = c .a;
+  x = c .x;
+  y = c .y;
+  sp = c .sp;
+  p = c .p;
+  pc = c .pc;
+  wait = c .wait;
+  waiting = hostWaiting (c .waiting);
+}
 
 abbrev pub hostDue : Due → HostDue
 hostDue d = record { reset = digit (d .reset); nmi = digit (d .nmi) }
@@ -112,7 +155,7 @@ hostPeripherals p = record {
 
 unfoldable pub hostState : State → HostState
 hostState s = record {
-  cpu = s .cpu;
+  cpu = hostCpu (s .cpu);
   due = hostDue (s .due);
   peripherals = hostPeripherals (s .peripherals);
   external = hostLevels (s .external);

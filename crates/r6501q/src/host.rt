@@ -1,12 +1,14 @@
 // The state and what is handed back as the host, a program in C or Rust, holds them: each flag and level is a byte, 0
-// or 1.
+// or 1, and no byte waiting is 0, 0, 0.
 ghost use mathlib.Core.Path.{_≡_};
-ghost use Rattle.r6501q.specs.Host.{dueFromHost, counterBFromHost, receiverFromHost, levelsFromHost, peripheralsFromHost, stateFromHost, flagsFit, haltOf, hostDue, hostCounterB, hostReceiver, hostLevels, hostPeripherals, hostState, hostResult, hostLoadResult, hostLatchResult};
+ghost use Rattle.r6501q.specs.Host.{waitingFromHost, cpuFromHost, waitingFits, hostWaiting, hostCpu, dueFromHost, counterBFromHost, receiverFromHost, levelsFromHost, peripheralsFromHost, stateFromHost, flagsFit, haltOf, hostDue, hostCounterB, hostReceiver, hostLevels, hostPeripherals, hostState, hostResult, hostLoadResult, hostLatchResult};
 use bit_rate::Found;
 use bits::digit8;
 use counters::a::CounterA;
 use counters::b::CounterB;
 use cpu_access::halt::Halt;
+use cpu_access::stack::Write;
+use cpu_access::waiting::Waiting;
 use r6501q_state::state::Control;
 use r6501q_state::state::Cpu;
 use r6501q_state::state::Due;
@@ -19,6 +21,25 @@ use r6501q_step::CallResult;
 use serial::receiver::Receiver;
 use serial::transmitter::Transmitter;
 use tape::LoadResult;
+
+#[repr(C)]
+pub struct HostWaiting {
+    pub there: u8,
+    pub address: u16,
+    pub value: u8,
+}
+
+#[repr(C)]
+pub struct HostCpu {
+    pub a: u8,
+    pub x: u8,
+    pub y: u8,
+    pub sp: u8,
+    pub p: u8,
+    pub pc: u16,
+    pub wait: u8,
+    pub waiting: HostWaiting,
+}
 
 #[repr(C)]
 pub struct HostDue {
@@ -62,7 +83,7 @@ pub struct HostLevels {
 
 #[repr(C)]
 pub struct HostState {
-    pub cpu: Cpu,
+    pub cpu: HostCpu,
     pub due: HostDue,
     pub peripherals: HostPeripherals,
     pub external: HostLevels,
@@ -93,6 +114,34 @@ pub struct HostLatchResult {
 }
 
 // From the host: a byte of 1 is a yes. Bytes above 1 are refused before, by `flags_fit`.
+fn waiting_from(h: HostWaiting) -> Waiting
+    ensures { λ r. ⌜ r ≡ waitingFromHost h ⌝ }
+{
+    if h.there == 1 {
+        let byte = Write {
+            address: h.address,
+            value: h.value,
+        };
+        return Waiting::Byte(byte);
+    }
+    Waiting::Nothing
+}
+
+fn cpu_from(h: HostCpu) -> Cpu
+    ensures { λ r. ⌜ r ≡ cpuFromHost h ⌝ }
+{
+    Cpu {
+        a: h.a,
+        x: h.x,
+        y: h.y,
+        sp: h.sp,
+        p: h.p,
+        pc: h.pc,
+        wait: h.wait,
+        waiting: waiting_from(h.waiting),
+    }
+}
+
 fn due_of(h: HostDue) -> Due
     ensures { λ r. ⌜ r ≡ dueFromHost h ⌝ }
 {
@@ -157,9 +206,8 @@ fn peripherals_of(h: HostPeripherals) -> Peripherals
 pub fn state_of(h: HostState) -> State
     ensures { λ r. ⌜ r ≡ stateFromHost h ⌝ }
 {
-    let cpu = h.cpu;
     State {
-        cpu: cpu,
+        cpu: cpu_from(h.cpu),
         due: due_of(h.due),
         peripherals: peripherals_of(h.peripherals),
         external: levels_of(h.external),
@@ -168,11 +216,20 @@ pub fn state_of(h: HostState) -> State
     }
 }
 
-// Whether each flag and level is 0 or 1.
+// Whether there is a byte waiting or not, and none is 0, 0, 0.
+fn waiting_fits(h: HostWaiting) -> bool
+    ensures { λ r. ⌜ r ≡ waitingFits h ⌝ }
+{
+    (h.there == 1) | ((h.there == 0) & (h.address == 0) & (h.value == 0))
+}
+
+// Whether each flag and level is 0 or 1, and none waiting 0, 0, 0.
 pub fn flags_fit(h: HostState) -> bool
     ensures { λ r. ⌜ r ≡ flagsFit h ⌝ }
 {
-    ((h.due.reset <= 1) & (h.due.nmi <= 1))
+    let waiting = waiting_fits(h.cpu.waiting);
+    waiting
+        & ((h.due.reset <= 1) & (h.due.nmi <= 1))
         & ((h.peripherals.counterb.turnc <= 1) & (h.peripherals.receiver.half <= 1))
         & ((h.external.nmi <= 1) & (h.external.res <= 1))
         & ((h.last.nmi <= 1) & (h.last.res <= 1))
@@ -189,6 +246,39 @@ pub fn halt_of(halt: u32) -> Halt
 }
 
 // To the host.
+fn host_waiting(w: Waiting) -> HostWaiting
+    ensures { λ r. ⌜ r ≡ hostWaiting w ⌝ }
+{
+    match w {
+        Waiting::Nothing => HostWaiting {
+            there: 0,
+            address: 0,
+            value: 0,
+        },
+        Waiting::Byte(byte) => HostWaiting {
+            there: 1,
+            address: byte.address,
+            value: byte.value,
+        },
+    }
+}
+
+fn host_cpu(c: Cpu) -> HostCpu
+    ensures { λ r. ⌜ r ≡ hostCpu c ⌝ }
+{
+    let waiting = c.waiting;
+    HostCpu {
+        a: c.a,
+        x: c.x,
+        y: c.y,
+        sp: c.sp,
+        p: c.p,
+        pc: c.pc,
+        wait: c.wait,
+        waiting: host_waiting(waiting),
+    }
+}
+
 fn host_due(d: Due) -> HostDue
     ensures { λ r. ⌜ r ≡ hostDue d ⌝ }
 {
@@ -253,9 +343,8 @@ fn host_peripherals(p: Peripherals) -> HostPeripherals
 pub fn host_state(s: State) -> HostState
     ensures { λ r. ⌜ r ≡ hostState s ⌝ }
 {
-    let cpu = s.cpu;
     HostState {
-        cpu: cpu,
+        cpu: host_cpu(s.cpu),
         due: host_due(s.due),
         peripherals: host_peripherals(s.peripherals),
         external: host_levels(s.external),

@@ -8,7 +8,7 @@ use lib.ListN.{drop}
 use Rattle.counters.specs.declared.time.Clocks.{Clocks}
 use Rattle.leaps.specs.Leaps.{ByLeaps}
 use Rattle.cpu_access.specs.declared.halt.Halt.{Halt}
-use Rattle.cpu.specs.declared.quiet.Work.{Work}
+use Rattle.r6501q_spans.specs.declared.Working.{Working}
 use Rattle.r6501q_gaps.specs.Gaps.{clocksOf}
 use Rattle.r6501q_spans.specs.Spans.{spanOf, workingState}
 use Rattle.r6501q_step.specs.R6501q.{chip}
@@ -22,16 +22,16 @@ spanFrom at inputClocks =
     (spanOf (at .left .0) (at .progress .state) (drop (at .progress .read) inputClocks)) (clocksOf 0)
 
 -- the run after the leaps of a span
-abbrev pub spannedTo : Leaped → Work → Leaped
-spannedTo at w = record {
+abbrev pub spannedTo : Leaped → Working → Leaped
+spannedTo at v = record {
   progress = record {
-    state = workingState (at .progress .state) w;
+    state = workingState (at .progress .state) v;
     read = at .progress .read;
     written = at .progress .written;
     stop = at .progress .stop;
   };
-  left = clocksOf (at .left .0 - w .gone .0);
-  leaps = at .leaps + w .leaps;
+  left = clocksOf (at .left .0 - v .work .gone .0);
+  leaps = at .leaps + v .work .leaps;
 }
 
 -- `r` is reached from `at` by so many whole leaps of document 01's, each the gap, the gap passed and the event clock,

@@ -13,8 +13,8 @@ ghost use Rattle.r6501q_step.specs.Calls.{handed, leapsFrom};
 ghost use Rattle.r6501q_run.specs.Leap.{passedBy, goesOn, runFrom, runEnded, beginRun, Leaping};
 ghost use Rattle.r6501q_run.specs.Spanned.{spanFrom, spannedTo, Spanned};
 use counters::time::Clocks;
-use cpu::quiet::Work;
 use cpu_access::halt::Halt;
+use r6501q_spans::Working;
 use r6501q_spans::begin_work;
 use r6501q_spans::work_once;
 use r6501q_state::state::State;
@@ -173,12 +173,12 @@ fn span_from(at: Leaped, inputclocks: &[u32]) -> Clocks
 }
 
 // A run after the leaps of a span.
-fn spanned_to(at: Leaped, w: Work) -> Leaped
-    requires { ⌜ (at .progress .state .clock + w .gone .0 ≤ 4294967295) × (at .leaps + w .leaps ≤ 4294967295)
-        × (w .gone .0 ≤ at .left .0) ⌝ }
-    ensures { λ r. ⌜ r ≡ spannedTo at w ⌝ }
+fn spanned_to(at: Leaped, v: Working) -> Leaped
+    requires { ⌜ (at .progress .state .clock + v .work .gone .0 ≤ 4294967295) × (at .leaps + v .work .leaps ≤ 4294967295)
+        × (v .work .gone .0 ≤ at .left .0) ⌝ }
+    ensures { λ r. ⌜ r ≡ spannedTo at v ⌝ }
 {
-    let state = r6501q_spans::working_state(at.progress.state, w);
+    let state = r6501q_spans::working_state(at.progress.state, v);
     let progress = Progress {
         state: state,
         read: at.progress.read,
@@ -187,12 +187,13 @@ fn spanned_to(at: Leaped, w: Work) -> Leaped
     };
     Leaped {
         progress: progress,
-        left: Clocks(at.left.0 - w.gone.0),
-        leaps: at.leaps + w.leaps,
+        left: Clocks(at.left.0 - v.work.gone.0),
+        leaps: at.leaps + v.work.leaps,
     }
 }
 
-// The leaps of a span, one for each instruction that starts in it, up to the first that is not the CPU's alone.
+// The leaps of a span, one for each instruction that starts in it and one for each byte that is put in it, up to the
+// first that is not the CPU's alone.
 fn leap_within(
     at: Leaped,
     span: Clocks,
@@ -206,14 +207,14 @@ fn leap_within(
     requires { ⌜ now entries ≡ opcodeTable ⌝ }
     ensures { λ r. ⌜ Spanned halt at (now (memory .entry)) r (now (memory .exit)) (now (inputclocks .entry)) ⌝ }
 {
-    let mut w = begin_work(at.progress.state);
+    let mut v = begin_work(at.progress.state);
     let mut on = true;
     while on {
-        let next = work_once(w, span, memory, entries, halt);
-        on = w.gone.0 < next.gone.0;
-        w = next;
+        let next = work_once(v, span, memory, entries, halt);
+        on = v.work.gone.0 < next.work.gone.0;
+        v = next;
     }
-    spanned_to(at, w)
+    spanned_to(at, v)
 }
 
 // The leaps of a span, if there is one.

@@ -12,11 +12,13 @@ use Rattle.r6501q_state.specs.Control.{pending}
 use Rattle.cpu_access.specs.declared.stack.Write.{Write}
 use Rattle.cpu_access.specs.declared.stack.Writes.{Writes}
 use Rattle.cpu_access.specs.declared.halt.Halt.{Halt}
-use Rattle.cpu_access.specs.Stack.{eachWrite}
+use Rattle.cpu_access.specs.declared.waiting.Waiting.{Waiting}
+use Rattle.cpu_access.specs.declared.waiting.Waiting.the-variants as waiting
+use Rattle.cpu_access.specs.Stack.{eachWrite, oneWrite}
 use Rattle.cpu_access.specs.Halt.{halts}
 use Rattle.memory.specs.Memory.{isRegister}
 use Rattle.cpu_operations.specs.declared.Worked.{Worked}
-use Rattle.cpu_operations.specs.Effects.{writesOf}
+use Rattle.cpu_operations.specs.Effects.{pushesOf, waitingOf}
 use Rattle.cpu.specs.declared.Outcome.{Outcome}
 use Rattle.cpu.specs.declared.Outcome.the-variants.{Undefined, Asked, Done}
 use Rattle.cpu.specs.declared.quiet.Work.{Work}
@@ -25,6 +27,7 @@ use Rattle.cpu.specs.Quiet.{nextWork, Quietly}
 use Rattle.r6501q_cpu.specs.Processor.{registersOf, cpuOf}
 use Rattle.r6501q_gaps.specs.Gaps.{clocksOf, toInput, toChange, toUnderflowA, toUnderflowB, passCounters}
 use Rattle.r6501q_clock.specs.Commit.{committed}
+use Rattle.r6501q_spans.specs.declared.Working.{Working}
 
 -- RES is high, neither reset nor NMI is due, and no flag that is enabled is set; P is as the machine keeps it (01,
 -- Machine state: "Bits 4 and 5 of P are 0")
@@ -44,40 +47,51 @@ nearestEvent n s clocks =
 unfoldable pub spanOf : ℕ → State → List ℕ → Clocks
 spanOf n s clocks = cond (onlyCpu s) (clocksOf (nearestEvent n s clocks)) (clocksOf 0)
 
-abbrev pub beginWork : State → Work
-beginWork s = record { registers = registersOf (s .cpu); wait = s .cpu .wait; gone = clocksOf 0; leaps = 0 }
+abbrev pub beginWork : State → Working
+beginWork s = record {
+  work = record { registers = registersOf (s .cpu); wait = s .cpu .wait; gone = clocksOf 0; leaps = 0 };
+  waiting = s .cpu .waiting;
+}
 
 -- the state in a span that began with `s`: its clock and the counters that run go on, and all else but the CPU stays
-abbrev pub workingState : State → Work → State
-workingState s w = record {
-  cpu = cpuOf (w .registers) (w .wait);
+abbrev pub workingState : State → Working → State
+workingState s v = record {
+  cpu = cpuOf (v .work .registers) (v .work .wait) (v .waiting);
   due = s .due;
-  peripherals = passCounters (s .peripherals) (s .last .ports) (w .gone);
+  peripherals = passCounters (s .peripherals) (s .last .ports) (v .work .gone);
   external = s .external;
   last = s .last;
-  clock = s .clock + w .gone .0;
+  clock = s .clock + v .work .gone .0;
 }
+
+abbrev pub noneWaiting : Work → Working
+noneWaiting w = record { work = w; waiting = waiting.Nothing }
 
 -- one of the writes is at a register's address
 unfoldable pub writesRegister : Writes → Bool
 writesRegister w =
     eachWrite (λ (there : Bool) (x : Write) (before : Bool). before || (there && isRegister (x .address))) w false
 
--- an instruction with these writes is left to the clock's own rules: one is at a register's or at the halt address
+-- a clock with these writes is left to the clock's own rules: one is at a register's or at the halt address
 unfoldable pub endsSpan : Halt → Writes → Bool
 endsSpan halt w = writesRegister w || halts halt w
 
-unfoldable pub continuedBy : Halt → Work → Worked → Work
-continuedBy halt w worked = cond (endsSpan halt (writesOf (worked .written))) w (nextWork w worked)
+-- ---- no byte waits: instructions
+
+-- a store only begins to wait here, whatever its address
+unfoldable pub continuedBy : Halt → Work → Worked → Working
+continuedBy halt w worked =
+    cond (endsSpan halt (pushesOf (worked .written))) (noneWaiting w)
+    (record { work = nextWork w worked; waiting = waitingOf (worked .written) })
 
 unfoldable pub committedBy : Halt → List ℕ → Worked → List ℕ
 committedBy halt memory worked =
-    cond (endsSpan halt (writesOf (worked .written))) memory (committed memory (writesOf (worked .written)))
+    cond (endsSpan halt (pushesOf (worked .written))) memory (committed memory (pushesOf (worked .written)))
 
 -- with no answer about a register: an instruction that asks for one, or is undefined, is left to the clock's own rules
-abbrev pub workBy : Halt → Work → Outcome → Work
-workBy halt w Undefined = w
-workBy halt w (Asked ask) = w
+abbrev pub workBy : Halt → Work → Outcome → Working
+workBy halt w Undefined = noneWaiting w
+workBy halt w (Asked ask) = noneWaiting w
 workBy halt w (Done worked) = continuedBy halt w worked
 
 abbrev pub memoryBy : Halt → List ℕ → Outcome → List ℕ
@@ -86,9 +100,9 @@ memoryBy halt memory (Asked ask) = memory
 memoryBy halt memory (Done worked) = committedBy halt memory worked
 
 -- the next instruction, if it starts within the span
-unfoldable pub workAfter : Halt → ℕ → Work → List ℕ → Work
+unfoldable pub workAfter : Halt → ℕ → Work → List ℕ → Working
 workAfter halt span w memory =
-    cond (leb (span - w .gone .0) (w .wait)) w (workBy halt w (instructionOf (w .registers) [] memory))
+    cond (leb (span - w .gone .0) (w .wait)) (noneWaiting w) (workBy halt w (instructionOf (w .registers) [] memory))
 
 unfoldable pub memoryAfter : Halt → ℕ → Work → List ℕ → List ℕ
 memoryAfter halt span w memory =
@@ -96,8 +110,35 @@ memoryAfter halt span w memory =
 
 -- the instructions that write nothing, and the one after them. How many of those there are is left free, none at least:
 -- the work may stop at once, and what is left over is done by the next leap.
-pub record WorkedOn (halt : Halt) (span : ℕ) (w : Work) (memory : List ℕ) (r : Work) (memory' : List ℕ) : Type 0 where
+pub record InstructionsWorked (halt : Halt) (span : ℕ) (w : Work) (memory : List ℕ) (r : Working) (memory' : List ℕ) : Type 0 where
   pub at : Work
   pub quietly : Quietly span [] memory w at
   pub work : r ≡ workAfter halt span at memory
   pub bytes : memory' ≡ memoryAfter halt span at memory
+
+-- ---- a byte waits: it is put
+
+-- the clocks waited, on the last of which the byte is put
+abbrev pub putWork : Work → Working
+putWork w = noneWaiting (record {
+  registers = w .registers;
+  wait = 0;
+  gone = record { 0 = w .gone .0 + w .wait };
+  leaps = w .leaps + 1;
+})
+
+-- its clock lies within the span, and it is not left to the clock's own rules
+unfoldable pub putsWithin : Halt → ℕ → Work → Write → Bool
+putsWithin halt span w x =
+    (ltb 0 (w .wait) && leb (w .wait) (span - w .gone .0)) && not (endsSpan halt (oneWrite x))
+
+unfoldable pub workPut : Halt → ℕ → Work → Write → Working
+workPut halt span w x = cond (putsWithin halt span w x) (putWork w) (record { work = w; waiting = waiting.Byte x })
+
+unfoldable pub memoryPut : Halt → ℕ → Work → Write → List ℕ → List ℕ
+memoryPut halt span w x memory = cond (putsWithin halt span w x) (committed memory (oneWrite x)) memory
+
+abbrev pub WorkedOn : Halt → ℕ → Work → Waiting → List ℕ → Working → List ℕ → Type 0
+WorkedOn halt span w waiting.Nothing memory r memory' = InstructionsWorked halt span w memory r memory'
+WorkedOn halt span w (waiting.Byte x) memory r memory' =
+    (r ≡ workPut halt span w x) × (memory' ≡ memoryPut halt span w x memory)

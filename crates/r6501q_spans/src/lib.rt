@@ -4,7 +4,7 @@ ghost use mathlib.Core.Path.{_≡_};
 ghost use Prim.Native.Nat.{_+_, _≤_};
 ghost use Rattle.cpu_opcodes.specs.Table.{opcodeTable};
 ghost use Rattle.cpu.specs.Quiet.{WithinSpan};
-ghost use Rattle.r6501q_spans.specs.Spans.{onlyCpu, spanOf, beginWork, workingState, writesRegister, continuedBy, committedBy, WorkedOn};
+ghost use Rattle.r6501q_spans.specs.Spans.{onlyCpu, spanOf, beginWork, workingState, noneWaiting, writesRegister, endsSpan, continuedBy, committedBy, putWork, workPut, memoryPut, InstructionsWorked, WorkedOn};
 use counters::time::Clocks;
 use cpu::Outcome;
 use cpu::quiet::Work;
@@ -12,9 +12,13 @@ use cpu::quiet::next_work;
 use cpu::quiet::run_instructions;
 use cpu_access::halt::Halt;
 use cpu_access::halt::halts;
+use cpu_access::stack::Write;
 use cpu_access::stack::Writes;
+use cpu_access::stack::one_write;
+use cpu_access::waiting::Waiting;
 use cpu_operations::Worked;
-use cpu_operations::writes_of;
+use cpu_operations::pushes_of;
+use cpu_operations::waiting_of;
 use memory::is_register;
 use r6501q_clock::commit::commit;
 use r6501q_cpu::cpu_of;
@@ -25,6 +29,12 @@ use r6501q_gaps::distances::to_underflow_a;
 use r6501q_gaps::distances::to_underflow_b;
 use r6501q_gaps::nearer;
 use r6501q_state::state::State;
+
+// The CPU at work in a span, and the byte that waits.
+pub struct Working {
+    pub work: Work,
+    pub waiting: Waiting,
+}
 
 // Whether the next instruction is started by nothing but the CPU's own wait: no reset, no interrupt.
 fn only_cpu(s: State) -> bool
@@ -49,26 +59,42 @@ pub fn span(s: State, left: Clocks, clocks: &[u32]) -> Clocks
 }
 
 // The CPU as a span finds it.
-pub fn begin_work(s: State) -> Work
+pub fn begin_work(s: State) -> Working
     ensures { λ r. ⌜ r ≡ beginWork s ⌝ }
 {
-    Work {
+    let cpu = s.cpu;
+    let waiting = cpu.waiting;
+    let work = Work {
         registers: registers_of(s.cpu),
         wait: s.cpu.wait,
         gone: Clocks(0),
         leaps: 0,
+    };
+    Working {
+        work: work,
+        waiting: waiting,
     }
 }
 
 // The chip brought up to date. The clock must have room for what is gone.
-pub fn working_state(s: State, w: Work) -> State
-    requires { ⌜ s .clock + w .gone .0 ≤ 4294967295 ⌝ }
-    ensures { λ r. ⌜ r ≡ workingState s w ⌝ }
+pub fn working_state(s: State, v: Working) -> State
+    requires { ⌜ s .clock + v .work .gone .0 ≤ 4294967295 ⌝ }
+    ensures { λ r. ⌜ r ≡ workingState s v ⌝ }
 {
-    let mut state = r6501q_gaps::pass(s, w.gone);
-    let cpu = cpu_of(w.registers, w.wait);
+    let mut state = r6501q_gaps::pass(s, v.work.gone);
+    let waiting = v.waiting;
+    let cpu = cpu_of(v.work.registers, v.work.wait, waiting);
     state.cpu = cpu;
     state
+}
+
+fn none_waiting(w: Work) -> Working
+    ensures { λ r. ⌜ r ≡ noneWaiting w ⌝ }
+{
+    Working {
+        work: w,
+        waiting: Waiting::Nothing,
+    }
 }
 
 // Whether one of the writes is at a register's address.
@@ -81,42 +107,111 @@ fn writes_register(w: Writes) -> bool
     first | second | third
 }
 
-// An instruction that was worked out: it is done where it writes to memory alone, and not at the halt address.
-fn continue_work(w: Work, worked: Worked, memory: &mut [u8], halt: Halt) -> Work
+// Whether a clock with these writes is left to the clock's own rules.
+fn ends_span(w: Writes, halt: Halt) -> bool
+    ensures { λ r. ⌜ r ≡ endsSpan halt w ⌝ }
+{
+    let register = writes_register(w);
+    register | halts(w, halt)
+}
+
+// An instruction that was worked out: it is done where it pushes to memory alone, and not at the halt address.
+fn continue_work(w: Work, worked: Worked, memory: &mut [u8], halt: Halt) -> Working
     requires { ⌜ (w .gone .0 + w .wait + 1 ≤ 4294967295) × (w .leaps + 1 ≤ 4294967295) ⌝ }
     ensures { λ r. ⌜ r ≡ continuedBy halt w worked ⌝ }
     ensures { λ _. ⌜ now (memory .exit) ≡ committedBy halt (now (memory .entry)) worked ⌝ }
 {
     let written = worked.written;
-    let writes = writes_of(written);
-    if writes_register(writes) {
-        return w;
-    }
-    if halts(writes, halt) {
-        return w;
+    let writes = pushes_of(written);
+    if ends_span(writes, halt) {
+        return none_waiting(w);
     }
     commit(memory, writes);
-    next_work(w, worked)
+    Working {
+        work: next_work(w, worked),
+        waiting: waiting_of(written),
+    }
 }
 
-// The instructions that write nothing, and the one that comes next, if it starts within the span, neither reads nor
-// writes a register of the chip, and does not write the halt address. `entries` is what `cpu_opcodes::opcode_table`
-// gave.
-pub fn work_once(w: Work, span: Clocks, memory: &mut [u8], entries: &[u16], halt: Halt) -> Work
+// The instructions that write nothing, and the one that comes next, if it starts within the span, reads no register of
+// the chip, and pushes neither to one nor at the halt address. `entries` is what `cpu_opcodes::opcode_table` gave.
+fn work_instructions(
+    w: Work,
+    span: Clocks,
+    memory: &mut [u8],
+    entries: &[u16],
+    halt: Halt,
+) -> Working
     requires { ⌜ WithinSpan w (span .0) ⌝ }
     requires { ⌜ now entries ≡ opcodeTable ⌝ }
-    ensures { λ r. ⌜ WorkedOn halt (span .0) w (now (memory .entry)) r (now (memory .exit)) ⌝ }
+    ensures { λ r. ⌜ InstructionsWorked halt (span .0) w (now (memory .entry)) r (now (memory .exit)) ⌝ }
 {
     let answers = [0u8; 0];
     let stopped = run_instructions(w, span, &answers, memory, entries);
     let at = stopped.at;
     if span.0 - at.gone.0 <= at.wait as u32 {
-        return at;
+        return none_waiting(at);
     }
     let outcome = stopped.outcome;
     match outcome {
-        Outcome::Undefined => at,
-        Outcome::Asked(_) => at,
+        Outcome::Undefined => none_waiting(at),
+        Outcome::Asked(_) => none_waiting(at),
         Outcome::Done(worked) => continue_work(at, worked, memory, halt),
+    }
+}
+
+// The last clock of a store.
+fn put_work(w: Work) -> Working
+    requires { ⌜ (w .gone .0 + w .wait ≤ 4294967295) × (w .leaps + 1 ≤ 4294967295) ⌝ }
+    ensures { λ r. ⌜ r ≡ putWork w ⌝ }
+{
+    let registers = w.registers;
+    none_waiting(Work {
+        registers: registers,
+        wait: 0,
+        gone: Clocks(w.gone.0 + w.wait as u32),
+        leaps: w.leaps + 1,
+    })
+}
+
+// The byte that waits is put, if its clock lies within the span, and it goes neither to a register nor to the halt
+// address.
+fn put_within(w: Work, x: Write, span: Clocks, memory: &mut [u8], halt: Halt) -> Working
+    requires { ⌜ WithinSpan w (span .0) ⌝ }
+    ensures { λ r. ⌜ r ≡ workPut halt (span .0) w x ⌝ }
+    ensures { λ _. ⌜ now (memory .exit) ≡ memoryPut halt (span .0) w x (now (memory .entry)) ⌝ }
+{
+    let writes = one_write(x.address, x.value);
+    let within = (0 < w.wait) & (w.wait as u32 <= span.0 - w.gone.0);
+    if within {
+        if !ends_span(writes, halt) {
+            commit(memory, writes);
+            return put_work(w);
+        }
+    }
+    Working {
+        work: w,
+        waiting: Waiting::Byte(x),
+    }
+}
+
+// One leap of a span by the byte that waits, or some by instructions; none where neither can be done in it. `entries`
+// is what `cpu_opcodes::opcode_table` gave.
+pub fn work_once(
+    v: Working,
+    span: Clocks,
+    memory: &mut [u8],
+    entries: &[u16],
+    halt: Halt,
+) -> Working
+    requires { ⌜ WithinSpan (v .work) (span .0) ⌝ }
+    requires { ⌜ now entries ≡ opcodeTable ⌝ }
+    ensures { λ r. ⌜ WorkedOn halt (span .0) (v .work) (v .waiting) (now (memory .entry)) r (now (memory .exit)) ⌝ }
+{
+    let work = v.work;
+    let waiting = v.waiting;
+    match waiting {
+        Waiting::Nothing => work_instructions(work, span, memory, entries, halt),
+        Waiting::Byte(x) => put_within(work, x, span, memory, halt),
     }
 }
