@@ -1,4 +1,4 @@
--- Which instruction ends a span: one that writes a register or the halt address.
+-- Which clock ends a span: one that writes a register or the halt address.
 use mathlib.Core.Path.{_≡_, refl, sym, _∙_}
 use mathlib.Core.Bool.{Bool, true, false, _||_, false≢true}
 use Rattle.cpu_access.specs.declared.stack.Writes.{Writes}
@@ -10,19 +10,10 @@ pub either-false : (p q : Bool) → (p || q) ≡ false → (p ≡ false) × (q �
 either-false true q e = absurd (false≢true (sym e))
 either-false false q e = (refl, e)
 
-module _ (halt : Halt) (w : Writes) where
-  pub ends-by-register : writesRegister w ≡ true → endsSpan halt w ≡ true
-  unfolding endsSpan
-  ends-by-register e = rw e
+pub ends-not : (halt : Halt) (w : Writes) → writesRegister w ≡ false → halts halt w ≡ false → endsSpan halt w ≡ false
+unfolding endsSpan
+ends-not halt w e h = rw (e, h)
 
-  pub ends-by-halt : writesRegister w ≡ false → halts halt w ≡ true → endsSpan halt w ≡ true
-  unfolding endsSpan
-  ends-by-halt e h = rw (e, h)
-
-  pub ends-not : writesRegister w ≡ false → halts halt w ≡ false → endsSpan halt w ≡ false
-  unfolding endsSpan
-  ends-not e h = rw (e, h)
-
-  pub ends-neither : endsSpan halt w ≡ false → (writesRegister w ≡ false) × (halts halt w ≡ false)
-  unfolding endsSpan
-  ends-neither e = either-false (writesRegister w) (halts halt w) e
+pub ends-neither : (halt : Halt) (w : Writes) → endsSpan halt w ≡ false → (writesRegister w ≡ false) × (halts halt w ≡ false)
+unfolding endsSpan
+ends-neither halt w e = either-false (writesRegister w) (halts halt w) e

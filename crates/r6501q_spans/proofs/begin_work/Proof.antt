@@ -6,11 +6,11 @@ use Rattle.r6501q_spans.proofs.begin_work.Reads as reads
 use Rattle.r6501q_spans.proofs.begin_work.Lts as lts
 use Rattle.r6501q_cpu.proofs.registers_of.Reads as registers-of-reads
 
--- src/lib.rt:59:20
+-- src/lib.rt:68:20
 registers-of-requires : tie.Need-registers-of-requires
 registers-of-requires c κs = search needs
 
--- src/lib.rt:55:1
+-- src/lib.rt:62:1
 returns : tie.Need-returns
 returns c = rw (← (c .registers-of .ensures)) refl
 

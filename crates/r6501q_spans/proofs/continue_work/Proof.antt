@@ -1,61 +1,71 @@
 use mathlib.Core.Path.{refl, sym, _∙_}
 use Rattle.r6501q_spans.specs.Spans.{continuedBy, committedBy}
-use Rattle.r6501q_spans.proofs.Ends.{ends-by-register, ends-by-halt, ends-not}
 use borrow.Author.Needs.{needs}
 use Rattle.r6501q_spans.proofs.continue_work.Statement.{statement}
 use Rattle.r6501q_spans.proofs.continue_work.Tie as tie
+use Rattle.r6501q_spans.proofs.continue_work.Reads as reads
+use Rattle.r6501q_spans.proofs.continue_work.Lts as lts
+use Rattle.cpu.proofs.quiet.next_work.Reads as next-work-reads
+use Rattle.cpu_operations.proofs.pushes_of.Reads as pushes-of-reads
+use Rattle.cpu_operations.proofs.waiting_of.Reads as waiting-of-reads
+use Rattle.r6501q_clock.proofs.commit.commit.Reads as commit-reads
+use Rattle.r6501q_spans.proofs.ends_span.Reads as ends-span-reads
+use Rattle.r6501q_spans.proofs.none_waiting.Reads as none-waiting-reads
 
-writes-of-requires : tie.Need-writes-of-requires
-writes-of-requires c κs = search needs
+-- src/lib.rt:125:9
+pushes-of-requires : tie.Need-pushes-of-requires
+pushes-of-requires c κs = search needs
 
-writes-register-requires : tie.Need-writes-register-requires
-writes-register-requires c κs = search needs
+-- src/lib.rt:126:8
+ends-span-requires : tie.Need-ends-span-requires
+ends-span-requires c κs = search needs
 
+-- src/lib.rt:127:9
+none-waiting-requires : tie.Need-none-waiting-requires
+none-waiting-requires c κs = search needs
+
+-- src/lib.rt:127:9
 returns : tie.Need-returns
 unfolding continuedBy committedBy
-returns c =
-    let w = c .before .before .writes-of .ensures in
-    let e = ends-by-register (c .before .before .before .before .args .halt) _ (sym (c .before .writes-register .ensures) ∙ c .if1 .taken) in
-    (rw (← w, e) refl, rw (← w, e) refl)
+returns c = 
+    let w = c .before .before .before .pushes-of .ensures in
+    let e = sym (c .before .before .ends-span .ensures) ∙ c .before .if1 .taken in
+    (rw (← w, e) (c .none-waiting .ensures), rw (← w, e) refl)
 
-halts-requires : tie.Need-halts-requires
-halts-requires c κs = search needs
-
-returns-2 : tie.Need-returns-2
-unfolding continuedBy committedBy
-returns-2 c =
-    let w = c .before .before .before .before .writes-of .ensures in
-    let none = sym (c .before .before .before .writes-register .ensures) ∙ c .before .before .if1 .left in
-    let e = ends-by-halt (c .before .before .before .before .before .before .args .halt) _ none (sym (c .before .halts .ensures) ∙ c .if2 .taken) in
-    (rw (← w, e) refl, rw (← w, e) refl)
-
+-- src/lib.rt:129:5
 commit-requires : tie.Need-commit-requires
 commit-requires c κs = search needs
 
+-- src/lib.rt:131:15
 next-work-requires : tie.Need-next-work-requires
 next-work-requires c κs = search needs
 
+-- src/lib.rt:132:18
+waiting-of-requires : tie.Need-waiting-of-requires
+waiting-of-requires c κs = search needs
+
+-- src/lib.rt:119:1
 same-length : tie.Need-same-length
 same-length c = search needs
 
-returns-3 : tie.Need-returns-3
+-- src/lib.rt:119:1
+returns-2 : tie.Need-returns-2
 unfolding continuedBy committedBy
-returns-3 c =
-    let w = c .before .before .before .before .before .before .before .before .before .writes-of .ensures in
-    let none = sym (c .before .before .before .before .before .before .before .before .writes-register .ensures) ∙ c .before .before .before .before .before .before .before .if1 .left in
-    let e = ends-not (c .before .before .before .before .before .before .before .before .before .before .before .args .halt) _ none (sym (c .before .before .before .before .before .before .halts .ensures) ∙ c .before .before .before .before .before .if2 .left) in
-    (rw (← w, e) (c .next-work .ensures), rw (← w, e) (c .before .before .before .commit .ensures))
+returns-2 c = 
+    let w = c .before .before .before .before .before .before .before .before .pushes-of .ensures in
+    let e = sym (c .before .before .before .before .before .before .before .ends-span .ensures) ∙ c .before .before .before .before .before .before .if1 .left in
+    (rw (← w, e, c .before .next-work .ensures, c .waiting-of .ensures) refl, rw (← w, e) (c .before .before .before .before .commit .ensures))
 
 pub continue-work-spec : {M : Type 1} → statement M
 continue-work-spec =
     tie.close
     (tie.spec
-    writes-of-requires
-    writes-register-requires
+    pushes-of-requires
+    ends-span-requires
+    none-waiting-requires
     returns
-    halts-requires
-    returns-2
     commit-requires
     next-work-requires
+    waiting-of-requires
     same-length
-    returns-3)
+    returns-2)

@@ -1,0 +1,86 @@
+use mathlib.Core.Path.{refl, sym, _∙_}
+use lib.Dec.{ltb}
+use native.Mathlib.Omega.{arith}
+use borrow.Author.Tests.{ltb-true, leb-true, not-true, not-false}
+use Rattle.bits.proofs.Cond.{and-left, and-right}
+use Rattle.r6501q_spans.specs.Spans.{putsWithin, workPut, memoryPut}
+use borrow.Author.Needs.{needs}
+use Rattle.r6501q_spans.proofs.put_within.Statement.{statement}
+use Rattle.r6501q_spans.proofs.put_within.Tie as tie
+use Rattle.r6501q_spans.proofs.put_within.Reads as reads
+use Rattle.r6501q_spans.proofs.put_within.Lts as lts
+use Rattle.cpu_access.proofs.stack.one_write.Reads as one-write-reads
+use Rattle.r6501q_clock.proofs.commit.commit.Reads as commit-reads
+use Rattle.r6501q_spans.proofs.ends_span.Reads as ends-span-reads
+use Rattle.r6501q_spans.proofs.put_work.Reads as put-work-reads
+
+-- src/lib.rt:184:9
+one-write-requires : tie.Need-one-write-requires
+one-write-requires c κs = search needs
+
+-- src/lib.rt:185:34
+cast-within : tie.Need-cast-within
+cast-within c = search needs
+
+-- src/lib.rt:185:51
+sub-within : tie.Need-sub-within
+sub-within c = search needs
+
+-- src/lib.rt:187:13
+ends-span-requires : tie.Need-ends-span-requires
+ends-span-requires c κs = search needs
+
+-- src/lib.rt:188:13
+commit-requires : tie.Need-commit-requires
+commit-requires c κs = search needs
+
+-- src/lib.rt:189:13
+put-work-requires : tie.Need-put-work-requires
+put-work-requires c κs = 
+    let root = c .before .before .before .before .before .before .before .before .before .before .before .before .before in
+    let room = root .pre in
+    let w = root .args .w in
+    let within = c .before .before .before .before .before .before .if1 .taken in
+    let some = ltb-true 0 (w .wait) (and-left (ltb 0 (w .wait)) _ within) in
+    let fits = leb-true (w .wait) _ (and-right (ltb 0 (w .wait)) _ within) in
+    (omega (arith, room .gone, some, fits), omega (arith, room .gone, room .leaps, some, fits))
+
+-- src/lib.rt:189:13
+same-length : tie.Need-same-length
+same-length c = search needs
+
+-- src/lib.rt:189:13
+returns : tie.Need-returns
+unfolding putsWithin workPut memoryPut
+returns c = 
+    let one = c .before .before .before .before .before .before .before .before .before .before .before .before .one-write .ensures in
+    let e = sym (c .before .before .before .before .before .before .ends-span .ensures) ∙ not-true _ (c .before .before .before .before .before .if2 .taken) in
+    (rw (c .before .before .before .before .before .before .before .if1 .taken, ← one, e) (c .put-work .ensures), rw (c .before .before .before .before .before .before .before .if1 .taken, ← one, e) (c .before .before .before .commit .ensures))
+
+-- src/lib.rt:179:1
+returns-2 : tie.Need-returns-2
+unfolding putsWithin workPut memoryPut
+returns-2 c = 
+    let one = c .before .before .before .before .before .before .before .one-write .ensures in
+    let e = sym (c .before .ends-span .ensures) ∙ not-false _ (c .if2 .left) in
+    (rw (c .before .before .if1 .taken, ← one, e) refl, rw (c .before .before .if1 .taken, ← one, e) refl)
+
+-- src/lib.rt:179:1
+returns-3 : tie.Need-returns-3
+unfolding putsWithin workPut memoryPut
+returns-3 c = (rw (c .if1 .left) refl, rw (c .if1 .left) refl)
+
+pub put-within-spec : {M : Type 1} → statement M
+put-within-spec =
+    tie.close
+    (tie.spec
+    one-write-requires
+    cast-within
+    sub-within
+    ends-span-requires
+    commit-requires
+    put-work-requires
+    same-length
+    returns
+    returns-2
+    returns-3)
