@@ -19,12 +19,14 @@ use Rattle.cpu_access.specs.Halt.{isWritten, halts}
 use Rattle.cpu_access.proofs.Told.{told}
 use Rattle.cpu_access.specs.Stack.{writeAt}
 use Rattle.cpu_access.specs.Bus.{memoryByte}
+use Rattle.cpu_access.specs.declared.waiting.Waiting.the-variants.{Nothing, Byte}
+use Rattle.cpu_access.specs.Waiting.{byteWaits}
 use Rattle.cpu_access.specs.Accesses.{byteAfter, peripheralsRead, peripheralsWritten, valueRead, performed, inOrder}
 use Rattle.cpu_access.specs.Operands.{located}
 use Rattle.cpu_access.specs.Modes.{displacement}
 use Rattle.cpu_operations.specs.Kinds.{withRead, changedBy, byteToStore, branchTaken, bitBranchTaken, byteToPush, withPulled, withRegister, withFlag}
 use Rattle.cpu.specs.Sequence.{completion, storeAt, modifyAccesses, branchOn, bitBranchAccesses, jumpTo, pushAccesses, pullAccesses, returnAccesses, interruptReturnAccesses, entryAccesses, breakAccesses, callAccesses, operationAccesses, instructionAccesses, resetAccesses, interruptAccesses}
-use Rattle.r6501q_cpu.specs.Processor.{wholeInstruction, irqDue, resetStart, nmiStart, irqStart, startOf, processorOf}
+use Rattle.r6501q_cpu.specs.Processor.{wholeInstruction, irqDue, resetStart, nmiStart, irqStart, startOf, bytePut, processorOf}
 use Rattle.r6501q_state.specs.Control.{flagsOf, modeA, modeB}
 use Rattle.r6501q_state.specs.Inputs.{withInput}
 use Rattle.r6501q_state.specs.Pins.{driveA, driveD, drivenWord, levelsOf, rose, fell, edges, withEdges, resetOf, sensedAt, sensed}
@@ -41,13 +43,13 @@ use Rattle.serial.specs.Transmitter.{idleTransmitter}
 use Rattle.r6501q_clock.specs.Clock.{inputsSet}
 use Rattle.leaps.specs.Leaps.{eventsIn, quietEnd, plains, trace, leapCount}
 use Rattle.leaps.specs.World.{putRecord, plainOf, doneIn, eventIn}
-use Rattle.r6501q_gaps.specs.Events.{hasInput, sameLevels, levelsChange, underflowsA, underflowsB, portsFresh, controlFresh, transmitterIdle, receiverIdle, isReset, resetChanges, cpuStarts, eventOf}
+use Rattle.r6501q_gaps.specs.Events.{hasInput, sameLevels, levelsChange, underflowsA, underflowsB, portsFresh, controlFresh, transmitterIdle, receiverIdle, isReset, resetChanges, cpuStarts, putsByte, eventOf}
 use Rattle.r6501q_step.specs.R6501q.{World, plain, chip}
 use Rattle.r6501q_step.proofs.Halted.{toldBy, clockIn}
 use lib.ListN.{replicate}
 use Rattle.r6501q_step.proofs.Examples.{startWith, running}
 
--- LDA #00h, STA 18h, STA 1Ah, LDA #A0h, STA 15h, LDA #41h, STA 17h on clock 16
+-- LDA #00h, STA 18h, STA 1Ah, LDA #A0h, STA 15h, LDA #41h, STA 17h, whose byte is put on clock 18
 abbrev pub shiftSender : List ℕ → List ℕ
 shiftSender later =
     replicate 0x40 0
@@ -56,7 +58,8 @@ shiftSender later =
 abbrev pub shiftStart : List ℕ → World
 shiftStart later = startWith (running 0) (shiftSender later) [] [] (replicate 17 0) (replicate 17 0)
 
--- a jump to itself; STA 17h on clock 19, and a jump to itself; LDA #A0h, STA 15h on clock 21, and a jump to itself
+-- a jump to itself; STA 17h, put on clock 21, and a jump to itself; LDA #A0h, STA 15h, put on clock 23, and a jump to
+-- itself
 abbrev pub thenNothing : List ℕ
 thenNothing = 0x4C ∷ 0x4E ∷ 0x00 ∷ []
 
@@ -94,21 +97,21 @@ abbrev pub receiverStart : World
 receiverStart = startWith shiftReceiver (replicate 0x40 0 ++ (0x4C ∷ 0x40 ∷ 0x00 ∷ [])) clockedAt clockedWith [] []
 
 pub record ShiftRegister : Type 0 where
-  -- 41h written on clock 16 with SCCR A0h and latch 0: taken on 17, shifted on each second clock; PA4 is low and high
-  -- for each bit; after clock 33 an under-run, both lines high
-  pub sent-clocks : plains (chip Nowhere) 33 (shiftStart thenNothing) .outputClocks ≡ tabulate (λ k. k) 17 17
-  pub sent-words : plains (chip Nowhere) 33 (shiftStart thenNothing) .outputWords
+  -- 41h put on clock 18 with SCCR A0h and latch 0: taken on 19, shifted on each second clock; PA4 is low and high
+  -- for each bit; after clock 35 an under-run, both lines high
+  pub sent-clocks : plains (chip Nowhere) 35 (shiftStart thenNothing) .outputClocks ≡ tabulate (λ k. k) 17 19
+  pub sent-words : plains (chip Nowhere) 35 (shiftStart thenNothing) .outputWords
       ≡ drivenA 0xEF ∷ drivenA 0xFF ∷ drivenA 0xAF ∷ drivenA 0xBF ∷ drivenA 0xAF ∷ drivenA 0xBF ∷ drivenA 0xAF ∷ drivenA 0xBF
       ∷ drivenA 0xAF ∷ drivenA 0xBF ∷ drivenA 0xAF ∷ drivenA 0xBF ∷ drivenA 0xEF ∷ drivenA 0xFF ∷ drivenA 0xAF ∷ drivenA 0xBF
       ∷ drivenA 0xFF ∷ []
-  pub under-run : plains (chip Nowhere) 33 (shiftStart thenNothing) .state .peripherals .control .scsr ≡ 0xC0
+  pub under-run : plains (chip Nowhere) 35 (shiftStart thenNothing) .state .peripherals .control .scsr ≡ 0xC0
   -- "it takes the next data that tick": 17h written again meanwhile, PA4 is low and PA6 the next byte's first bit
-  pub next-taken : plains (chip Nowhere) 33 (shiftStart thenAnother) .state .peripherals .transmitter ≡ record { left = 8; phase = 0; register = 0x41 }
-  pub next-driven : drivenWord (plains (chip Nowhere) 33 (shiftStart thenAnother) .state .peripherals) ≡ drivenA 0xEF
+  pub next-taken : plains (chip Nowhere) 35 (shiftStart thenAnother) .state .peripherals .transmitter ≡ record { left = 8; phase = 0; register = 0x41 }
+  pub next-driven : drivenWord (plains (chip Nowhere) 35 (shiftStart thenAnother) .state .peripherals) ≡ drivenA 0xEF
   -- SCCR written with the same A0h ends the byte: PA4 and PA6 go high
-  pub sccr-again : plains (chip Nowhere) 21 (shiftStart thenSccrAgain) .state .peripherals .transmitter ≡ idleTransmitter
-  pub sccr-driven : drivenWord (plains (chip Nowhere) 20 (shiftStart thenSccrAgain) .state .peripherals) ≡ drivenA 0xBF
-  pub sccr-high : drivenWord (plains (chip Nowhere) 21 (shiftStart thenSccrAgain) .state .peripherals) ≡ drivenA 0xFF
+  pub sccr-again : plains (chip Nowhere) 23 (shiftStart thenSccrAgain) .state .peripherals .transmitter ≡ idleTransmitter
+  pub sccr-driven : drivenWord (plains (chip Nowhere) 22 (shiftStart thenSccrAgain) .state .peripherals) ≡ drivenA 0xBF
+  pub sccr-high : drivenWord (plains (chip Nowhere) 23 (shiftStart thenSccrAgain) .state .peripherals) ≡ drivenA 0xFF
   -- PA7 1, 0, 0, 0, 0, 0, 1, 0 at rises of PA4, SCCR 50h: 7 bits left and 400h after the first, 208h and the byte 41h
   -- at the last
   pub first-rise : plains (chip Nowhere) 2 receiverStart .state .peripherals .receiver ≡ record { subinterval = 0; half = false; left = 7; register = 0x400 }
@@ -117,7 +120,7 @@ pub record ShiftRegister : Type 0 where
   pub byte-full : plains (chip Nowhere) 16 receiverStart .state .peripherals .control .scsr ≡ 0x41
 
 pub shift-register : ShiftRegister
-unfolding withBit setWhere flipWhere dueCount ticksOf inForce downA countsA clockA lowerA upperA loadCounterA reloadB downB clockB lowerB upperB copyB loadCounterB turnToC transmitterAsynchronous receiverAsynchronous receiverShifting holdsA keepsTransmitter keepsReceiver parityBit frameBits sentBits pace startDetected withLevel receivedByte wrongParity statusAfter keptWith frameEnded lookTaken looked receiveTick shiftedAtRise byteEnded receiveRise receiverClock receiverWithSccr framed taken idleTick frameEnd nextPhase ticked bitTick sendTick transmitterClock line shiftClock transmitterWithSccr decodeOf packed unpacked pushed memoryByte displacement flagsOf modeA modeB withInput driveA driveD drivenWord levelsOf rose fell edges withEdges resetOf sensedAt sensed fresh portValue registerValue afterRead startB startA entering keptFlag keptFlags writeOf wholeInstruction irqDue resetStart nmiStart irqStart startOf processorOf withInputs countA countB sentBy heardBy worked readyOf finished clockOf halts putByte committed plainOf plains putRecord located byteAfter peripheralsRead peripheralsWritten valueRead performed inOrder completion storeAt modifyAccesses branchOn bitBranchAccesses jumpTo pushAccesses pullAccesses returnAccesses interruptReturnAccesses entryAccesses breakAccesses callAccesses operationAccesses withRead changedBy byteToStore branchTaken bitBranchTaken byteToPush withPulled withRegister withFlag instructionAccesses resetAccesses interruptAccesses
+unfolding withBit setWhere flipWhere dueCount ticksOf inForce downA countsA clockA lowerA upperA loadCounterA reloadB downB clockB lowerB upperB copyB loadCounterB turnToC transmitterAsynchronous receiverAsynchronous receiverShifting holdsA keepsTransmitter keepsReceiver parityBit frameBits sentBits pace startDetected withLevel receivedByte wrongParity statusAfter keptWith frameEnded lookTaken looked receiveTick shiftedAtRise byteEnded receiveRise receiverClock receiverWithSccr framed taken idleTick frameEnd nextPhase ticked bitTick sendTick transmitterClock line shiftClock transmitterWithSccr decodeOf packed unpacked pushed memoryByte displacement flagsOf modeA modeB withInput driveA driveD drivenWord levelsOf rose fell edges withEdges resetOf sensedAt sensed fresh portValue registerValue afterRead startB startA entering keptFlag keptFlags writeOf wholeInstruction irqDue resetStart nmiStart irqStart startOf bytePut processorOf withInputs countA countB sentBy heardBy worked readyOf finished clockOf halts putByte committed plainOf plains putRecord located byteAfter peripheralsRead peripheralsWritten valueRead performed inOrder completion storeAt modifyAccesses branchOn bitBranchAccesses jumpTo pushAccesses pullAccesses returnAccesses interruptReturnAccesses entryAccesses breakAccesses callAccesses operationAccesses withRead changedBy byteToStore branchTaken bitBranchTaken byteToPush withPulled withRegister withFlag instructionAccesses resetAccesses interruptAccesses
 shift-register = record {
   sent-clocks = refl;
   sent-words = refl;

@@ -6,7 +6,7 @@ use Prim.Native.Nat.{ℕ}
 use lib.Dec.{ltb, eqb}
 use lib.ListN.{length, take}
 use borrow.Author.Tests.{eq-eqb}
-use Rattle.bits.proofs.Cond.{cond-yes}
+use Rattle.bits.proofs.Cond.{cond-yes, cond-both}
 use Rattle.cpu_access.specs.declared.halt.Halt.{Halt}
 use Rattle.cpu_access.specs.Halt.{halts}
 use Rattle.cpu_opcodes.specs.declared.Decoded.{Decoded}
@@ -19,7 +19,9 @@ use Rattle.r6501q_state.specs.Pins.{drivenWord}
 use Rattle.r6501q_cpu.specs.declared.Next.{Next}
 use Rattle.r6501q_cpu.specs.declared.Processed.{Processed}
 use Rattle.r6501q_cpu.specs.declared.Processed.the-variants as processed
-use Rattle.r6501q_cpu.specs.Processor.{wholeInstruction, opcodeAt, irqDue, startOf, processorOf}
+use Rattle.cpu_access.specs.declared.waiting.Waiting.{Waiting}
+use Rattle.cpu_access.specs.declared.waiting.Waiting.the-variants.{Nothing, Byte}
+use Rattle.r6501q_cpu.specs.Processor.{waitedBy, wholeInstruction, opcodeAt, irqDue, startOf, processorOf}
 use Rattle.r6501q_cpu.proofs.Undefined.{undefined-opcode, defined-opcode}
 use Rattle.r6501q_clock.specs.declared.Clocked.{Clocked}
 use Rattle.r6501q_clock.specs.Clock.{haltStop, readyOf, finished, recorded, clockOf}
@@ -50,20 +52,26 @@ instruction-undefined s memory = by-opcode (decodeOf (opcodeAt s memory)) refl
     by-opcode decoded.Undefined d = ap notDone (undefined-opcode s memory d)
     by-opcode (decoded.Defined e) d = done e d (wholeInstruction s memory) refl
 
+-- a clock after the first is done
+waited-done : (s : State) (v : Waiting) → notDone (waitedBy s v) ≡ false
+waited-done s Nothing = refl
+waited-done s (Byte w) = cond-both (λ (p : Processed). notDone p ≡ false) (eqb (s .cpu .wait) 1) _ _ (λ _. refl) (λ _. refl)
+
 processor-undefined : (s : State) (memory : List ℕ) → notDone (processorOf s memory) ≡ startsUndefined s memory
 unfolding processorOf startOf
 processor-undefined s memory =
-    by-tests (s .last .res) (ltb 0 (s .cpu .wait)) (s .due .reset) (s .due .nmi) (irqDue s) _ _ _ _ _ (wholeInstruction s memory) (instruction-undefined s memory)
+    by-tests (s .last .res) (ltb 0 (s .cpu .wait)) (s .due .reset) (s .due .nmi) (irqDue s) _ (waited-done s (s .cpu .waiting)) _ _ _ _
+    (wholeInstruction s memory) (instruction-undefined s memory)
   where
-    by-tests : (h z r m q : Bool) (a b c d e : Next) (i : Processed) → notDone i ≡ isUndefined (decodeOf (opcodeAt s memory))
-        → notDone (cond h (cond z (processed.Done a) (cond r (processed.Done b) (cond m (processed.Done c) (cond q (processed.Done d) i)))) (processed.Done e))
+    by-tests : (h z r m q : Bool) (x : Processed) → notDone x ≡ false → (b c d e : Next) (i : Processed) → notDone i ≡ isUndefined (decodeOf (opcodeAt s memory))
+        → notDone (cond h (cond z x (cond r (processed.Done b) (cond m (processed.Done c) (cond q (processed.Done d) i)))) (processed.Done e))
         ≡ (h && not z && not r && not m && not q && isUndefined (decodeOf (opcodeAt s memory)))
-    by-tests false z r m q a b c d e i u = refl
-    by-tests true true r m q a b c d e i u = refl
-    by-tests true false true m q a b c d e i u = refl
-    by-tests true false false true q a b c d e i u = refl
-    by-tests true false false false true a b c d e i u = refl
-    by-tests true false false false false a b c d e i u = u
+    by-tests false z r m q x done b c d e i u = refl
+    by-tests true true r m q x done b c d e i u = done
+    by-tests true false true m q x done b c d e i u = refl
+    by-tests true false false true q x done b c d e i u = refl
+    by-tests true false false false true x done b c d e i u = refl
+    by-tests true false false false false x done b c d e i u = u
 
 -- a clock that is not undefined does not stop with 6
 halt-not-six : (t : Bool) → eqb (cond t haltStop 0) 6 ≡ false

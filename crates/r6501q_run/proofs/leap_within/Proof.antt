@@ -14,10 +14,10 @@ use Rattle.r6501q_spans.proofs.begin_work.Reads as begin-work-reads
 use Rattle.r6501q_spans.proofs.work_once.Reads as work-once-reads
 
 abbrev Inv-loop : tie.InvT-loop
-Inv-loop at span memory₀ clocks entries halt w₀ on₀ memory w on = Within halt at clocks (span .0) memory₀ memory w
+Inv-loop at span memory₀ clocks entries halt v₀ on₀ memory v on = Within halt at clocks (span .0) memory₀ memory v
 
 abbrev μ-loop : tie.MeasureT-loop
-μ-loop at span memory₀ clocks entries halt w₀ on₀ memory w on = cond on (span .0 - w .gone .0 + 1) 0
+μ-loop at span memory₀ clocks entries halt v₀ on₀ memory v on = cond on (span .0 - v .work .gone .0 + 1) 0
 
 -- src/lib.rt:175:9
 begin-work-requires : tie.Need-begin-work-requires Inv-loop μ-loop
@@ -38,8 +38,8 @@ loop-less : tie.Need-loop-less Inv-loop μ-loop
 loop-less c =
     let root = c .before .before .before .before .before .before .before .before .before .before .before .before in
     let at = c .before .before .before .before .before .before .before .loop in
-    let room = room-on (root .args .halt) (root .args .span .0) (at .w) (at .memory) _ _ (at .inv .room) (c .before .before .before .before .work-once .ensures) in
-    rw (c .before .before .before .before .before .before .loop-test .taken) (fewer-left (root .args .span .0) (at .w .gone .0) _ (room .gone))
+    let room = room-on (root .args .halt) (root .args .span .0) (at .v .work) (at .v .waiting) (at .memory) _ _ (at .inv .room) (c .before .before .before .before .work-once .ensures) in
+    rw (c .before .before .before .before .before .before .loop-test .taken) (fewer-left (root .args .span .0) (at .v .work .gone .0) _ (room .gone))
 
 -- src/lib.rt:177:5
 loop-again : tie.Need-loop-again Inv-loop μ-loop
@@ -47,7 +47,7 @@ loop-again c =
     let root = c .before .before .before .before .before .before .before .before .before .before .before .before in
     let at = c .before .before .before .before .before .before .before .loop in
     let done = c .before .before .before .before .work-once in
-    within-goes (root .args .halt) (root .args .at) (now (root .args .inputclocks)) (root .args .span .0) (span-begun (root .args .at) (now (root .args .inputclocks)) (root .args .span) (root .pre .1 .0 .0) (root .pre .1 .0 .1)) (now (root .args .memory)) (at .memory) _ (at .w) _ (at .inv) (done .ensures) (done .kept .1 .1 .0)
+    within-goes (root .args .halt) (root .args .at) (now (root .args .inputclocks)) (root .args .span .0) (span-begun (root .args .at) (now (root .args .inputclocks)) (root .args .span) (root .pre .1 .0 .0) (root .pre .1 .0 .1)) (now (root .args .memory)) (at .memory) _ (at .v) _ (at .inv) (done .ensures) (done .kept .1 .1 .0)
 
 -- src/lib.rt:182:5
 spanned-to-requires : tie.Need-spanned-to-requires Inv-loop μ-loop
@@ -66,7 +66,7 @@ returns : tie.Need-returns Inv-loop μ-loop
 returns c =
     let root = c .before .before .before .before .before .before .before in
     let at = c .before .before .loop in
-    rw (c .spanned-to .ensures) (within-ends (root .args .halt) (root .args .at) (now (root .args .inputclocks)) (root .args .span .0) (span-begun (root .args .at) (now (root .args .inputclocks)) (root .args .span) (root .pre .1 .0 .0) (root .pre .1 .0 .1)) (now (root .args .memory)) (at .memory) (at .w) (at .inv))
+    rw (c .spanned-to .ensures) (within-ends (root .args .halt) (root .args .at) (now (root .args .inputclocks)) (root .args .span .0) (span-begun (root .args .at) (now (root .args .inputclocks)) (root .args .span) (root .pre .1 .0 .0) (root .pre .1 .0 .1)) (now (root .args .memory)) (at .memory) (at .v) (at .inv))
 
 pub leap-within-spec : {M : Type 1} → statement M
 leap-within-spec =
