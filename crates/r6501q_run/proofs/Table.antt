@@ -22,6 +22,7 @@ use Rattle.refusals.specs.Refusals.{lastClock}
 use Rattle.leaps.specs.Leaps.{plains, leapCount}
 use Rattle.leaps.specs.Lists.{runFor, calls}
 use Rattle.leaps.specs.Calls.{Fit}
+use Rattle.cpu_access.specs.declared.waiting.Waiting.the-variants.{Nothing, Byte}
 use Rattle.r6501q_step.specs.R6501q.{World, r6501q, chip, machine}
 use Rattle.r6501q_step.proofs.Halted.{toldBy, clockIn}
 use Rattle.r6501q_step.proofs.Examples as clocks
@@ -37,12 +38,12 @@ pub record Examples : Type 0 where
   pub p1 : (n clock : ℕ) (memory times words : List ℕ)
       → plains (chip Nowhere) n (clocks.startWith (clocks.heldLow 0x30 clock) memory [] [] times words)
       ≡ clocks.startWith (clocks.heldLow 0x30 (clock + n)) memory [] [] times words
-  -- "L = 5 loaded on clock t: underflow on t + 6.": by STA 1Ah on clock 8; IFR4 after clocks 8 to 14; IFR5 of counter B
-  -- by STA 1Eh
-  pub p2-loaded : plains (chip Nowhere) 8 (clocks.timerStart 0x18 0x1A) .state .peripherals .countera ≡ record { count = 5; latch = 5 }
-  pub p2 : tabulate (λ k. bit 4 (plains (chip Nowhere) k (clocks.timerStart 0x18 0x1A) .state .peripherals .control .ifr)) 7 8
+  -- "L = 5 loaded on clock t: underflow on t + 6.": by STA 1Ah, whose byte is put on clock 10; IFR4 after clocks 10
+  -- to 16; IFR5 of counter B by STA 1Eh
+  pub p2-loaded : plains (chip Nowhere) 10 (clocks.timerStart 0x18 0x1A) .state .peripherals .countera ≡ record { count = 5; latch = 5 }
+  pub p2 : tabulate (λ k. bit 4 (plains (chip Nowhere) k (clocks.timerStart 0x18 0x1A) .state .peripherals .control .ifr)) 7 10
       ≡ false ∷ false ∷ false ∷ false ∷ false ∷ false ∷ true ∷ []
-  pub p2-b : tabulate (λ k. bit 5 (plains (chip Nowhere) k (clocks.timerStart 0x1C 0x1E) .state .peripherals .control .ifr)) 7 8
+  pub p2-b : tabulate (λ k. bit 5 (plains (chip Nowhere) k (clocks.timerStart 0x1C 0x1E) .state .peripherals .control .ifr)) 7 10
       ≡ false ∷ false ∷ false ∷ false ∷ false ∷ false ∷ true ∷ []
   -- "decimal 58h + 46h + C: 05h, C."
   pub p3 : (n v i z : Bool) → adcOf 0x58 0x46 (record { n = n; v = v; d = true; i = i; z = z; c = true })
@@ -50,13 +51,13 @@ pub record Examples : Type 0 where
   -- "7Fh + 01h: 80h, V, N."
   pub p4 : (n v i z : Bool) → adcOf 0x7F 0x01 (record { n = n; v = v; d = false; i = i; z = z; c = false })
       ≡ record { value = 0x80; status = record { n = true; v = true; d = false; i = i; z = false; c = false } }
-  -- "41h, 8 bits, no parity, latch 0: 176 clocks from start to idle.": STA 17h on clock 16; the start bit is on the
-  -- line after clock 17, one bit is left after clock 192, and after clock 193 it is idle; the line's edges are the
+  -- "41h, 8 bits, no parity, latch 0: 176 clocks from start to idle.": STA 17h, put on clock 18; the start bit is on
+  -- the line after clock 19, one bit is left after clock 194, and after clock 195 it is idle; the line's edges are the
   -- chip's records
-  pub p5-start : plains (chip Nowhere) 17 clocks.senderStart .state .peripherals .transmitter ≡ record { left = 11; phase = 0; register = 0x682 }
-  pub p5-last-bit : plains (chip Nowhere) 192 clocks.senderStart .state .peripherals .transmitter .left ≡ 1
-  pub p5-idle : plains (chip Nowhere) 193 clocks.senderStart .state .peripherals .transmitter ≡ idleTransmitter
-  pub p5-edges : plains (chip Nowhere) 193 clocks.senderStart .outputClocks ≡ 17 ∷ 33 ∷ 49 ∷ 129 ∷ 145 ∷ 161 ∷ []
+  pub p5-start : plains (chip Nowhere) 19 clocks.senderStart .state .peripherals .transmitter ≡ record { left = 11; phase = 0; register = 0x682 }
+  pub p5-last-bit : plains (chip Nowhere) 194 clocks.senderStart .state .peripherals .transmitter .left ≡ 1
+  pub p5-idle : plains (chip Nowhere) 195 clocks.senderStart .state .peripherals .transmitter ≡ idleTransmitter
+  pub p5-edges : plains (chip Nowhere) 195 clocks.senderStart .outputClocks ≡ 19 ∷ 35 ∷ 51 ∷ 131 ∷ 147 ∷ 163 ∷ []
   -- "one low sub-interval at the receiver: no start.": PA7 low on clocks 1 and 2 by the pin list, a tick on each clock
   pub p6-low : (register received : ℕ) (memory : List ℕ) → plains (chip Nowhere) 2 (clocks.lineStart register received memory) .state .peripherals .receiver
       ≡ record { subinterval = 1; half = false; left = 0; register = register }
@@ -65,14 +66,17 @@ pub record Examples : Type 0 where
   -- 02, U1: 41h sent with SCCR A0h and latch 0, as port A is driven clock by clock; the next byte taken; SCCR written
   -- again; and 41h received with SCCR 50h at rises of PA4 (r6501q_step/proofs/ShiftRegister.antt has the rows)
   pub shift-register : ShiftRegister
-  -- 02, U4, document 01's tape with the halt address 0000h: stop, clock, wait and records written; 12 at clock 10, the
-  -- record there, after the leaps to clocks 1, 8 and 10; also where that clock is the run's last; 0 before it; 7 for
-  -- that clock comes first
-  pub halt-reached : clocks.reached (plains (chip (At 0)) 100 (clocks.tapeStart 1)) ≡ 12 ∷ 10 ∷ 2 ∷ 1 ∷ []
-  pub halt-leaps : leapCount (chip (At 0)) 100 (clocks.tapeStart 1) ≡ 3
-  pub halt-last : clocks.reached (plains (chip (At 0)) 10 (clocks.tapeStart 1)) ≡ 12 ∷ 10 ∷ 2 ∷ 1 ∷ []
-  pub halt-before : clocks.reached (plains (chip (At 0)) 9 (clocks.tapeStart 1)) ≡ 0 ∷ 9 ∷ 0 ∷ 0 ∷ []
-  pub halt-full : clocks.reached (plains (chip (At 0)) 100 (clocks.tapeStart 0)) ≡ 7 ∷ 9 ∷ 0 ∷ 0 ∷ []
+  -- 02, U4, document 01's tape with the halt address 0000h: stop, clock, wait and records written; 12 at clock 12, the
+  -- record there, after the leaps to clocks 1, 8, 10 and 12; also where that clock is the run's last; 0 before it, and
+  -- from clock 10 on the byte waits (02, U6); 7 for that clock comes first, and the byte still waits
+  pub halt-reached : clocks.reached (plains (chip (At 0)) 100 (clocks.tapeStart 1)) ≡ 12 ∷ 12 ∷ 0 ∷ 1 ∷ []
+  pub halt-leaps : leapCount (chip (At 0)) 100 (clocks.tapeStart 1) ≡ 4
+  pub halt-last : clocks.reached (plains (chip (At 0)) 12 (clocks.tapeStart 1)) ≡ 12 ∷ 12 ∷ 0 ∷ 1 ∷ []
+  pub halt-before : clocks.reached (plains (chip (At 0)) 11 (clocks.tapeStart 1)) ≡ 0 ∷ 11 ∷ 1 ∷ 0 ∷ []
+  pub halt-full : clocks.reached (plains (chip (At 0)) 100 (clocks.tapeStart 0)) ≡ 7 ∷ 11 ∷ 1 ∷ 0 ∷ []
+  pub halt-waiting : tabulate (λ k. plains (chip (At 0)) k (clocks.tapeStart 1) .state .cpu .waiting) 4 9
+      ≡ Nothing ∷ Byte (writeAt 0x0000 0x55) ∷ Byte (writeAt 0x0000 0x55) ∷ Nothing ∷ []
+  pub full-waiting : plains (chip (At 0)) 100 (clocks.tapeStart 0) .state .cpu .waiting ≡ Byte (writeAt 0x0000 0x55)
   -- 02, U4, JSR with SP 00h: it tells 0000h, then 00FFh
   pub call-told : told (toldBy (clockIn clocks.callingStart)) ≡ writeAt 0x0000 0x00 ∷ writeAt 0x00FF 0x42 ∷ []
   -- 01, One clock, 4, "All its reads and writes happen now": JSR over its own operand, a port's latch and its levels,
@@ -81,7 +85,7 @@ pub record Examples : Type 0 where
   -- 02, U5, JMP (02FFh): the low byte of the target is at 02FFh, the high byte at 0200h, and five clocks
   pub indirect-jump : (first last next : ℕ)
       → plains (chip Nowhere) 1 (clocks.startWith (clocks.running 0) (jumpMemory first last next) [] [] [] []) .state .cpu
-      ≡ record { a = 0; x = 0; y = 0; sp = 0xFF; p = 0x04; pc = word first last; wait = 4 }
+      ≡ record { a = 0; x = 0; y = 0; sp = 0xFF; p = 0x04; pc = word first last; wait = 4; waiting = Nothing }
   -- "cut after a clocks from clock 0, an input on clock a is the first half's."
   pub p7 : (halt : Halt) (a : ℕ) (w : World) → Fit (r6501q halt) w → w .state .clock ≡ 0 → a ≤ lastClock
       → calls (machine halt) (runFor a ∷ []) w .world .stop ≡ 0
@@ -111,6 +115,8 @@ examples = record {
   halt-last = clocks.halt-last;
   halt-before = clocks.halt-before;
   halt-full = clocks.halt-full;
+  halt-waiting = clocks.halt-waiting;
+  full-waiting = clocks.full-waiting;
   call-told = clocks.call-told;
   access-order = access-order;
   indirect-jump = indirect-jump;
