@@ -2,10 +2,10 @@
 
 use crate::accesses::Accesses;
 use crate::counters::{mode_a, mode_b, step_counter_a, step_counter_b, Mode};
-use crate::cpu::{opcode_started, start_on, starts_undefined, step_cpu, undefined_at_pc, Start};
+use crate::cpu::{opcode_started, put_on, start_on, starts_undefined, step_cpu, undefined_at_pc, Start};
 use crate::pins::{apply_reset, detect_edges, driven_word, level, pin_levels, rises, set_external, PIN_RES};
 use crate::serial::step_serial;
-use crate::state::State;
+use crate::state::{State, Waiting};
 
 /// State, memory and the lent lists, with how far they are read and written.
 #[derive(Clone, PartialEq, Eq, Debug)]
@@ -42,12 +42,15 @@ pub struct Met {
 #[derive(Clone, Copy, PartialEq, Eq, Debug)]
 pub struct ClockReport {
     /// "An event clock is one with an input, with pin levels unlike the last ones, with an underflow, where RES low
-    /// changes any field, or where the CPU starts."
+    /// changes any field, or where the CPU starts"; document 02, U6: "A last clock with a byte waiting is an event
+    /// clock."
     pub event: bool,
     pub met: Met,
     pub start: Option<Start>,
     /// The opcode, where an instruction was started.
     pub opcode: Option<u8>,
+    /// The byte that was waiting and was put.
+    pub put: Option<Waiting>,
     /// An undefined opcode is at PC, but RES low, wait or an entry kept it from being started.
     pub undefined_kept: bool,
     pub accesses: Accesses,
@@ -70,6 +73,7 @@ pub fn plain(world: &mut World, halt: Option<u16>) -> Option<ClockReport> {
     }
     let start = start_on(&next);
     let opcode = opcode_started(&next, &world.memory);
+    let put = put_on(&next);
     let undefined_kept = undefined_at_pc(&next, &world.memory);
     let mut accesses = Accesses::none();
     step_cpu(&mut next, &mut world.memory, &mut accesses);
@@ -87,12 +91,14 @@ pub fn plain(world: &mut World, halt: Option<u16>) -> Option<ClockReport> {
     if halt.is_some_and(|address| accesses.writes(address)) {
         world.stop = 12;
     }
-    Some(ClockReport { event: is_event(&met, start), met, start, opcode, undefined_kept, accesses, record })
+    let event = is_event(&met) || start.is_some() || put.is_some();
+    Some(ClockReport { event, met, start, opcode, put, undefined_kept, accesses, record })
 }
 
-fn is_event(met: &Met, start: Option<Start>) -> bool {
+/// Whether steps 1 to 3 make an event clock.
+fn is_event(met: &Met) -> bool {
     let underflow = met.underflow_a || met.underflow_b;
-    met.inputs > 0 || met.levels_differ || underflow || met.reset_changes || start.is_some()
+    met.inputs > 0 || met.levels_differ || underflow || met.reset_changes
 }
 
 /// Step 5. "One record follows each clock after which the word differs."

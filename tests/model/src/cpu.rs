@@ -6,7 +6,7 @@ use crate::pins::{level, PIN_RES};
 use crate::registers::{
     interrupt_flags, read_register, read_register_to_modify, register_value, write_register, REGISTERS_END,
 };
-use crate::state::{State, FLAG_5, FLAG_B, FLAG_C, FLAG_D, FLAG_I, FLAG_N, FLAG_V, FLAG_Z};
+use crate::state::{State, Waiting, FLAG_5, FLAG_B, FLAG_C, FLAG_D, FLAG_I, FLAG_N, FLAG_V, FLAG_Z};
 
 const VECTOR_NMI: u16 = 0xFFFA;
 const VECTOR_RESET: u16 = 0xFFFC;
@@ -39,6 +39,16 @@ pub fn start_on(state: &State) -> Option<Start> {
     }
 }
 
+/// Document 02, U6: a store or a read-modify-write puts "its byte on its last clock, after counters and serial". The
+/// byte that this clock's step 4 puts; `state` is that after steps 1 to 3, so that one that RES low has dropped is not.
+pub fn put_on(state: &State) -> Option<Waiting> {
+    if level(state.last, PIN_RES) && state.wait == 1 {
+        state.waiting
+    } else {
+        None
+    }
+}
+
 /// The byte at an address without the read's effects.
 fn look(state: &State, memory: &[u8], address: u16) -> u8 {
     if address < REGISTERS_END {
@@ -68,22 +78,36 @@ pub fn step_cpu(state: &mut State, memory: &mut [u8], accesses: &mut Accesses) {
     if !level(state.last, PIN_RES) {
         return;
     }
-    let Some(start) = start_on(state) else {
-        state.wait -= 1;
-        return;
-    };
+    let (start, put) = (start_on(state), put_on(state));
     let mut bus = Bus { state, memory, accesses };
-    let length = match start {
-        Start::Reset => enter_reset(&mut bus),
-        Start::Nmi => enter_nmi(&mut bus),
-        Start::Irq => enter_irq(&mut bus),
-        Start::Instruction => instruction(&mut bus),
-    };
-    // "Wait becomes the length minus 1."
-    state.wait = length - 1;
+    match start {
+        Some(start) => start_with(&mut bus, start),
+        None => go_on_waiting(&mut bus, put),
+    }
 }
 
-/// State and memory during step 4: "All its reads and writes happen now, each once, idle bus accesses none."
+/// "With wait above 0: wait minus 1"; on the last clock of a store its byte is put, and none waits from then on.
+fn go_on_waiting(bus: &mut Bus, put: Option<Waiting>) {
+    bus.state.wait -= 1;
+    if let Some(byte) = put {
+        bus.state.waiting = None;
+        bus.write(byte.address, byte.value);
+    }
+}
+
+fn start_with(bus: &mut Bus, start: Start) {
+    let length = match start {
+        Start::Reset => enter_reset(bus),
+        Start::Nmi => enter_nmi(bus),
+        Start::Irq => enter_irq(bus),
+        Start::Instruction => instruction(bus),
+    };
+    // "Wait becomes the length minus 1."
+    bus.state.wait = length - 1;
+}
+
+/// State and memory during step 4: "All its reads and writes happen now, each once, idle bus accesses none"; but a
+/// store's byte waits.
 struct Bus<'a> {
     state: &'a mut State,
     memory: &'a mut [u8],
@@ -118,6 +142,12 @@ impl Bus<'_> {
         } else {
             self.memory[usize::from(address)] = value;
         }
+    }
+
+    /// The byte of a store or a read-modify-write, which waits for the last clock (document 02, U6). "Stack pushes
+    /// remain on the first clock."
+    fn store(&mut self, address: u16, value: u8) {
+        self.state.waiting = Some(Waiting { address, value });
     }
 
     /// The byte at PC; "PC and pointers go from FFFFh to 0000h".
@@ -309,9 +339,9 @@ fn same_page(one: u16, other: u16) -> bool {
 fn on_memory(bus: &mut Bus, operation: Operation, addressing: Addressing, page_clock: bool) -> u8 {
     let (address, crossed) = operand_address(bus, addressing);
     match operation {
-        Operation::Sta => bus.write(address, bus.state.a),
-        Operation::Stx => bus.write(address, bus.state.x),
-        Operation::Sty => bus.write(address, bus.state.y),
+        Operation::Sta => bus.store(address, bus.state.a),
+        Operation::Stx => bus.store(address, bus.state.x),
+        Operation::Sty => bus.store(address, bus.state.y),
         Operation::Asl
         | Operation::Dec
         | Operation::Inc
@@ -322,7 +352,7 @@ fn on_memory(bus: &mut Bus, operation: Operation, addressing: Addressing, page_c
         | Operation::Smb(_) => {
             let before = bus.read_to_modify(address);
             let after = modified(bus, operation, before);
-            bus.write(address, after);
+            bus.store(address, after);
         }
         _ => {
             let value = bus.read(address);

@@ -18,7 +18,7 @@ pub mod tape;
 
 pub use clock::{plain, ClockReport, Met, World};
 pub use run::{refusal, run, run_observed, Outcome};
-pub use state::{fresh, well_formed, Receiver, State, Transmitter, Turn};
+pub use state::{fresh, well_formed, Receiver, State, Transmitter, Turn, Waiting};
 pub use tape::load_tape;
 
 #[cfg(test)]

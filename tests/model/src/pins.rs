@@ -90,7 +90,7 @@ pub fn detect_edges(state: &mut State, levels: u64) {
 }
 
 /// 01, One clock, 1: "RES low puts the fresh values of port latches, MCR, SCCR, SCSR, IER, IFR and serial progress,
-/// drops NMI due, sets wait to 0 and makes reset due".
+/// drops NMI due, sets wait to 0 and makes reset due"; document 02, U6: "RES low drops a waiting byte."
 pub fn apply_reset(state: &mut State) {
     let start = fresh();
     state.ports = start.ports;
@@ -103,5 +103,6 @@ pub fn apply_reset(state: &mut State) {
     state.receiver = fresh_receiver();
     state.nmi_due = false;
     state.wait = 0;
+    state.waiting = None;
     state.reset_due = true;
 }

@@ -41,7 +41,14 @@ pub struct Receiver {
     pub register: u16,
 }
 
-/// Every field of 01, Machine state.
+/// Document 02, U6: "one byte waiting, with its address".
+#[derive(Clone, Copy, PartialEq, Eq, Debug)]
+pub struct Waiting {
+    pub address: u16,
+    pub value: u8,
+}
+
+/// Every field of 01, Machine state, and of document 02, U6.
 #[derive(Clone, PartialEq, Eq, Debug)]
 pub struct State {
     pub a: u8,
@@ -51,6 +58,8 @@ pub struct State {
     pub p: u8,
     pub pc: u16,
     pub wait: u8,
+    /// The byte that a store still has to put, "or none" (document 02, U6).
+    pub waiting: Option<Waiting>,
     pub reset_due: bool,
     pub nmi_due: bool,
     /// Port output latches A to D.
@@ -98,6 +107,7 @@ pub fn fresh() -> State {
         p: FLAG_I,
         pc: 0,
         wait: 0,
+        waiting: None,
         reset_due: true,
         nmi_due: false,
         ports: [0xFF; 4],
@@ -122,10 +132,12 @@ pub fn fresh() -> State {
     }
 }
 
-/// 01, Machine state, "Well-formed: every field is within its range here." Field by field, no rule across fields.
+/// 01, Machine state, "Well-formed: every field is within its range here." Field by field; the one rule across fields
+/// is document 02's, U6: "A byte waiting with wait 0 isn't well-formed."
 pub fn well_formed(state: &State) -> bool {
     state.p & (FLAG_B | FLAG_5) == 0
         && state.wait <= 6
+        && (state.waiting.is_none() || state.wait > 0)
         && state.ifr <= 0x3F
         && well_formed_transmitter(&state.transmitter)
         && well_formed_receiver(&state.receiver)

@@ -2,6 +2,7 @@
 
 mod halt;
 mod shift;
+mod waiting;
 
 use crate::counters::{mode_a, Mode};
 use crate::opcodes::{defined, TABLE};
@@ -48,10 +49,19 @@ fn ready() -> State {
     State { reset_due: false, pc: 0x200, ..fresh() }
 }
 
-/// One instruction on a ready state.
+/// The first clock of one instruction on a ready state.
 fn one(state: State, parts: &[(usize, &[u8])]) -> World {
     let mut world = world_of(state, memory(parts), &[], 8);
     assert!(plain(&mut world, None).is_some());
+    world
+}
+
+/// The whole of one instruction.
+fn whole(state: State, parts: &[(usize, &[u8])]) -> World {
+    let mut world = one(state, parts);
+    while world.state.wait > 0 {
+        assert!(plain(&mut world, None).is_some());
+    }
     world
 }
 
@@ -73,14 +83,14 @@ fn p1_latch_0_underflows_each_clock() {
 
 #[test]
 fn p2_latch_5_loaded_on_t_underflows_on_t_plus_6() {
-    // 8 LDA #5, 10 STA 18h, 13 LDA #0, 15 STA 1Ah, so t = 15
+    // 8 LDA #5, 10 STA 18h, 13 LDA #0, 15 STA 1Ah, its byte put on t = 17
     let mut world = program(&[0xA9, 5, 0x85, 0x18, 0xA9, 0, 0x85, 0x1A, 0x4C, 8, 2], &[], 0);
-    run(&mut world, 15, None);
-    assert_eq!((world.state.clock, world.state.counter_a, world.state.latch_a), (15, 5, 5));
+    run(&mut world, 17, None);
+    assert_eq!((world.state.clock, world.state.counter_a, world.state.latch_a), (17, 5, 5));
     run(&mut world, 5, None);
     assert_eq!((world.state.counter_a, world.state.ifr), (0, 0));
     run(&mut world, 1, None);
-    assert_eq!((world.state.clock, world.state.counter_a, world.state.ifr), (21, 5, 0x10));
+    assert_eq!((world.state.clock, world.state.counter_a, world.state.ifr), (23, 5, 0x10));
 }
 
 #[test]
@@ -160,9 +170,9 @@ fn example_tape() {
     let mut world = world_of(fresh(), memory, &[], 100);
     let outcome = run(&mut world, 100, None);
     assert_eq!(outcome.number, 0);
-    assert_eq!(records(&world), [(10, 0xFFFFFF55)]);
-    // Event clocks: reset on 1, LDA 8, STA 10, level change on 11 (PA1, PA3, PA5, PA7 fall), JMP on 13, 16, ... 100: 30
-    // times.
+    assert_eq!(records(&world), [(12, 0xFFFFFF55)]);
+    // Event clocks: reset on 1, LDA 8, STA 10, its byte put on 12, JMP on 13, 16, ... 100: 30 times, the first with a
+    // level change (PA1, PA3, PA5, PA7 fall).
     assert_eq!(outcome.leaps, 4 + 30);
 }
 
@@ -378,7 +388,7 @@ fn read_modify_write_sees_the_port_latch() {
     // PB0 held low outside; latch FFh: INC 01h gives 00h, LDA 01h gives FEh
     let external = crate::state::ALL_PINS & !(1 << 8);
     let state = State { external, last: external, ..ready() };
-    let world = one(state.clone(), &[(0x200, &[0xE6, 0x01])]);
+    let world = whole(state.clone(), &[(0x200, &[0xE6, 0x01])]);
     assert_eq!(world.state.ports[1], 0x00);
     let world = one(state, &[(0x200, &[0xA5, 0x01])]);
     assert_eq!(world.state.a, 0xFE);
@@ -448,11 +458,11 @@ fn stops_change_nothing_else() {
     let mut world = program(&[0x02], &[(8, 0x20)], 0);
     assert_eq!(run(&mut world, 8, None).number, 0);
     assert_eq!(world.state.clock, 8);
-    // full: STA 00h on clock 10 needs a record
+    // full: the byte of STA 00h, put on clock 12, needs a record
     let mut world = program(&[0xA9, 0x55, 0x85, 0x00, 0x02], &[], 0);
     let before = world.memory.clone();
     assert_eq!(run(&mut world, 100, None).number, 7);
-    assert_eq!((world.state.clock, world.state.ports[0]), (9, 0xFF));
+    assert_eq!((world.state.clock, world.state.ports[0]), (11, 0xFF));
     assert_eq!(world.memory, before);
 }
 
@@ -467,10 +477,10 @@ fn stop_leaves_no_read_effect() {
 
 #[test]
 fn reset_low_then_high() {
-    // RES low on clocks 20 to 22, high on 23: reset entry on 23, first instruction on 30
+    // RES low on clocks 20 to 22, high on 23: reset entry on 23, first instruction on 30, STA 01h on 32
     let mut world = program(&[0xA9, 0x00, 0x85, 0x01, 0x4C, 0x04, 0x02], &[(20, 0x21), (23, 0x61)], 8);
     run(&mut world, 40, None);
-    assert_eq!(records(&world), [(10, 0xFFFF00FF), (20, 0xFFFFFFFF), (32, 0xFFFF00FF)]);
+    assert_eq!(records(&world), [(12, 0xFFFF00FF), (20, 0xFFFFFFFF), (34, 0xFFFF00FF)]);
 }
 
 #[test]

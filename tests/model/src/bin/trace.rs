@@ -28,8 +28,9 @@ fn print_world(world: &World) {
 fn print_cpu(state: &State) {
     let (a, x, y, sp, p, pc) = (state.a, state.x, state.y, state.sp, state.p, state.pc);
     let due = format!("{}{}", u8::from(state.reset_due), u8::from(state.nmi_due));
+    let waiting = state.waiting.map_or("none".to_string(), |byte| format!("{:04X}={:02X}", byte.address, byte.value));
     print!(
-        "{:5} PC {pc:04X} A {a:02X} X {x:02X} Y {y:02X} SP {sp:02X} P {p:02X} w {} due {due}",
+        "{:5} PC {pc:04X} A {a:02X} X {x:02X} Y {y:02X} SP {sp:02X} P {p:02X} w {} waiting {waiting} due {due}",
         state.clock, state.wait
     );
 }

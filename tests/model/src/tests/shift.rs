@@ -44,10 +44,10 @@ fn receives(bits_left: u8, register: u16) -> Receiver {
 
 #[test]
 fn sender_shifts_41h_out_at_two_ticks_a_bit() {
-    // LDA #41h on 1, STA 17h on 3: t = 3
+    // LDA #41h on 1, STA 17h on 3, its byte put on t = 5
     let parts: &[(usize, &[u8])] = &[(0x200, &[0xA9, 0x41, 0x85, 0x17, 0x4C, 0x04, 0x02])];
     let mut world = world_of(ticking(SENDER), memory(parts), &[], 32);
-    run(&mut world, 3, None);
+    run(&mut world, 5, None);
     assert_eq!((drives(&world), world.state.scsr), ((1, 1), 0x00));
     // t + 1: taken, which does not shift; PA4 low, PA6 the lowest bit
     run(&mut world, 1, None);
@@ -65,14 +65,14 @@ fn sender_shifts_41h_out_at_two_ticks_a_bit() {
     // t + 17: under-run, both lines high though phase 0 is even
     run(&mut world, 1, None);
     assert_eq!((drives(&world), world.state.scsr), ((1, 1), 0xC0));
-    assert_eq!((world.state.clock, &world.state.transmitter), (20, &sends(0, 0, 0)));
+    assert_eq!((world.state.clock, &world.state.transmitter), (22, &sends(0, 0, 0)));
     run(&mut world, 20, None);
     assert_eq!((&world.state.transmitter, world.state.scsr), (&sends(0, 0, 0), 0xC0));
-    // 1 on 4, 0 from 6 to 15, 1 on 16, 0 on 18
-    let low_pa6 = [6, 8, 10, 12, 14, 18];
-    let expected: Vec<(u32, u32)> = (4..=19)
+    // 1 on 6, 0 from 8 to 17, 1 on 18, 0 on 20
+    let low_pa6 = [8, 10, 12, 14, 16, 20];
+    let expected: Vec<(u32, u32)> = (6..=21)
         .map(|clock| (clock, 0xFFFF_FFAF | (clock % 2) << 4 | u32::from(!low_pa6.contains(&(clock / 2 * 2))) << 6))
-        .chain([(20, 0xFFFF_FFFF)])
+        .chain([(22, 0xFFFF_FFFF)])
         .collect();
     assert_eq!(records(&world), expected);
 }
@@ -143,7 +143,7 @@ fn pa4_is_the_clock_of_a_sender_and_its_latch_otherwise() {
     // A read gives the level, which is high; a read-modify-write instruction sees the latch: INC 00h gives 01h.
     let sender = State { last: pin_levels(&state), ..state };
     assert_eq!(one(sender.clone(), &[(0x200, &[0xA5, 0x00])]).state.a, 0x50);
-    assert_eq!(one(sender, &[(0x200, &[0xE6, 0x00])]).state.ports[0], 0x01);
+    assert_eq!(whole(sender, &[(0x200, &[0xE6, 0x00])]).state.ports[0], 0x01);
 }
 
 #[test]
@@ -230,11 +230,13 @@ fn pulse_mode_clocks_the_receiver() {
 
 #[test]
 fn a_rise_made_by_a_write_of_sccr_shifts() {
-    // A byte is being sent, PA4 low: 50h to SCCR on 1 gives PA4 back to its latch; the rise is on 2.
+    // A byte is being sent, PA4 low: 50h to SCCR, put on 3, gives PA4 back to its latch; the rise is on 4.
     let state = State { a: 0x50, transmitter: sends(8, 0, 0), external: ALL_PINS & !0x80, ..ready() };
     let state = State { sccr: SENDER, ..state };
     let state = State { last: pin_levels(&state), ..state };
     let mut world = world_of(state, memory(&[(0x200, &[0x85, 0x15])]), &[], 8);
+    run(&mut world, 2, None);
+    assert_eq!((drives(&world), &world.state.transmitter), ((0, 0), &sends(8, 0, 0)));
     run(&mut world, 1, None);
     assert_eq!((drives(&world), &world.state.transmitter), ((1, 1), &fresh_transmitter()));
     assert_eq!(world.state.receiver, fresh_receiver());
