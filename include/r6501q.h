@@ -8,8 +8,8 @@
  * may be written, and while a call goes on nobody else writes any of the lists, the memory or the tape, or reads those
  * three.
  *
- * Rules and numbers are those of document 01, those of the halt address and of r6501q_latch document 02's. Hexadecimal
- * ends in h.
+ * Rules and numbers are those of document 01, those of a store's last clock, of the halt address and of r6501q_latch
+ * document 02's. Hexadecimal ends in h.
  */
 #ifndef R6501Q_H
 #define R6501Q_H
@@ -43,7 +43,7 @@ enum r6501q_number {
 
     /* Refused. The state given comes back, nothing is read, counted or changed. Of several, the lowest is given. */
     R6501Q_WRONG_MEMORY_LENGTH = 1, /* memory is not 65,536 bytes (the only one of these five that a load has) */
-    R6501Q_STATE_NOT_WELL_FORMED = 2, /* a field of the state is out of its range */
+    R6501Q_STATE_NOT_WELL_FORMED = 2, /* a field of the state is out of its range, or a byte waits with wait 0 */
     R6501Q_UNEQUAL_LISTS = 3, /* the two input lists, or the two output lists, differ in length */
     R6501Q_CLOCK_TOO_HIGH = 4, /* clock + n is above 4,294,967,295 */
     R6501Q_WRONG_PIN_LIST = 5, /* the input list breaks its rule somewhere, be it past the last clock */
@@ -68,7 +68,17 @@ enum r6501q_number {
 
 /* The machine state (document 01, "Machine state"). The range of a field is that of its type where none is given. */
 
-/* The CPU's registers, and the clocks that the present instruction or entry (reset, NMI, IRQ) still takes. */
+/* The byte that a store or a read-modify-write instruction still has to put, with its address, or none (document 02,
+ * U6). It is put on the last clock of the instruction, where wait goes from 1 to 0; RES low drops it. None is one value:
+ * there, address and value 0. */
+typedef struct r6501q_waiting {
+    uint8_t there; /* 0 or 1 */
+    uint16_t address; /* 0 where none is there */
+    uint8_t value; /* 0 where none is there */
+} r6501q_waiting;
+
+/* The CPU's registers, the clocks that the present instruction or entry (reset, NMI, IRQ) still takes, and its byte
+ * waiting. */
 typedef struct r6501q_cpu {
     uint8_t a;
     uint8_t x;
@@ -76,7 +86,8 @@ typedef struct r6501q_cpu {
     uint8_t sp;
     uint8_t p; /* bits 4 and 5 are 0 */
     uint16_t pc;
-    uint8_t wait; /* 0 to 6 */
+    uint8_t wait; /* 0 to 6; above 0 where a byte is waiting */
+    r6501q_waiting waiting;
 } r6501q_cpu;
 
 /* The entries that are due. */
@@ -189,10 +200,11 @@ typedef struct r6501q_latch_result {
     uint16_t value; /* the latch value, 0 where none is found */
 } r6501q_latch_result;
 
-/* A chip that has not run yet: reset due, clock 0, all levels high. Always well-formed. */
+/* A chip that has not run yet: reset due, clock 0, no byte waiting, all levels high. Always well-formed. */
 r6501q_state r6501q_fresh(void);
 
-/* 1 where every field of the state is within its range, 0 where one is not. There is no rule across fields. */
+/* 1 where every field of the state is within its range, 0 where one is not. The one rule across fields is that of a byte
+ * waiting: wait is above 0. */
 uint8_t r6501q_well_formed(r6501q_state state);
 
 /* n clocks, by leaps from event to event.
@@ -206,8 +218,9 @@ uint8_t r6501q_well_formed(r6501q_state state);
  *       output_words   for each the driven word, PA0 in bit 0, PD7 in bit 31
  *       n              how many clocks; with 0 all checks are made and nothing is done
  *       halt           the halt address, 0 to 65,535; none where it is above (R6501Q_NO_HALT). Every write of the CPU
- *                      counts: stores and pushes, those of the NMI and IRQ entries too, and writes of registers, also
- *                      of one that ignores the byte
+ *                      counts: pushes, those of the NMI and IRQ entries too, on the first clock, the byte of a store on
+ *                      its last, also one that waits in the state given; and writes of registers, also of one that
+ *                      ignores the byte
  *
  * Back: 0              all n clocks done: state, memory and records are those of n single clocks
  *       1 to 5         refused: the state given, leaps, read and written 0, everything unchanged
@@ -216,6 +229,7 @@ uint8_t r6501q_well_formed(r6501q_state state);
  *                      memory, leaps, read and written as reached, with that clock. 6 and 7 for that clock come first,
  *                      and the clock behind it is not looked at
  *
+ * A run that ends within a store leaves memory without its byte: the state carries it, and the next call puts it.
  * Entries of the output lists from `written` on are never changed. The next call is lent the rest, input_clocks + read
  * and output_clocks + written with their pairs, and the state handed back; after a halt it goes on behind the write and
  * does not halt for it again. Where no call is refused and all are given the same halt address, or none, all but the
@@ -280,7 +294,12 @@ r6501q_latch_result r6501q_latch(uint32_t clock_rate, uint32_t bit_rate, uint32_
 R6501Q_ASSERT(size_of_a_length, sizeof(size_t) == 8);
 R6501Q_ASSERT(size_of_a_pointer, sizeof(void *) == 8);
 
-R6501Q_SIZE(cpu, 10);
+R6501Q_SIZE(waiting, 6);
+R6501Q_AT(waiting, there, 0);
+R6501Q_AT(waiting, address, 2);
+R6501Q_AT(waiting, value, 4);
+
+R6501Q_SIZE(cpu, 16);
 R6501Q_AT(cpu, a, 0);
 R6501Q_AT(cpu, x, 1);
 R6501Q_AT(cpu, y, 2);
@@ -288,6 +307,7 @@ R6501Q_AT(cpu, sp, 3);
 R6501Q_AT(cpu, p, 4);
 R6501Q_AT(cpu, pc, 6);
 R6501Q_AT(cpu, wait, 8);
+R6501Q_AT(cpu, waiting, 10);
 
 R6501Q_SIZE(due, 2);
 R6501Q_AT(due, reset, 0);
@@ -345,18 +365,18 @@ R6501Q_AT(levels, ports, 0);
 R6501Q_AT(levels, nmi, 4);
 R6501Q_AT(levels, res, 5);
 
-R6501Q_SIZE(state, 68);
+R6501Q_SIZE(state, 72);
 R6501Q_AT(state, cpu, 0);
-R6501Q_AT(state, due, 10);
-R6501Q_AT(state, peripherals, 12);
-R6501Q_AT(state, external, 48);
-R6501Q_AT(state, last, 56);
-R6501Q_AT(state, clock, 64);
+R6501Q_AT(state, due, 16);
+R6501Q_AT(state, peripherals, 18);
+R6501Q_AT(state, external, 52);
+R6501Q_AT(state, last, 60);
+R6501Q_AT(state, clock, 68);
 
 R6501Q_SIZE(call_result, 96);
 R6501Q_AT(call_result, number, 0);
 R6501Q_AT(call_result, state, 4);
-R6501Q_AT(call_result, leaps, 72);
+R6501Q_AT(call_result, leaps, 76);
 R6501Q_AT(call_result, read, 80);
 R6501Q_AT(call_result, written, 88);
 

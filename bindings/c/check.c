@@ -48,6 +48,9 @@ static void check_fresh(void)
     SAME(s.cpu.p, 4);
     SAME(s.cpu.pc, 0);
     SAME(s.cpu.wait, 0);
+    SAME(s.cpu.waiting.there, 0);
+    SAME(s.cpu.waiting.address, 0);
+    SAME(s.cpu.waiting.value, 0);
     SAME(s.due.reset, 1);
     SAME(s.due.nmi, 0);
     SAME(s.peripherals.ports.a, 0xFF);
@@ -119,6 +122,49 @@ static void check_ranges(void)
 #undef RANGE
 }
 
+/* Document 02, U6: a byte waiting, or none, which is one value. */
+static void check_waiting(void)
+{
+    static const struct {
+        uint8_t wait, there;
+        uint16_t address;
+        uint8_t value, well_formed;
+    } states[] = {
+        {1, 1, 0x1234, 0x56, 1}, {6, 1, 0xFFFF, 0xFF, 1}, {1, 1, 0, 0, 1}, {0, 0, 0, 0, 1}, {6, 0, 0, 0, 1},
+        {0, 1, 0x1234, 0x56, 0}, {0, 1, 0, 0, 0}, /* a byte waiting with wait 0 */
+        {1, 0, 1, 0, 0}, {1, 0, 0x0100, 0, 0}, {1, 0, 0, 1, 0}, {0, 0, 0, 0x80, 0}, /* none, and yet a byte */
+        {1, 2, 0x1234, 0x56, 0}, {1, 2, 0, 0, 0}, {1, 255, 0x1234, 0x56, 0}, {7, 1, 0x1234, 0x56, 0}
+    };
+    r6501q_call_result result;
+    size_t i;
+    for (i = 0; i < sizeof states / sizeof *states; i++) {
+        r6501q_state s = r6501q_fresh();
+        s.cpu.wait = states[i].wait;
+        s.cpu.waiting.there = states[i].there;
+        s.cpu.waiting.address = states[i].address;
+        s.cpu.waiting.value = states[i].value;
+        memset(memory, 0, sizeof memory);
+        SAME(r6501q_well_formed(s), states[i].well_formed);
+        result = run(s, 0);
+        SAME(result.number, states[i].well_formed ? R6501Q_DONE : R6501Q_STATE_NOT_WELL_FORMED);
+        SAME(result.state.cpu.wait, states[i].wait);
+        SAME(result.state.cpu.waiting.there, states[i].there);
+        SAME(result.state.cpu.waiting.address, states[i].address);
+        SAME(result.state.cpu.waiting.value, states[i].value);
+        SAME(memory[0x1234], 0);
+        if (!states[i].well_formed || states[i].address != 0x1234)
+            continue;
+        result = run(s, states[i].wait);
+        SAME(result.number, R6501Q_DONE);
+        SAME(result.leaps, 1);
+        SAME(result.state.cpu.wait, 0);
+        SAME(result.state.cpu.waiting.there, 0);
+        SAME(result.state.cpu.waiting.address, 0);
+        SAME(result.state.cpu.waiting.value, 0);
+        SAME(memory[0x1234], 0x56);
+    }
+}
+
 /* A program that puts a value of its own into each register that has a field. */
 static void check_registers(void)
 {
@@ -159,6 +205,7 @@ static void check_registers(void)
     SAME(s.cpu.p, 4); /* I; N is clear after LDA #66h */
     SAME(s.cpu.pc, 0x243);
     SAME(s.cpu.wait, 2);
+    SAME(s.cpu.waiting.there, 0);
     SAME(memory[0xFF], 0x30);
     SAME(s.due.reset, 0);
     SAME(s.due.nmi, 0);
@@ -173,28 +220,28 @@ static void check_registers(void)
     SAME(s.peripherals.control.scsr, 0x30);
     SAME(s.peripherals.serial.sent, 0x5A);
     SAME(s.peripherals.serial.received, 0);
-    /* Counter A is loaded on clock 74, the start of its STA: 18 clocks counted. B on clock 64: 28. */
+    /* Counter A is loaded on clock 76, the last of its STA: 16 clocks counted. B on clock 66: 26. */
     SAME(s.peripherals.countera.latch, 0x9ABC);
-    SAME(s.peripherals.countera.count, 0x9ABC - 18);
+    SAME(s.peripherals.countera.count, 0x9ABC - 16);
     SAME(s.peripherals.counterb.latchb, 0x5678);
     SAME(s.peripherals.counterb.latchc, 0x1234);
-    SAME(s.peripherals.counterb.count, 0x5678 - 28);
+    SAME(s.peripherals.counterb.count, 0x5678 - 26);
     SAME(s.peripherals.counterb.turnc, 1);
     SAME(s.external.ports, 0xFFFFFFFF);
     SAME(s.last.ports, 0xD4C3B2A1);
-    /* Port A on clock 14, B on 19, C on 24; D's latch shows once MCR5 is set, on 39. */
+    /* Port A on clock 16, B on 21, C on 26; D's latch shows once MCR5 is set, on 41. */
     SAME(result.written, 4);
-    SAME(output_clocks[0], 14);
+    SAME(output_clocks[0], 16);
     SAME(output_words[0], 0xFFFFFFA1);
-    SAME(output_clocks[1], 19);
+    SAME(output_clocks[1], 21);
     SAME(output_words[1], 0xFFFFB2A1);
-    SAME(output_clocks[2], 24);
+    SAME(output_clocks[2], 26);
     SAME(output_words[2], 0xFFC3B2A1);
-    SAME(output_clocks[3], 39);
+    SAME(output_clocks[3], 41);
     SAME(output_words[3], 0xD4C3B2A1);
 }
 
-/* The serial halves' progress, the turn and NMI due: from a state that is lent, one clock on. */
+/* The serial halves' progress, the turn, NMI due and a byte waiting: from a state that is lent, one clock on. */
 static void check_progress(void)
 {
     r6501q_state s = r6501q_fresh();
@@ -203,6 +250,9 @@ static void check_progress(void)
     s.due.reset = 0;
     s.due.nmi = 1;
     s.cpu.wait = 5;
+    s.cpu.waiting.there = 1;
+    s.cpu.waiting.address = 0xBA98;
+    s.cpu.waiting.value = 0x76;
     s.peripherals.control.sccr = 0xC0; /* both halves on: 8 bits, no parity */
     s.peripherals.control.mcr = 0x04; /* B in pulse mode */
     s.peripherals.countera.count = 0; /* a tick */
@@ -225,6 +275,10 @@ static void check_progress(void)
     s = result.state;
     SAME(s.clock, 1001);
     SAME(s.cpu.wait, 4);
+    SAME(s.cpu.waiting.there, 1);
+    SAME(s.cpu.waiting.address, 0xBA98);
+    SAME(s.cpu.waiting.value, 0x76);
+    SAME(memory[0xBA98], 0);
     SAME(s.due.reset, 0);
     SAME(s.due.nmi, 1);
     SAME(s.peripherals.control.ifr, 0x30); /* both underflows */
@@ -302,11 +356,11 @@ static void check_example(void)
     SAME(result.state.clock, 100);
     SAME(result.read, 0);
     SAME(result.written, 1);
-    SAME(output_clocks[0], 10);
+    SAME(output_clocks[0], 12);
     SAME(output_words[0], 0xFFFFFF55);
     SAME(output_clocks[1], 0xEEEEEEEE);
     SAME(output_words[1], 0xEEEEEEEE);
-    /* Starts: reset 1, LDA 8, STA 10, JMP on 13, 16, .. 100; levels differ on clock 11. */
+    /* Starts: reset 1, LDA 8, STA 10, JMP on 13, 16, .. 100; the byte of STA is put on clock 12. */
     SAME(result.leaps, 34);
 
     result.state = r6501q_fresh();
@@ -316,7 +370,8 @@ static void check_example(void)
         SAME(result.number, R6501Q_DONE);
         SAME(result.state.clock, clock);
         SAME(result.leaps, 1);
-        SAME(result.written, clock == 10);
+        SAME(result.state.cpu.waiting.there, clock == 10 || clock == 11);
+        SAME(result.written, clock == 12);
     }
     SAME(result.state.cpu.pc, 0x204);
     SAME(result.state.cpu.wait, 2);
@@ -324,7 +379,11 @@ static void check_example(void)
     result = r6501q_run(
         r6501q_fresh(), memory, sizeof memory, NULL, 0, NULL, 0, NULL, 0, NULL, 0, 100, R6501Q_NO_HALT);
     SAME(result.number, R6501Q_NO_FREE_RECORD);
-    SAME(result.state.clock, 9);
+    SAME(result.state.clock, 11);
+    SAME(result.state.cpu.wait, 1);
+    SAME(result.state.cpu.waiting.there, 1);
+    SAME(result.state.cpu.waiting.address, 0x0000);
+    SAME(result.state.cpu.waiting.value, 0x55);
 
     memcpy(damaged, text, sizeof text);
     damaged[40] = '0'; /* the second record's check sum */
@@ -370,15 +429,15 @@ static void check_refusals(void)
     SAME(run(r6501q_fresh(), 8).number, R6501Q_UNDEFINED_OPCODE);
 }
 
-/* Document 02, U4: STA port A of 55h on clock 10, JSR on clock 13 with pushes at FFh and FEh, a store at 3Fh, which no
- * register takes, on clock 19, one at FFFFh on clock 22. */
+/* Document 02, U4 and U6: STA port A of 55h, put on clock 12, JSR on clock 13 with pushes at FFh and FEh, a store at
+ * 3Fh, which no register takes, put on clock 21, one at FFFFh put on clock 25. */
 static void check_halts(void)
 {
     static const uint8_t program[]
         = {0xA9, 0x55, 0x85, 0x00, 0x20, 0x07, 0x02, 0x85, 0x3F, 0x8D, 0xFF, 0xFF, 0x4C, 0x0C, 0x02};
     static const struct {
         uint32_t halt, clock;
-    } halts[] = {{0x0000, 10}, {0x00FF, 13}, {0x00FE, 13}, {0x003F, 19}, {0xFFFF, 22}};
+    } halts[] = {{0x0000, 12}, {0x00FF, 13}, {0x00FE, 13}, {0x003F, 21}, {0xFFFF, 25}};
     static const uint32_t nowhere[] = {R6501Q_NO_HALT, 65536, 65536 + 0x00FF, 0x0000FFFFu + 65536, 0x7FFFFFFF,
         0x80000000u, 0xFFFF0000u, 0x0001, 0x00FD, 0x0200, 0xFFFC};
     r6501q_call_result result;
@@ -412,7 +471,7 @@ static void check_halts(void)
     result = r6501q_run(
         r6501q_fresh(), memory, sizeof memory, NULL, 0, NULL, 0, NULL, 0, NULL, 0, 100, 0x0000);
     SAME(result.number, R6501Q_NO_FREE_RECORD);
-    SAME(result.state.clock, 9);
+    SAME(result.state.clock, 11);
 }
 
 /* Document 02's two examples of U2, and its limits. */
@@ -444,6 +503,7 @@ int main(void)
 {
     check_fresh();
     check_ranges();
+    check_waiting();
     check_registers();
     check_progress();
     check_inputs();

@@ -14,7 +14,7 @@ const SPACE: usize = 4_096;
 /// ```
 /// use r6501q::{Chip, Level, Number, Pin};
 ///
-/// // INC 00h, then again: a record each 8 clocks. PB0 falls meanwhile, which changes no drive.
+/// // INC 00h, then again: a record on clock 12 and each 8 clocks. PB0 falls meanwhile, which changes no drive.
 /// let mut chip = Chip::new();
 /// chip.memory[0x0200..0x0205].copy_from_slice(&[0xE6, 0x00, 0x4C, 0x00, 0x02]);
 /// chip.memory[0xFFFC..0xFFFE].copy_from_slice(&0x0200u16.to_le_bytes());
@@ -22,11 +22,11 @@ const SPACE: usize = 4_096;
 ///
 /// let mut records = 0;
 /// chip.run_with(1_000_000, |_record| records += 1)?;
-/// assert_eq!((chip.state.clock, records), (1_000_000, 125_000));
+/// assert_eq!((chip.state.clock, records), (1_000_000, 124_999));
 ///
 /// chip.step()?;
 /// chip.run(99)?;
-/// assert_eq!(chip.take_records().len(), 12);
+/// assert_eq!(chip.take_records().len(), 13);
 /// # Ok::<(), Number>(())
 /// ```
 ///
@@ -36,7 +36,7 @@ const SPACE: usize = 4_096;
 /// ```
 /// use r6501q::{Chip, Number};
 ///
-/// // INC 40h, then again: a write each 8 clocks.
+/// // INC 40h, then again: its byte is put on clock 12 and each 8 clocks.
 /// let mut chip = Chip::new();
 /// chip.memory[0x0200..0x0205].copy_from_slice(&[0xE6, 0x40, 0x4C, 0x00, 0x02]);
 /// chip.memory[0xFFFC..0xFFFE].copy_from_slice(&0x0200u16.to_le_bytes());
@@ -47,7 +47,7 @@ const SPACE: usize = 4_096;
 ///     assert_eq!(number, Number::HaltedAtWrite);
 ///     clocks.push(chip.state.clock);
 /// }
-/// assert_eq!((clocks, chip.state.clock), (vec![8, 16, 24], 30));
+/// assert_eq!((clocks, chip.state.clock), (vec![12, 20, 28], 30));
 /// ```
 #[derive(Clone, Debug)]
 pub struct Chip {

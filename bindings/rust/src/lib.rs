@@ -10,7 +10,7 @@
 //! chip.load(b";070200A95585004C040201DE\n;02FFFC000201FF\n;0000030003\n")?;
 //! chip.input(20, Pin::PA0, Level::Low)?;
 //! chip.run(100)?;
-//! assert_eq!(chip.take_records(), [Record { clock: 10, word: 0xFFFF_FF55 }]);
+//! assert_eq!(chip.take_records(), [Record { clock: 12, word: 0xFFFF_FF55 }]);
 //! # Ok::<(), Box<dyn std::error::Error>>(())
 //! ```
 //!
@@ -41,6 +41,9 @@
 //! assert_eq!((next.number, next.read), (Number::Done, 1));
 //! assert_eq!(next.state.peripherals.control.ifr & 1, 1); // the rise of PA0 set IFR0
 //! ```
+//!
+//! A store puts its byte on its last clock (document 02, U6): a call that ends before it leaves the byte
+//! [waiting](Waiting) in the state, and the next call puts it.
 //!
 //! A run halts after the first clock that writes at a chosen address (document 02, U4): the last parameter of [`run`]
 //! and [`step`], or [`Chip::halt`](Chip#structfield.halt).
@@ -75,6 +78,7 @@ pub use pin::{Level, NotAPin, Pin};
 pub use record::Record;
 pub use state::{
     Control, CounterA, CounterB, Cpu, Due, Levels, Peripherals, Ports, Receiver, SerialData, State, Transmitter,
+    Waiting,
 };
 
 // README's Rust is compiled and run with the other examples.

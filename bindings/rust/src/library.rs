@@ -32,7 +32,7 @@ pub(crate) struct HostLatchResult {
     pub value: u16,
 }
 
-layout!(HostCallResult, 96, number at 0, state at 4, leaps at 72, read at 80, written at 88);
+layout!(HostCallResult, 96, number at 0, state at 4, leaps at 76, read at 80, written at 88);
 layout!(HostLoadResult, 16, number at 0, place at 8);
 layout!(HostLatchResult, 4, number at 0, found at 1, value at 2);
 

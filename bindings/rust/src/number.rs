@@ -21,7 +21,7 @@ pub enum Number {
     Done = 0,
     /// Memory is not 65,536 bytes.
     WrongMemoryLength = 1,
-    /// A field of the state is out of its range.
+    /// A field of the state is out of its range, or a byte waits with wait 0.
     StateNotWellFormed = 2,
     /// Paired lists differ in length.
     UnequalLists = 3,

@@ -2,7 +2,33 @@
 //! its type where none is given. Flags and levels are bytes, so that a damaged state can be held and is refused.
 use crate::library;
 
-/// The CPU's registers, and the clocks that the present instruction or entry (reset, NMI, IRQ) still takes.
+/// The byte that a store or a read-modify-write instruction still has to put, with its address, or none (document 02,
+/// U6). It is put on the last clock of the instruction, where `wait` goes from 1 to 0; RES low drops it.
+#[repr(C)]
+#[derive(Clone, Copy, PartialEq, Eq, Debug)]
+pub struct Waiting {
+    /// Whether a byte is waiting, 0 or 1.
+    pub there: u8,
+    /// Its address; 0 where none is waiting.
+    pub address: u16,
+    /// The byte; 0 where none is waiting.
+    pub value: u8,
+}
+
+impl Waiting {
+    /// No byte waiting. No other value stands for none.
+    pub const NONE: Waiting = Waiting { there: 0, address: 0, value: 0 };
+
+    /// This byte, to be put at this address.
+    #[must_use]
+    #[inline]
+    pub const fn byte(address: u16, value: u8) -> Waiting {
+        Waiting { there: 1, address, value }
+    }
+}
+
+/// The CPU's registers, the clocks that the present instruction or entry (reset, NMI, IRQ) still takes, and its byte
+/// waiting.
 #[repr(C)]
 #[derive(Clone, Copy, PartialEq, Eq, Debug)]
 pub struct Cpu {
@@ -18,8 +44,10 @@ pub struct Cpu {
     pub p: u8,
     /// The program counter.
     pub pc: u16,
-    /// The clocks that are still to pass before the next start, 0 to 6.
+    /// The clocks that are still to pass before the next start, 0 to 6; above 0 where a byte is waiting.
     pub wait: u8,
+    /// The byte waiting, or none.
+    pub waiting: Waiting,
 }
 
 /// The entries that are due.
@@ -186,12 +214,21 @@ impl State {
         library::fresh()
     }
 
-    /// Whether every field is within its range. There is no rule across fields.
+    /// Whether every field is within its range. The one rule across fields is that of a byte waiting: `wait` is above
+    /// 0.
     ///
     /// ```
-    /// let mut state = r6501q::State::fresh();
+    /// use r6501q::{State, Waiting};
+    ///
+    /// let mut state = State::fresh();
     /// state.last.nmi = 2;
     /// assert!(!state.is_well_formed());
+    ///
+    /// let mut state = State::fresh();
+    /// state.cpu.waiting = Waiting::byte(0x0040, 0x55);
+    /// assert!(!state.is_well_formed());
+    /// state.cpu.wait = 1;
+    /// assert!(state.is_well_formed());
     /// ```
     #[must_use]
     #[inline]
@@ -215,7 +252,8 @@ macro_rules! layout {
 }
 pub(crate) use layout;
 
-layout!(Cpu, 10, a at 0, x at 1, y at 2, sp at 3, p at 4, pc at 6, wait at 8);
+layout!(Waiting, 6, there at 0, address at 2, value at 4);
+layout!(Cpu, 16, a at 0, x at 1, y at 2, sp at 3, p at 4, pc at 6, wait at 8, waiting at 10);
 layout!(Due, 2, reset at 0, nmi at 1);
 layout!(Ports, 4, a at 0, b at 1, c at 2, d at 3);
 layout!(CounterA, 4, count at 0, latch at 2);
@@ -229,4 +267,4 @@ layout!(
     ports at 0, countera at 4, counterb at 8, control at 16, serial at 21, transmitter at 24, receiver at 28
 );
 layout!(Levels, 8, ports at 0, nmi at 4, res at 5);
-layout!(State, 68, cpu at 0, due at 10, peripherals at 12, external at 48, last at 56, clock at 64);
+layout!(State, 72, cpu at 0, due at 16, peripherals at 18, external at 52, last at 60, clock at 68);

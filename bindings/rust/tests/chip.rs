@@ -1,7 +1,7 @@
 //! A chip that owns its lists does what the plain calls do, and 7 never ends a run of it.
 use r6501q::{run, Chip, Level, Number, Pin, Record, State, MEMORY_LENGTH};
 
-// INC 00h, then again: a record each 8 clocks, the first on clock 8.
+// INC 00h, then again: a record each 8 clocks, the first on clock 12.
 fn counting() -> Vec<u8> {
     let mut memory = vec![0; MEMORY_LENGTH];
     memory[0x0200..0x0205].copy_from_slice(&[0xE6, 0x00, 0x4C, 0x00, 0x02]);
@@ -36,7 +36,7 @@ fn plainly(n: u32) -> (State, Vec<u8>, Vec<Record>) {
 
 #[test]
 fn a_run_makes_space_for_its_records() {
-    let n = 200_000; // 25,000 records: several times the first space
+    let n = 200_000; // 24,999 records: several times the first space
     let mut chip = with_inputs(n / 7 + 10);
     assert_eq!(chip.run(n), Ok(()));
     let (state, memory, records) = plainly(n);
@@ -76,7 +76,7 @@ fn a_stop_keeps_what_was_reached() {
     chip.memory[0x0202] = 2; // undefined
     let mut taken = Vec::new();
     assert_eq!(chip.run_with(100, |record| taken.push(record)), Err(Number::UndefinedOpcode));
-    assert_eq!((chip.state.clock, taken), (12, vec![Record { clock: 8, word: 0xFFFF_FF00 }]));
+    assert_eq!((chip.state.clock, taken), (12, vec![Record { clock: 12, word: 0xFFFF_FF00 }]));
     assert_eq!(chip.step(), Err(Number::UndefinedOpcode));
 }
 
@@ -84,7 +84,7 @@ fn a_stop_keeps_what_was_reached() {
 fn a_halt_ends_a_run_and_the_next_goes_on() {
     let mut chip = with_inputs(3);
     chip.halt = Some(0x0000);
-    for clock in [8, 16, 24] {
+    for clock in [12, 20, 28] {
         assert_eq!(chip.run(100), Err(Number::HaltedAtWrite));
         assert_eq!((chip.state.clock, chip.written()), (clock, (clock / 8) as usize));
     }
@@ -92,13 +92,13 @@ fn a_halt_ends_a_run_and_the_next_goes_on() {
         assert_eq!(chip.step(), Ok(()));
     }
     assert_eq!(chip.step(), Err(Number::HaltedAtWrite)); // the single clock is done too
-    assert_eq!((chip.state.clock, chip.read(), chip.written()), (32, 3, 4));
+    assert_eq!((chip.state.clock, chip.read(), chip.written()), (36, 3, 4));
     assert_eq!(chip.run(8), Err(Number::HaltedAtWrite)); // on the last clock
     chip.halt = Some(0x0001);
     assert_eq!(chip.run(8), Ok(()));
     chip.halt = None;
     assert_eq!(chip.run(1_000), Ok(()));
-    assert_eq!(chip.take_records().len(), 1_048 / 8);
+    assert_eq!((chip.state.clock, chip.take_records().len()), (1_052, 131));
 }
 
 #[test]
@@ -107,10 +107,10 @@ fn space_is_made_for_the_record_of_a_halt() {
     chip.halt = Some(0x0000);
     chip.set_space(&[], &[]);
     assert_eq!(chip.call_run(100).number, Number::NoFreeRecord);
-    assert_eq!(chip.state.clock, 7);
+    assert_eq!(chip.state.clock, 11);
     let mut taken = Vec::new();
     assert_eq!(chip.run_with(100, |record| taken.push(record)), Err(Number::HaltedAtWrite));
-    assert_eq!((chip.state.clock, taken), (8, vec![Record { clock: 8, word: 0xFFFF_FF00 }]));
+    assert_eq!((chip.state.clock, taken), (12, vec![Record { clock: 12, word: 0xFFFF_FF00 }]));
 }
 
 #[test]
@@ -134,8 +134,8 @@ fn a_call_takes_the_space_as_it_is() {
     let mut chip = Chip::with(State::fresh(), counting());
     chip.set_space(&[1; 2], &[2; 2]);
     let result = chip.call_run(100);
-    assert_eq!((result.number, result.written, result.state.clock), (Number::NoFreeRecord, 2, 23));
-    assert_eq!((chip.output_clocks(), chip.output_words()), (&[8, 16][..], &[0xFFFF_FF00, 0xFFFF_FF01][..]));
+    assert_eq!((result.number, result.written, result.state.clock), (Number::NoFreeRecord, 2, 27));
+    assert_eq!((chip.output_clocks(), chip.output_words()), (&[12, 20][..], &[0xFFFF_FF00, 0xFFFF_FF01][..]));
     assert_eq!(chip.call_step().number, Number::NoFreeRecord);
     chip.set_space(&[1], &[2, 2]);
     assert_eq!(chip.call_step().number, Number::UnequalLists);

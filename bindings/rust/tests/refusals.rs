@@ -1,5 +1,5 @@
 //! Each number of document 01, and 12 of document 02, from a call that earns it, and what stays unchanged.
-use r6501q::{code, load, run, step, CallResult, LoadResult, Number, State, MEMORY_LENGTH, PIN_NMI, PIN_RES};
+use r6501q::{code, load, run, step, CallResult, LoadResult, Number, State, Waiting, MEMORY_LENGTH, PIN_NMI, PIN_RES};
 
 // What a call is lent. Memory and output space are filled so that a change shows.
 #[derive(Clone, PartialEq, Debug)]
@@ -83,12 +83,18 @@ fn wrong_memory_length_is_1() {
     }
 }
 
-// Every field that has a range, just past it.
+// Every field that has a range, just past it. A byte waiting with wait 0, and two that are there and are not.
 fn damaged() -> Vec<State> {
-    let damages: [fn(&mut State); 18] = [
+    let damages: [fn(&mut State); 24] = [
         |s| s.cpu.p = 16,
         |s| s.cpu.p = 32,
         |s| s.cpu.wait = 7,
+        |s| s.cpu.waiting = Waiting::byte(0x0040, 0x55),
+        |s| s.cpu.waiting = Waiting::byte(0, 0),
+        |s| (s.cpu.wait, s.cpu.waiting.there) = (1, 2),
+        |s| (s.cpu.wait, s.cpu.waiting.there) = (6, 255),
+        |s| (s.cpu.wait, s.cpu.waiting.address) = (1, 0x0100),
+        |s| (s.cpu.wait, s.cpu.waiting.value) = (1, 1),
         |s| s.due.reset = 2,
         |s| s.due.nmi = 255,
         |s| s.peripherals.counterb.turnc = 2,
@@ -127,6 +133,7 @@ fn every_field_at_its_highest_is_well_formed() {
     let mut state = State::fresh();
     state.cpu.p = 0xCF;
     state.cpu.wait = 6;
+    state.cpu.waiting = Waiting::byte(0xFFFF, 0xFF);
     state.due.nmi = 1;
     state.peripherals.control.ifr = 63;
     state.peripherals.transmitter.left = 12;
@@ -234,24 +241,26 @@ fn an_undefined_opcode_is_6() {
 
 #[test]
 fn a_record_without_space_is_7() {
-    // STA port A of 00h: the word changes on clock 8.
+    // STA port A of 00h on clock 8: the word changes on its last clock, 10. Event clocks are 1 and 8.
     let mut lent = Lent { output_clocks: vec![], output_words: vec![], ..Lent::good() };
-    (lent.input_clocks, lent.input_codes) = (vec![9], vec![code(0, false)]);
+    (lent.input_clocks, lent.input_codes) = (vec![10], vec![code(0, false)]);
     lent.memory[0x200..0x205].copy_from_slice(&[0x85, 0x00, 0x4C, 0x02, 0x02]);
     lent.memory[0xFFFD] = 2;
     let result = lent.run(State::fresh(), 100);
-    assert_eq!((result.number, result.state.clock, result.leaps), (Number::NoFreeRecord, 7, 2));
+    assert_eq!((result.number, result.state.clock, result.leaps), (Number::NoFreeRecord, 9, 3));
     assert_eq!((result.read, result.written), (0, 0));
+    assert_eq!((result.state.cpu.wait, result.state.cpu.waiting), (1, Waiting::byte(0x0000, 0x00)));
     assert_eq!(lent.step(result.state).number, Number::NoFreeRecord);
     (lent.output_clocks, lent.output_words) = (vec![1; 2], vec![1; 2]);
     let result = lent.step(result.state);
-    assert_eq!((result.number, result.state.clock, result.leaps, result.written), (Number::Done, 8, 1, 1));
-    assert_eq!((lent.output_clocks, lent.output_words), (vec![8, 1], vec![0xFFFF_FF00, 1]));
+    assert_eq!((result.number, result.state.clock, result.leaps, result.written), (Number::Done, 10, 1, 1));
+    assert_eq!(result.state.cpu.waiting, Waiting::NONE);
+    assert_eq!((lent.output_clocks, lent.output_words), (vec![10, 1], vec![0xFFFF_FF00, 1]));
 }
 
-// STA port A of 00h on clock 8, INC 40h on clock 11, then again; PB0 falls on clock 8.
+// STA port A of 00h, put on clock 10, INC 40h, put on clock 15, then again; PB0 falls on clock 10.
 fn writing() -> Lent {
-    let mut lent = Lent { input_clocks: vec![8], input_codes: vec![code(8, false)], ..Lent::good() };
+    let mut lent = Lent { input_clocks: vec![10], input_codes: vec![code(8, false)], ..Lent::good() };
     lent.memory[0x200..0x207].copy_from_slice(&[0x85, 0x00, 0xE6, 0x40, 0x4C, 0x00, 0x02]);
     lent.memory[0xFFFD] = 2;
     lent
@@ -261,23 +270,23 @@ fn writing() -> Lent {
 fn a_write_at_the_halt_address_is_12() {
     let mut lent = Lent { halt: Some(0x0000), ..writing() };
     let result = lent.run(State::fresh(), 100);
-    assert_eq!((result.number, result.state.clock, result.leaps), (Number::HaltedAtWrite, 8, 2));
-    assert_eq!((result.read, result.written, result.state.cpu.wait), (1, 1, 2));
-    assert_eq!((lent.output_clocks[0], lent.output_words[0]), (8, 0xFFFF_FF00));
+    assert_eq!((result.number, result.state.clock, result.leaps), (Number::HaltedAtWrite, 10, 3));
+    assert_eq!((result.read, result.written, result.state.cpu.wait), (1, 1, 0));
+    assert_eq!((lent.output_clocks[0], lent.output_words[0]), (10, 0xFFFF_FF00));
     (lent.input_clocks, lent.input_codes, lent.halt) = (vec![], vec![], Some(0x0040));
-    let result = lent.run(result.state, 3);
-    assert_eq!((result.number, result.state.clock, lent.memory[0x40]), (Number::HaltedAtWrite, 11, 1));
+    let result = lent.run(result.state, 5);
+    assert_eq!((result.number, result.state.clock, lent.memory[0x40]), (Number::HaltedAtWrite, 15, 1));
     let result = lent.step(result.state);
-    assert_eq!((result.number, result.state.clock), (Number::Done, 12));
+    assert_eq!((result.number, result.state.clock), (Number::Done, 16));
 
     let mut lent = Lent { halt: Some(0x0000), ..writing() };
-    assert_eq!(lent.run(State::fresh(), 8).number, Number::HaltedAtWrite);
+    assert_eq!(lent.run(State::fresh(), 10).number, Number::HaltedAtWrite);
     let mut lent = Lent { halt: Some(0x0000), ..writing() };
-    let result = lent.run(State::fresh(), 7);
+    let result = lent.run(State::fresh(), 9);
     assert_eq!(result.number, Number::Done);
     assert_eq!(lent.run(result.state, 0).number, Number::Done);
     let result = lent.step(result.state);
-    assert_eq!((result.number, result.leaps, result.state.clock), (Number::HaltedAtWrite, 1, 8));
+    assert_eq!((result.number, result.leaps, result.state.clock), (Number::HaltedAtWrite, 1, 10));
     for halt in [None, Some(0x0200), Some(0xFFFD)] {
         assert_eq!(Lent { halt, ..writing() }.run(State::fresh(), 100).number, Number::Done);
     }
@@ -287,11 +296,11 @@ fn a_write_at_the_halt_address_is_12() {
 fn a_full_list_comes_before_a_halt() {
     let mut lent = Lent { halt: Some(0x0000), output_clocks: vec![], output_words: vec![], ..writing() };
     let result = lent.run(State::fresh(), 100);
-    assert_eq!((result.number, result.state.clock, result.read), (Number::NoFreeRecord, 7, 0));
+    assert_eq!((result.number, result.state.clock, result.read), (Number::NoFreeRecord, 9, 0));
     (lent.output_clocks, lent.output_words) = (vec![1; 2], vec![1; 2]);
     let result = lent.run(result.state, 100);
-    assert_eq!((result.number, result.state.clock, result.read), (Number::HaltedAtWrite, 8, 1));
-    assert_eq!((lent.output_clocks, lent.output_words), (vec![8, 1], vec![0xFFFF_FF00, 1]));
+    assert_eq!((result.number, result.state.clock, result.read), (Number::HaltedAtWrite, 10, 1));
+    assert_eq!((lent.output_clocks, lent.output_words), (vec![10, 1], vec![0xFFFF_FF00, 1]));
 }
 
 #[test]
