@@ -3,7 +3,7 @@
 
 use crate::coverage::Coverage;
 use crate::scenario::{free_entries, Call, List, Scenario};
-use differential::convert::{damage_flag, first_difference, library_state};
+use differential::convert::{damage_bytes, first_difference, library_state};
 use differential::random::Random;
 use plain_clock::{fresh, run_observed, Outcome, World};
 use r6501q::{CallResult, Chip};
@@ -35,12 +35,12 @@ fn copy<T: Copy>(to: &mut Vec<T>, from: &[T]) {
     to.extend_from_slice(from);
 }
 
-/// The model's state as the library's, with the damage of a flag, which the model's flags cannot have. Such a state is
-/// refused and never changes.
+/// The model's state as the library's, with the damage that the model's cannot have. Such a state is refused and never
+/// changes.
 fn library_state_of(scenario: &Scenario, world: &World) -> r6501q::State {
     let mut state = library_state(&world.state);
-    if let Some(damage) = scenario.flag_damage {
-        damage_flag(&mut state, damage.flag, damage.byte);
+    if let Some(found) = scenario.byte_damage {
+        damage_bytes(&mut state, found.damage, found.byte);
     }
     state
 }
@@ -120,7 +120,7 @@ impl Sides {
         lent_first(scenario, &mut self.world);
         start(&mut self.library, scenario, &scenario.lists[0], &self.world);
         coverage.scenario(scenario);
-        let well_formed = scenario.flag_damage.is_none() && plain_clock::well_formed(&scenario.state);
+        let well_formed = scenario.byte_damage.is_none() && plain_clock::well_formed(&scenario.state);
         if self.library.state.is_well_formed() != well_formed {
             return Err(Difference { list: 0, call: Some(0), text: format!("well-formed: model {well_formed}") });
         }
@@ -166,10 +166,9 @@ impl Sides {
         }
     }
 
-    /// The model's side of a call. A flag that is a byte above 1 makes the state not well-formed; the model's flags
-    /// have no such value.
+    /// The model's side of a call. Damage that the model's state cannot have makes the state not well-formed.
     fn model_call(&mut self, scenario: &Scenario, list: &List, call: Call, coverage: &mut Coverage) -> Outcome {
-        if scenario.flag_damage.is_some() {
+        if scenario.byte_damage.is_some() {
             let number = if scenario.memory.len() == plain_clock::run::MEMORY_LENGTH { 2 } else { 1 };
             return Outcome { number, leaps: 0, inputs_read: 0, records_written: 0 };
         }

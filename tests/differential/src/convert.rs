@@ -33,6 +33,10 @@ fn peripherals(state: &State) -> r6501q::Peripherals {
     }
 }
 
+fn waiting(state: &State) -> r6501q::Waiting {
+    state.waiting.map_or(r6501q::Waiting::NONE, |byte| r6501q::Waiting::byte(byte.address, byte.value))
+}
+
 pub fn library_state(state: &State) -> r6501q::State {
     r6501q::State {
         cpu: r6501q::Cpu {
@@ -43,6 +47,7 @@ pub fn library_state(state: &State) -> r6501q::State {
             p: state.p,
             pc: state.pc,
             wait: state.wait,
+            waiting: waiting(state),
         },
         due: r6501q::Due { reset: u8::from(state.reset_due), nmi: u8::from(state.nmi_due) },
         peripherals: peripherals(state),
@@ -52,12 +57,14 @@ pub fn library_state(state: &State) -> r6501q::State {
     }
 }
 
-/// The flags and levels that cross as a byte. Half is a number in the model, so that it is damaged there too.
-pub const FLAGS: u32 = 8;
+/// What the bytes of a state can have and the model's state cannot: a flag or level above 1, and a none waiting that has
+/// an address or a value. Half is a number in the model, so that it is damaged there too.
+pub const DAMAGES: u32 = 13;
 
-/// Puts a byte into one of the flags and levels.
-pub fn damage_flag(state: &mut r6501q::State, flag: u32, byte: u8) {
-    match flag {
+/// Puts a byte above 1 into one of the flags and levels, or into a none waiting.
+pub fn damage_bytes(state: &mut r6501q::State, damage: u32, byte: u8) {
+    let none = r6501q::Waiting::NONE;
+    match damage {
         0 => state.due.reset = byte,
         1 => state.due.nmi = byte,
         2 => state.peripherals.counterb.turnc = byte,
@@ -65,7 +72,12 @@ pub fn damage_flag(state: &mut r6501q::State, flag: u32, byte: u8) {
         4 => state.external.nmi = byte,
         5 => state.external.res = byte,
         6 => state.last.nmi = byte,
-        _ => state.last.res = byte,
+        7 => state.last.res = byte,
+        8 => state.cpu.waiting.there = byte,
+        9 => state.cpu.waiting = r6501q::Waiting { address: u16::from(byte), ..none },
+        10 => state.cpu.waiting = r6501q::Waiting { address: u16::from(byte) << 8, ..none },
+        11 => state.cpu.waiting = r6501q::Waiting { value: byte, ..none },
+        _ => state.cpu.waiting = r6501q::Waiting { address: u16::from(byte), value: byte, ..none },
     }
 }
 
@@ -92,6 +104,9 @@ pub fn first_difference(library: &r6501q::State, model: &r6501q::State) -> Optio
         cpu.p,
         cpu.pc,
         cpu.wait,
+        cpu.waiting.there,
+        cpu.waiting.address,
+        cpu.waiting.value,
         due.reset,
         due.nmi,
         peripherals.ports.a,

@@ -15,7 +15,7 @@ use plain_clock::serial::{
 };
 use plain_clock::shifted::{receiver_shift, sender_tick, ShiftedBytes};
 use plain_clock::state::FLAG_D;
-use plain_clock::{run, ClockReport, Outcome, State, Turn, World};
+use plain_clock::{run, ClockReport, Outcome, State, Turn, Waiting, World};
 
 macro_rules! kinds {
     ($($name:ident: $text:literal,)*) => {
@@ -32,11 +32,14 @@ kinds! {
     StartEven: "start: any well-formed state",
     StartNearEvents: "start: near events",
     StartNearTop: "start: clock within 300 of the top",
+    StartWaiting: "start: a byte waiting",
     Run0: "call: run of 0 clocks, not refused",
     RunHuge: "call: run of over 1,000,000 clocks, not refused",
     AfterRefusal: "call: not refused, after a refused one in its list",
     Leaps: "call: fewer leaps than clocks",
     CutGap: "call: ended within a gap",
+    CutWaiting: "call: ended with a byte waiting",
+    CutBeforePut: "call: ended on the clock before a put",
     Gap: "leap: with a gap above 0",
     LongGap: "leap: with a gap above 1,000",
     CounterAInterval: "counter A: underflow in mode 00",
@@ -150,11 +153,28 @@ kinds! {
     PcWraps: "instruction: PC from FFFFh on",
     ModifyPort: "instruction: read-modify-write at a port, latch unlike level",
     JsrOverCode: "instruction: JSR pushes over its own operand",
-    WritesCode: "instruction: writes the next instruction",
     PageCrossed: "instruction: page crossed, a clock more",
     BranchSame: "instruction: branch taken to the same page",
     BranchOther: "instruction: branch taken to another page",
+    PutMemory: "store: put in memory",
+    PutRegister: "store: put in a register",
+    PutModified: "store: put in a register by a read-modify-write instruction",
+    PutOverInverted: "store: read-modify-write of port A, its latch changed before the put",
+    PutLent: "store: put of a byte lent waiting",
+    PutSame: "store: put of a byte that the memory held already",
+    PutCode: "store: put over the next opcode",
+    PutUnderflow: "store: put on a clock with an underflow",
+    PutInput: "store: put on a clock with an input",
+    PutBehindGap: "store: put behind a gap above 0",
+    PutLoad: "store: counter loaded on the clock of its underflow",
+    PutBeforeIrq: "store: put right before an IRQ entry",
+    PutAfterFull: "store: put in the list behind a stop 7 there",
+    WaitingNmi: "store: NMI falls while the byte waits",
+    WaitingTick: "store: underflow while the byte waits",
+    Dropped: "store: byte dropped by RES low before its last clock",
+    DroppedLast: "store: byte dropped by RES low on its last clock",
     ByInstruction: "record: on a clock that starts an instruction",
+    ByPut: "record: on the clock of a put",
     ByEntry: "record: on a clock of an entry",
     ByUnderflowA: "record: on a clock with an underflow of A, no start",
     ByUnderflowB: "record: on a clock with an underflow of B, no start",
@@ -166,6 +186,7 @@ kinds! {
     Stop7Underflow: "stop 7: for an underflow's inversion",
     Stop7Reset: "stop 7: under RES low",
     Stop7Shift: "stop 7: for the clock of a sender",
+    Stop7Put: "stop 7: for the clock of a put",
     Stop7Halt: "stop 7: on a clock that would write at the halt address",
     HaltGiven: "halt: address given, all clocks done",
     HaltRefused: "halt: address given, call refused",
@@ -175,6 +196,7 @@ kinds! {
     HaltRegister: "halt: at a write of a register",
     HaltModifiedRegister: "halt: at a read-modify-write instruction at a register",
     HaltIgnored: "halt: at a write of a register that ignores it",
+    HaltLent: "halt: at a byte lent waiting",
     HaltPushed: "halt: at an instruction's push at 40h or above",
     HaltEntry: "halt: at a push of NMI or IRQ",
     HaltPushedRegister: "halt: at a push at a register",
@@ -190,6 +212,9 @@ kinds! {
     HaltLast: "halt: on the last of two or more clocks of a call",
     HaltHuge: "halt: in a run of over 1,000,000 clocks",
     HaltBeforeFull: "halt: the next clock needs a record, none free",
+    HaltBeforeUndefined: "halt: the next clock would start an undefined opcode",
+    HaltWaiting: "halt: all clocks done, a byte waiting for the address",
+    HaltDropped: "halt: byte for the address dropped by RES low",
     HaltRead: "halt: address read, not written, on a clock done",
     HaltReset: "halt: reset entry, SP at the address",
     HaltAfterFull: "halt: in the list behind a stop 7 on that clock",
@@ -220,6 +245,10 @@ pub struct Coverage {
     pub shifted: ShiftedBytes,
     /// What made PA4's drive rise on the last clock.
     pa4_risen: Option<Kind>,
+    /// What the byte waiting, or the last one put, is of.
+    waiting: Waiter,
+    /// The last clock was that of a put.
+    put_last: bool,
     pub scenarios: u64,
     pub calls: u64,
     pub clocks: u64,
@@ -231,6 +260,16 @@ pub struct Coverage {
     halts: Halts,
 }
 
+/// What a byte waiting is of.
+#[derive(Clone, Copy, PartialEq, Eq)]
+enum Waiter {
+    /// The state that was lent.
+    Lent,
+    Store,
+    /// With the byte that was read.
+    Modify(u8),
+}
+
 /// What halts are judged by.
 #[derive(Clone, Default)]
 struct Halts {
@@ -238,6 +277,8 @@ struct Halts {
     address: Option<u16>,
     /// The list before: its address, the stop that ended it, and whether that was a 7 on a clock that writes there.
     before: Option<(Option<u16>, u8, bool)>,
+    /// The list before was ended by a 7 on the clock of a put.
+    full_put: bool,
     /// The last clock done, and whether it came behind a gap.
     last: Option<(ClockReport, bool)>,
 }
@@ -255,6 +296,8 @@ impl Coverage {
             shift_received: [0; FORMS],
             shifted: ShiftedBytes::default(),
             pa4_risen: None,
+            waiting: Waiter::Lent,
+            put_last: false,
             scenarios: 0,
             calls: 0,
             clocks: 0,
@@ -280,12 +323,15 @@ impl Coverage {
         self.halts = Halts::default();
         self.shifted.start();
         self.pa4_risen = None;
+        self.waiting = Waiter::Lent;
+        self.put_last = false;
         self.met(match scenario.state_kind() {
             StateKind::Fresh => Kind::StartFresh,
             StateKind::Even => Kind::StartEven,
             StateKind::NearEvents => Kind::StartNearEvents,
         });
         self.met_if(scenario.state.clock > u32::MAX - 300, Kind::StartNearTop);
+        self.met_if(scenario.state.waiting.is_some(), Kind::StartWaiting);
     }
 
     /// A list, whose calls are given this halt address or none.
@@ -315,6 +361,9 @@ impl Coverage {
         self.met_if(n > 1_000_000, Kind::RunHuge);
         self.met_if(outcome.number == 0 && outcome.leaps < u64::from(n), Kind::Leaps);
         self.met_if(self.gap > 0, Kind::CutGap);
+        let waits = outcome.number == 0 && n > 0 && world.state.waiting.is_some();
+        self.met_if(waits, Kind::CutWaiting);
+        self.met_if(waits && world.state.wait == 1, Kind::CutBeforePut);
         self.met_if(n > 0 && byte_being_sent(&world.state), Kind::CutSent);
         self.met_if(n > 0 && byte_being_received(&world.state), Kind::CutReceived);
         if outcome.number > 5 {
@@ -329,6 +378,8 @@ impl Coverage {
         let done = outcome.number == 0 && call.clocks() > 0;
         self.met_if(done && address.is_some(), Kind::HaltGiven);
         self.met_if(done && matches!(before, Some((_, 12, _))), Kind::AfterHalt);
+        let for_address = address.is_some() && world.state.waiting.map(|byte| byte.address) == address;
+        self.met_if(done && for_address, Kind::HaltWaiting);
         let full = outcome.number == 7 && halts_with_space(world, address);
         self.met_if(full, Kind::Stop7Halt);
         if outcome.number == 12 {
@@ -338,6 +389,7 @@ impl Coverage {
         }
         if outcome.number > 5 {
             self.halts.before = Some((address, outcome.number, full));
+            self.halts.full_put = outcome.number == 7 && puts_next(world);
         }
     }
 
@@ -346,18 +398,19 @@ impl Coverage {
         let accesses = report.accesses.list();
         let writes: Vec<_> = accesses.iter().filter(|access| access.kind == AccessKind::Write).collect();
         let Some(place) = writes.iter().position(|write| write.address == address) else { return };
-        let operation = report.opcode.map(|opcode| TABLE[usize::from(opcode)].operation);
-        let modified = accesses.iter().any(|access| access.kind == AccessKind::ReadToModify);
-        let pushed = operation.is_none_or(pushes);
+        let pushed = report.put.is_none();
+        let stored = !pushed && self.waiting == Waiter::Store;
+        let modified = !pushed && matches!(self.waiting, Waiter::Modify(_));
         let register = address < 0x40;
-        self.met_if(!pushed && !modified && address >= 0x100, Kind::HaltStored);
-        self.met_if(!pushed && !modified && !register && address < 0x100, Kind::HaltStoredZero);
+        self.met_if(stored && address >= 0x100, Kind::HaltStored);
+        self.met_if(stored && !register && address < 0x100, Kind::HaltStoredZero);
         self.met_if(modified && !register, Kind::HaltModified);
         self.met_if(modified && register, Kind::HaltModifiedRegister);
+        self.met_if(!pushed && self.waiting == Waiter::Lent, Kind::HaltLent);
         self.met_if(register, Kind::HaltRegister);
         self.met_if(register && ignores(address), Kind::HaltIgnored);
-        self.met_if(pushed && operation.is_some() && !register, Kind::HaltPushed);
-        self.met_if(operation.is_none(), Kind::HaltEntry);
+        self.met_if(pushed && report.opcode.is_some() && !register, Kind::HaltPushed);
+        self.met_if(pushed && report.opcode.is_none(), Kind::HaltEntry);
         self.met_if(pushed && register, Kind::HaltPushedRegister);
         self.met_if(place == 1, Kind::HaltSecond);
         self.met_if(place == 2, Kind::HaltThird);
@@ -371,6 +424,7 @@ impl Coverage {
         self.met_if(self.call_clocks > 1 && self.call_clocks == call.clocks(), Kind::HaltLast);
         self.met_if(call.clocks() > 1_000_000, Kind::HaltHuge);
         self.met_if(full_next(world), Kind::HaltBeforeFull);
+        self.met_if(undefined_next(world), Kind::HaltBeforeUndefined);
     }
 
     /// A stop, from the state that it left.
@@ -385,6 +439,7 @@ impl Coverage {
         self.met_if(world.stop == 7 && falls_next(world), Kind::Stop7Reset);
         let ticks = state.counter_a == 0 && shift_sender_on(state.sccr);
         self.met_if(world.stop == 7 && ticks && state.wait > 0 && !falls_next(world), Kind::Stop7Shift);
+        self.met_if(world.stop == 7 && puts_next(world), Kind::Stop7Put);
     }
 
     /// A done clock.
@@ -394,12 +449,14 @@ impl Coverage {
         self.halts.last = Some((*report, self.gap > 0));
         if !report.event {
             self.gap += 1;
+            self.put_last = false;
             return;
         }
         self.met_if(self.gap > 0, Kind::Gap);
         self.met_if(self.gap > 1_000, Kind::LongGap);
         self.met_if(self.gap > 0 && byte_being_sent(before), Kind::GapSent);
         self.met_if(self.gap > 0 && byte_being_received(before), Kind::GapReceived);
+        self.met_if(self.gap > 0 && report.put.is_some(), Kind::PutBehindGap);
         self.longest_gap = self.longest_gap.max(self.gap);
         self.gap = 0;
         self.pins(before, after, report);
@@ -408,6 +465,7 @@ impl Coverage {
             self.serial(before, after);
         }
         self.shift_register(before, after, report);
+        self.store(before, after, report);
         match report.start {
             Some(Start::Instruction) => self.instruction(before, after, report),
             Some(start) => self.entry(after, report, start),
@@ -568,6 +626,44 @@ impl Coverage {
         }
     }
 
+    /// A byte that begins to wait, waits, is put or is dropped.
+    fn store(&mut self, before: &State, after: &State, report: &ClockReport) {
+        self.met_if(self.put_last && report.start == Some(Start::Irq), Kind::PutBeforeIrq);
+        self.put_last = report.put.is_some();
+        if let Some(byte) = report.put {
+            self.put(before, after, report, byte);
+        } else if let Some(byte) = before.waiting {
+            let dropped = after.waiting.is_none();
+            self.met_if(dropped && before.wait > 1, Kind::Dropped);
+            self.met_if(dropped && before.wait == 1, Kind::DroppedLast);
+            self.met_if(dropped && self.halts.address == Some(byte.address), Kind::HaltDropped);
+            self.met_if(!dropped && level(falls(before.last, after.last), PIN_NMI), Kind::WaitingNmi);
+            self.met_if(!dropped && (report.met.underflow_a || report.met.underflow_b), Kind::WaitingTick);
+        } else if after.waiting.is_some() {
+            let read = report.accesses.list().iter().find(|access| access.kind == AccessKind::ReadToModify);
+            self.waiting = read.map_or(Waiter::Store, |access| Waiter::Modify(access.value));
+        }
+    }
+
+    fn put(&mut self, before: &State, after: &State, report: &ClockReport, byte: Waiting) {
+        let register = byte.address < 0x40;
+        let (a, b) = (report.met.underflow_a, report.met.underflow_b);
+        let modified = if let Waiter::Modify(read) = self.waiting { Some(read) } else { None };
+        self.met_if(!register, Kind::PutMemory);
+        self.met_if(register, Kind::PutRegister);
+        self.met_if(register && modified.is_some(), Kind::PutModified);
+        let inverted = byte.address == 0 && modified.is_some_and(|read| read != before.ports[0]);
+        self.met_if(inverted, Kind::PutOverInverted);
+        self.met_if(self.waiting == Waiter::Lent, Kind::PutLent);
+        self.met_if(report.accesses.list()[0].writes_the_same(), Kind::PutSame);
+        self.met_if(!register && byte.address == after.pc, Kind::PutCode);
+        self.met_if(a || b, Kind::PutUnderflow);
+        self.met_if(report.met.inputs > 0, Kind::PutInput);
+        self.met_if(byte.address == 0x1A && a || byte.address == 0x1E && b, Kind::PutLoad);
+        self.met_if(self.halts.full_put && self.call_clocks == 1, Kind::PutAfterFull);
+        self.halts.full_put = false;
+    }
+
     /// A done clock that does not write at the halt address.
     fn halt_address_unmet(&mut self, after: &State, report: &ClockReport) {
         let Some(address) = self.halts.address else { return };
@@ -632,10 +728,6 @@ impl Coverage {
         let high = before.pc.wrapping_add(2);
         let over = accesses.iter().any(|a| written_at(a, high, high.wrapping_add(1)));
         self.met_if(entry.operation == Operation::Jsr && high >= 0x40 && over, Kind::JsrOverCode);
-        self.met_if(
-            after.pc >= 0x40 && accesses.iter().any(|a| written_at(a, after.pc, after.pc.wrapping_add(1))),
-            Kind::WritesCode,
-        );
     }
 
     fn stack(&mut self, before: &State, after: &State, operation: Operation, writes_register: bool) {
@@ -723,6 +815,7 @@ impl Coverage {
         let met = &report.met;
         let entry = report.start.is_some() && report.start != Some(Start::Instruction);
         self.met_if(report.start == Some(Start::Instruction), Kind::ByInstruction);
+        self.met_if(report.put.is_some(), Kind::ByPut);
         self.met_if(entry, Kind::ByEntry);
         self.met_if(met.underflow_a && report.start.is_none(), Kind::ByUnderflowA);
         self.met_if(met.underflow_b && report.start.is_none(), Kind::ByUnderflowB);
@@ -802,9 +895,14 @@ fn full_next(world: &World) -> bool {
     world.written == world.output_clocks.len() && run(&mut world.clone(), 1, None).number == 7
 }
 
-/// Whether an operation writes the stack alone.
-fn pushes(operation: Operation) -> bool {
-    matches!(operation, Operation::Brk | Operation::Jsr | Operation::Pha | Operation::Php)
+/// Whether the next clock would start an undefined opcode.
+fn undefined_next(world: &World) -> bool {
+    run(&mut world.clone(), 1, None).number == 6
+}
+
+/// Whether the next clock is the last one of a store, RES not being low on it.
+fn puts_next(world: &World) -> bool {
+    world.state.wait == 1 && world.state.waiting.is_some() && !falls_next(world)
 }
 
 /// 01, Machine state: "unassigned registers read FFh and ignore writes"; 11h has no write.

@@ -2,12 +2,13 @@
 
 use crate::random::Random;
 use crate::scenario::{Call, Scenario};
-use differential::convert::FLAGS;
+use crate::states::waiting;
+use differential::convert::DAMAGES;
 
-/// A flag or level, and the byte above 1 that it has.
+/// What the bytes of a state have and the model's state cannot (`differential::convert`), and the byte above 1 for it.
 #[derive(Clone, Copy, PartialEq, Eq, Debug)]
-pub struct FlagDamage {
-    pub flag: u32,
+pub struct ByteDamage {
+    pub damage: u32,
     pub byte: u8,
 }
 
@@ -18,9 +19,9 @@ pub fn damage(random: &Random, scenario: &mut Scenario) {
             0..=1 => memory_length(random, scenario),
             2..=4 => field(random, scenario),
             5 => {
-                let flag = random.below(FLAGS);
+                let damage = random.below(DAMAGES);
                 let byte = random.pick(&[2, 3, 0x80, 0xFF, random.between(2, 255) as u8]);
-                scenario.flag_damage = Some(FlagDamage { flag, byte });
+                scenario.byte_damage = Some(ByteDamage { damage, byte });
             }
             6 => list_lengths(random, scenario),
             _ => pin_list(random, scenario),
@@ -39,10 +40,10 @@ fn memory_length(random: &Random, scenario: &mut Scenario) {
     scenario.memory.resize(length, 0xA5);
 }
 
-/// One field out of its range.
+/// One field out of its range, or a byte waiting with wait 0.
 fn field(random: &Random, scenario: &mut Scenario) {
     let state = &mut scenario.state;
-    match random.below(10) {
+    match random.below(12) {
         0 => state.p |= random.pick(&[0x10, 0x20, 0x30]),
         1 => state.wait = random.pick(&[7, 8, 0xFF, random.between(7, 255) as u8]),
         2 => state.ifr |= random.pick(&[0x40, 0x80, 0xC0]),
@@ -52,7 +53,11 @@ fn field(random: &Random, scenario: &mut Scenario) {
         6 => state.receiver.sub_interval = random.pick(&[8, 9, 0xFF, random.between(8, 255) as u8]),
         7 => state.receiver.half = random.pick(&[2, 3, 0xFF, random.between(2, 255) as u8]),
         8 => state.receiver.bits_left = random.pick(&[12, 13, 0xFF, random.between(12, 255) as u8]),
-        _ => state.receiver.register |= 1 << random.between(11, 15),
+        9 => state.receiver.register |= 1 << random.between(11, 15),
+        _ => {
+            state.wait = 0;
+            state.waiting = Some(waiting(random, state.sp));
+        }
     }
 }
 

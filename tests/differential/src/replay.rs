@@ -10,8 +10,8 @@ use plain_clock::{run, run_observed, World};
 pub fn print_scenario(scenario: &Scenario) {
     println!("theme {:?}", scenario.theme);
     println!("start {:X?}", scenario.state);
-    if let Some(damage) = scenario.flag_damage {
-        println!("damaged flag {} is {:X}h", damage.flag, damage.byte);
+    if let Some(found) = scenario.byte_damage {
+        println!("damage {} by the byte {:X}h", found.damage, found.byte);
     }
     println!("memory of {} bytes", scenario.memory.len());
     print_bytes(scenario, "code at PC", usize::from(scenario.state.pc), 48);
@@ -54,7 +54,7 @@ pub fn replay(seed: u64, index: u64) -> bool {
         return true;
     };
     print_difference(&difference);
-    if scenario.flag_damage.is_none() {
+    if scenario.byte_damage.is_none() {
         print_first_clock(&scenario);
     }
     false
@@ -86,7 +86,7 @@ fn world_of(scenario: &Scenario) -> World {
 
 /// What the model says of each call.
 fn print_calls(scenario: &Scenario) {
-    if scenario.flag_damage.is_some() {
+    if scenario.byte_damage.is_some() {
         return;
     }
     let mut world = world_of(scenario);

@@ -3,7 +3,7 @@
 use crate::code::{
     block, clocking_loop, receiving_loop, sending_loop, shift_setting, switching_loop, turning_loop, Style,
 };
-use crate::damage::{damage, FlagDamage};
+use crate::damage::{damage, ByteDamage};
 use crate::halts::Survey;
 use crate::inputs::Inputs;
 use crate::memories::{page_zero, vectors, Backgrounds, LENGTH, UNDEFINED};
@@ -70,8 +70,8 @@ pub enum Theme {
 pub struct Scenario {
     pub theme: Theme,
     pub state: State,
-    /// A flag that crosses as a byte above 1.
-    pub flag_damage: Option<FlagDamage>,
+    /// What the model's state cannot have.
+    pub byte_damage: Option<ByteDamage>,
     /// 65,536 bytes, or fewer or more where that is the damage.
     pub memory: Vec<u8>,
     pub input_clocks: Vec<u32>,
@@ -96,7 +96,7 @@ impl Scenario {
         Scenario {
             theme: Theme::Program,
             state: fresh(),
-            flag_damage: None,
+            byte_damage: None,
             memory: vec![0; LENGTH],
             input_clocks: Vec::new(),
             input_codes: Vec::new(),
@@ -129,7 +129,7 @@ impl Maker {
         let random = &Random::new(self.seed, index);
         let theme = theme(random);
         scenario.theme = theme;
-        scenario.flag_damage = None;
+        scenario.byte_damage = None;
         scenario.state = start_state(random, theme);
         if random.percent(4) && theme != Theme::LongGaps {
             scenario.state.clock = u32::MAX - random.pick(&[0, 1, random.below(20), random.below(300)]);
@@ -365,11 +365,15 @@ fn set_up_long_gaps(random: &Random, state: &mut State) {
     state.latch_b = random.word() | 0x4000;
 }
 
-/// RES high and stays so: entries come to an undefined opcode, whatever is due.
+/// RES high and stays so: entries come to an undefined opcode, whatever is due. A byte waiting goes to a port or to where
+/// nothing is executed.
 fn set_up_soon_stop(random: &Random, state: &mut State) {
     state.external |= 1 << 33;
     state.pc = 0x0200;
     state.sp = 0x80;
+    if let Some(byte) = state.waiting.as_mut().filter(|byte| byte.address > 3) {
+        byte.address = 0x4000 | byte.address & 0x3FFF;
+    }
     if random.flag() {
         // both stops on one clock, where no entry is free
         state.mcr = 0x05;

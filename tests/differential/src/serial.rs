@@ -4,9 +4,7 @@
 use differential::convert::{first_difference, library_state};
 use plain_clock::pins::pin_levels;
 use plain_clock::state::ALL_PINS;
-use plain_clock::{fresh, run, Receiver, State, Transmitter, World};
-
-const CODE: u16 = 0x0200;
+use plain_clock::{fresh, run, Receiver, State, Transmitter, Waiting, World};
 
 /// More records than one of these runs makes.
 const RECORDS: usize = 16;
@@ -29,16 +27,16 @@ pub fn check_serial() -> Result<Counts, String> {
     Ok(Counts { writes: writes(&mut sides)?, transmitter: transmitter(&mut sides)?, receiver: receiver(&mut sides)? })
 }
 
-/// SCCR written over each value, both halves having progress; with A in each mode, PA4's latch 0 and 1, and a rise of
-/// PA4 behind it.
+/// SCCR put over each value on the first clock, both halves having progress; with A in each mode, PA4's latch 0 and 1,
+/// and a rise of PA4 behind it.
 fn writes(sides: &mut Sides) -> Result<u64, String> {
     let inputs = [(4, PA4_LOW), (5, PA4_HIGH)];
     let mut count = 0;
     for (before, value) in (0..=255).flat_map(|before| (0..=255u8).map(move |value| (before, value))) {
         for variant in 0..8u8 {
             let state = State {
-                a: value,
-                pc: CODE,
+                wait: 1,
+                waiting: Some(Waiting { address: 0x15, value }),
                 sccr: before,
                 mcr: variant & 3,
                 ports: [if variant & 4 != 0 { 0xFF } else { 0xEF }, 0xFF, 0xFF, 0xFF],
@@ -117,7 +115,7 @@ fn quick(latch_a: u16) -> State {
     State { reset_due: false, counter_a: 0, latch_a, ..fresh() }
 }
 
-/// Both sides with the same memory: STA 15h at the code's place, and NOP.
+/// Both sides with the same memory, NOP alone.
 struct Sides {
     memory: Vec<u8>,
     world: World,
@@ -125,8 +123,7 @@ struct Sides {
 
 impl Sides {
     fn new() -> Self {
-        let mut memory = vec![0xEA; plain_clock::run::MEMORY_LENGTH];
-        memory[usize::from(CODE)..][..2].copy_from_slice(&[0x85, 0x15]);
+        let memory = vec![0xEA; plain_clock::run::MEMORY_LENGTH];
         let world = World {
             state: fresh(),
             memory: memory.clone(),

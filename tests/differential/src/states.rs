@@ -1,9 +1,10 @@
 //! Start states. Every well-formed state counts, reachable or not (01, Machine state, "Well-formed").
 
+use crate::code::REGISTERS;
 use crate::random::Random;
 use plain_clock::pins::pin_levels;
 use plain_clock::state::{ALL_PINS, FLAG_I};
-use plain_clock::{fresh, Receiver, State, Transmitter, Turn};
+use plain_clock::{fresh, Receiver, State, Transmitter, Turn, Waiting};
 
 /// A counter's value, mostly a few clocks before its underflow.
 pub fn count(random: &Random) -> u16 {
@@ -95,8 +96,23 @@ fn clock(random: &Random) -> u32 {
     }
 }
 
+/// A byte waiting, mostly for a register, else for the stack, a vector or anywhere.
+pub fn waiting(random: &Random, sp: u8) -> Waiting {
+    let address = match random.below(10) {
+        0..=3 => u16::from(random.pick(&REGISTERS)),
+        4 => random.below(0x40) as u16,
+        5..=6 => u16::from(sp.wrapping_add(random.below(8) as u8)),
+        7 => random.pick(&[0xFFFA, 0xFFFB, 0xFFFC, 0xFFFD, 0xFFFE, 0xFFFF]),
+        8 => 0x200 + random.below(0x2000) as u16,
+        _ => random.word(),
+    };
+    Waiting { address, value: random.pick(&[0x00, 0xFF, random.byte(), random.byte()]) }
+}
+
 /// Any well-formed state, each field evenly over its range; but RES is mostly high.
 fn even(random: &Random) -> State {
+    let wait = random.below(7) as u8;
+    let waits = wait > 0 && random.flag();
     State {
         a: random.byte(),
         x: random.byte(),
@@ -104,7 +120,8 @@ fn even(random: &Random) -> State {
         sp: random.byte(),
         p: random.byte() & 0xCF,
         pc: random.word(),
-        wait: random.below(7) as u8,
+        wait,
+        waiting: waits.then(|| Waiting { address: random.word(), value: random.byte() }),
         reset_due: random.flag(),
         nmi_due: random.flag(),
         ports: random.long().to_le_bytes(),
@@ -144,14 +161,18 @@ fn turn(random: &Random) -> Turn {
 
 /// A state a few clocks before something happens.
 fn near_events(random: &Random) -> State {
+    let wait = random.pick(&[0, 0, 0, 1, 2, random.below(7) as u8]);
+    let sp = stack_pointer(random);
+    let waits = wait > 0 && random.percent(60);
     let mut state = State {
         a: random.byte(),
         x: random.pick(&[0, 1, 2, 0x10, 0xFF, random.byte()]),
         y: random.pick(&[0, 1, 2, 0x10, 0xFF, random.byte()]),
-        sp: stack_pointer(random),
+        sp,
         p: random.byte() & 0xCF & !FLAG_I,
         pc: 0,
-        wait: random.pick(&[0, 0, 0, 1, 2, random.below(7) as u8]),
+        wait,
+        waiting: waits.then(|| waiting(random, sp)),
         reset_due: random.percent(5),
         nmi_due: random.percent(8),
         ports: random.pick(&[[0xFF; 4], random.long().to_le_bytes()]),
