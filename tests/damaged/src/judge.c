@@ -179,7 +179,7 @@ static void open_outputs(void)
 
 static uint32_t random_count(void)
 {
-    switch (below(12)) {
+    switch (below(14)) {
     case 0:
         return 0;
     case 1:
@@ -190,16 +190,21 @@ static uint32_t random_count(void)
         return (uint32_t)below(MOST_CLOCKS) / 8;
     case 4:
         return UINT32_MAX - (uint32_t)below(3);
+    case 5:
+    case 6: /* about as many as an instruction has */
+        return 1 + (uint32_t)below(7);
     default:
         return (uint32_t)below(300);
     }
 }
 
-/* A halt address near what firmware writes: the stack, the registers, page zero, anywhere; or none, with such an
- * address in its lower half. */
+/* A halt address near what firmware writes: that of a byte waiting, the stack, the registers, page zero, anywhere; or
+ * none, with such an address in its lower half. */
 static uint32_t random_halt(const r6501q_state *s)
 {
     uint32_t address;
+    if (s->cpu.waiting.there == 1 && chance(25))
+        return s->cpu.waiting.address;
     switch (below(8)) {
     case 0:
     case 1:
@@ -353,10 +358,63 @@ static void judge_state(const given *g, const r6501q_call_result *result)
     DEMAND(s->last.nmi == s->external.nmi && s->last.res == s->external.res, "last levels of NMI and RES");
     DEMAND(
         s->last.res == 1 || (s->cpu.wait == 0 && s->due.reset == 1 && s->due.nmi == 0), "RES low, and no reset is due");
+    DEMAND(s->last.res == 1 || s->cpu.waiting.there == 0, "RES low, and a byte is waiting");
+}
+
+/* Document 02, U6: a byte that was given waiting, RES being high all along. Up to its last clock it waits, nothing is
+ * written and nothing halts; its last clock puts it, and halts where it is for the halt address. */
+static void judge_waiting(const given *g, const r6501q_call_result *result)
+{
+    static uint8_t expected[MEMORY];
+    const r6501q_cpu *const c = &g->state.cpu;
+    const r6501q_cpu *const d = &result->state.cpu;
+    const uint32_t done = result->state.clock - g->state.clock;
+    if (c->waiting.there == 0 || !res_stays_high(g, result->read))
+        return;
+    DEMAND(done <= c->wait || g->halt != c->waiting.address, "no halt where a byte was put");
+    if (done > c->wait)
+        return;
+    memcpy(expected, memory.before, MEMORY);
+    if (done < c->wait) {
+        DEMAND(d->waiting.there == 1 && d->waiting.address == c->waiting.address && d->waiting.value == c->waiting.value,
+            "the byte waiting is another, or gone");
+        DEMAND(result->number != 12, "halted before the byte was put");
+    } else {
+        DEMAND(d->waiting.there == 0, "a byte waits on");
+        DEMAND((result->number == 12) == (g->halt == c->waiting.address), "number %d at a put", result->number);
+        if (c->waiting.address >= 0x40)
+            expected[c->waiting.address] = c->waiting.value;
+    }
+    DEMAND(d->wait == c->wait - done, "wait %u after %u clocks", d->wait, done);
+    DEMAND(memcmp(memory.data, expected, MEMORY) == 0, "another memory %u clocks on, wait having been %u", done, c->wait);
+}
+
+/* Whether the next clock puts a byte: wait is 1, a byte waits, and RES is high on that clock. */
+static int puts_next(const given *g, const r6501q_call_result *result)
+{
+    const r6501q_state *const s = &result->state;
+    const r6501q_levels next = levels_after(g, entries_up_to(g, s->clock + 1));
+    return s->cpu.wait == 1 && s->cpu.waiting.there == 1 && next.res == 1;
+}
+
+/* The single clock behind a halt. Behind a push it is one of its instruction or entry, which writes no more. Behind the
+ * put of a byte it starts something: an undefined opcode stops it, and a push may halt again. */
+static void judge_behind_halt(const r6501q_call_result *result, const r6501q_call_result *again)
+{
+    const r6501q_state *const s = &result->state;
+    if (again->number == 4) {
+        DEMAND(s->clock == UINT32_MAX, "4 behind a halt");
+    } else if (again->number == 6) {
+        DEMAND(s->cpu.wait == 0 && same_state(&again->state, s), "6 behind a halt");
+    } else {
+        DEMAND(again->number == 0 || (again->number == 12 && s->cpu.wait == 0 && again->state.cpu.wait > 0),
+            "12, and then %d", again->number);
+        DEMAND(again->state.clock == s->clock + 1, "12, and the next clock is not done");
+    }
 }
 
 /* A single clock from where a call stopped, with one entry where space was missing: after 6 it stops again and nothing
- * is done; after 7 it is done, and may be the clock of a halt; after 12 it is done, and is not. */
+ * is done; after 7 it is done, puts a byte that waits for it, and may be the clock of a halt. */
 static void judge_stop(tally *t, const given *g, const r6501q_call_result *result)
 {
     static uint8_t copy[MEMORY];
@@ -370,9 +428,9 @@ static void judge_stop(tally *t, const given *g, const r6501q_call_result *resul
             "6 where nothing starts");
         DEMAND(pc < 0x40 || !is_defined(memory.data[pc]), "6 at a defined opcode");
     } else if (result->number == 12) {
-        /* Writes come with the start of an instruction or of an entry. */
+        /* Pushes come with a start, and a put leaves wait 0; neither leaves a byte waiting. */
         DEMAND(g->halt <= 0xFFFF, "12 with no halt address");
-        DEMAND(result->state.cpu.wait > 0 && result->state.last.res == 1, "12 where nothing has started");
+        DEMAND(result->state.last.res == 1 && result->state.cpu.waiting.there == 0, "12 where nothing is written");
     } else {
         DEMAND(result->written == g->output_words_length, "7 with space left");
     }
@@ -385,11 +443,17 @@ static void judge_stop(tally *t, const given *g, const r6501q_call_result *resul
         DEMAND(again.number == 6 && same_state(&again.state, &result->state), "6, and then not 6");
         DEMAND(memcmp(copy, memory.data, MEMORY) == 0, "a stopped clock changed memory");
     } else if (result->number == 12) {
-        DEMAND(again.number == 0 && again.state.clock == result->state.clock + 1, "12, and the next clock is not done");
+        judge_behind_halt(result, &again);
     } else {
         DEMAND((again.number == 0 || again.number == 12) && again.written == 1,
             "7, and no record is written where there is space");
         DEMAND(time == result->state.clock + 1 && word == driven_word(&again.state), "the record that had no space");
+        if (puts_next(g, result)) {
+            const r6501q_waiting w = result->state.cpu.waiting;
+            DEMAND(again.state.cpu.wait == 0 && again.state.cpu.waiting.there == 0, "7, and then a byte waits on");
+            DEMAND(w.address < 0x40 || copy[w.address] == w.value, "7, and then a byte is not put");
+            DEMAND((again.number == 12) == (g->halt == w.address), "7, and then %d at a put", again.number);
+        }
     }
 }
 
@@ -472,6 +536,7 @@ static void judge_accepted(tally *t, const given *g, const r6501q_call_result *r
     DEMAND(result->number == 0 || result->number == 6 || result->number == 7 || result->number == 12,
         "number %d of an accepted call", result->number);
     judge_state(g, result);
+    judge_waiting(g, result);
     judge_records(g, result);
     DEMAND(memcmp(memory.data, memory.before, 0x40) == 0, "memory below 40h changed");
     DEMAND(!single || result->leaps == clock_done(result->number), "%u leaps in a single clock", result->leaps);
@@ -644,6 +709,7 @@ void judge_early_stop(tally *t)
     given g;
     state.external.res = 1;
     state.cpu.pc |= 0x0200; /* not among the registers, which may hold any opcode */
+    state.cpu.waiting.address %= 4; /* a port, where a byte waits: not among the opcodes or vectors */
     state.clock = (uint32_t)below(UINT32_MAX / 2);
     if (chance(50)) {
         /* Counter A in pulse mode: an underflow changes the driven word. */

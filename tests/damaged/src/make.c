@@ -32,12 +32,24 @@ static void reduce_levels(r6501q_levels *l)
     l->res = !chance(15);
 }
 
+/* A byte waiting, mostly for a register or page zero. */
+static r6501q_waiting some_byte(void)
+{
+    r6501q_waiting w;
+    w.there = 1;
+    w.address = (uint16_t)below(chance(50) ? 0x20 : chance(50) ? 0x100 : 65536);
+    w.value = (uint8_t)random_word();
+    return w;
+}
+
 r6501q_state good_state(void)
 {
+    static const r6501q_waiting none = {0, 0, 0};
     r6501q_state s = any_state();
     r6501q_peripherals *p = &s.peripherals;
     s.cpu.p &= 0xCF;
     s.cpu.wait %= 7;
+    s.cpu.waiting = s.cpu.wait > 0 && chance(50) ? some_byte() : none;
     s.due.reset = chance(30);
     s.due.nmi = chance(20);
     p->counterb.turnc %= 2;
@@ -75,7 +87,7 @@ r6501q_state damaged_state(void)
 {
     r6501q_state s = good_state();
     r6501q_peripherals *p = &s.peripherals;
-    switch (below(17)) {
+    switch (below(21)) {
     case 0:
         s.cpu.p |= (uint8_t)(0x10 << below(2));
         break;
@@ -124,8 +136,25 @@ r6501q_state damaged_state(void)
     case 15:
         s.last.nmi = above(1);
         break;
-    default:
+    case 16:
         s.last.res = above(1);
+        break;
+    case 17: /* a byte waiting with wait 0 */
+        s.cpu.wait = 0;
+        s.cpu.waiting = some_byte();
+        break;
+    case 18:
+        s.cpu.wait = 1 + (uint8_t)below(6);
+        s.cpu.waiting.there = above(1);
+        break;
+    case 19: /* a none that has an address */
+        s.cpu.waiting.there = s.cpu.waiting.value = 0;
+        s.cpu.waiting.address = (uint16_t)(1 << below(16));
+        break;
+    default: /* a none that has a value */
+        s.cpu.waiting.there = 0;
+        s.cpu.waiting.address = 0;
+        s.cpu.waiting.value = (uint8_t)(1 << below(8));
     }
     return s;
 }

@@ -2,11 +2,19 @@
 
 #include <string.h>
 
+static int well_formed_waiting(const r6501q_cpu *c)
+{
+    if (c->waiting.there == 0)
+        return c->waiting.address == 0 && c->waiting.value == 0;
+    return c->waiting.there == 1 && c->wait > 0;
+}
+
 int well_formed(const r6501q_state *s)
 {
     const r6501q_peripherals *p = &s->peripherals;
     return (s->cpu.p & 0x30) == 0
         && s->cpu.wait <= 6
+        && well_formed_waiting(&s->cpu)
         && s->due.reset <= 1
         && s->due.nmi <= 1
         && p->counterb.turnc <= 1
@@ -66,6 +74,9 @@ int same_state(const r6501q_state *s, const r6501q_state *t)
         && s->cpu.p == t->cpu.p
         && s->cpu.pc == t->cpu.pc
         && s->cpu.wait == t->cpu.wait
+        && s->cpu.waiting.there == t->cpu.waiting.there
+        && s->cpu.waiting.address == t->cpu.waiting.address
+        && s->cpu.waiting.value == t->cpu.waiting.value
         && s->due.reset == t->due.reset
         && s->due.nmi == t->due.nmi
         && same_peripherals(&s->peripherals, &t->peripherals)
@@ -120,6 +131,15 @@ size_t entries_up_to(const given *g, uint32_t clock)
     while (i < g->input_clocks_length && g->input_clocks[i] <= clock)
         i++;
     return i;
+}
+
+int res_stays_high(const given *g, size_t entries)
+{
+    size_t i;
+    for (i = 0; i < entries; i++)
+        if (g->input_codes[i] == R6501Q_PIN_RES)
+            return 0;
+    return g->state.external.res == 1;
 }
 
 r6501q_levels levels_after(const given *g, size_t entries)

@@ -19,7 +19,8 @@ typedef struct given {
     uint32_t halt; /* above 65,535: none */
 } given;
 
-/* Document 01, "Machine state": every field within its range. */
+/* Document 01, "Machine state": every field within its range; document 02, U6: "A byte waiting with wait 0 isn't
+ * well-formed", and none is one value. */
 int well_formed(const r6501q_state *s);
 
 /* The same in every field. Bytes between fields do not count. */
@@ -30,6 +31,9 @@ int refusal(const given *g);
 
 /* The input entries whose clock is at most this one. */
 size_t entries_up_to(const given *g, uint32_t clock);
+
+/* Whether RES is high at the start and stays so while the first so many inputs are read. */
+int res_stays_high(const given *g, size_t entries);
 
 /* The external levels once the first so many inputs are read. */
 r6501q_levels levels_after(const given *g, size_t entries);

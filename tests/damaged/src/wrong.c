@@ -45,6 +45,14 @@ enum fault {
     HALTS_A_CLOCK_LATE,
     HALTED_CLOCK_IS_NO_LEAP,
     HALT_WITHOUT_ITS_RECORD,
+    BYTE_WAITING_WITH_WAIT_0,
+    BYTE_THERE_TWICE,
+    NONE_WITH_AN_ADDRESS,
+    BYTE_LOST_AT_A_CUT,
+    BYTE_PUT_EARLY,
+    BYTE_LOST_BY_A_FULL_LIST,
+    HALTS_BEFORE_THE_PUT,
+    WELL_FORMED_BUT_FOR_THE_BYTE,
     READS_A_REGISTERS_BYTE,
     DECIDES_BY_FREE_SPACE
 };
@@ -59,6 +67,7 @@ static r6501q_call_result *wrong_run(r6501q_call_result *result, r6501q_state st
     size_t input_codes_length, uint32_t *output_clocks, size_t output_clocks_length, uint32_t *output_words,
     size_t output_words_length, uint32_t n, uint32_t halt)
 {
+    static const r6501q_waiting none = {0, 0, 0};
     const r6501q_state given_state = state;
     size_t inputs = input_clocks_length;
     switch (fault) {
@@ -114,6 +123,15 @@ static r6501q_call_result *wrong_run(r6501q_call_result *result, r6501q_state st
     case DOES_NOT_COME_BACK:
         while (n == 17)
             seen = n;
+        break;
+    case BYTE_WAITING_WITH_WAIT_0:
+        state.cpu.wait = state.cpu.waiting.there == 1 && state.cpu.wait == 0 ? 1 : state.cpu.wait;
+        break;
+    case BYTE_THERE_TWICE:
+        state.cpu.waiting.there = state.cpu.waiting.there != 0;
+        break;
+    case NONE_WITH_AN_ADDRESS:
+        state.cpu.waiting.address = state.cpu.waiting.there == 0 ? 0 : state.cpu.waiting.address;
         break;
     default:
         break;
@@ -196,6 +214,23 @@ static r6501q_call_result *wrong_run(r6501q_call_result *result, r6501q_state st
         if (result->number == 12 && result->written > 0)
             result->written--;
         break;
+    case BYTE_LOST_AT_A_CUT:
+        if (result->number == 0)
+            result->state.cpu.waiting = none;
+        break;
+    case BYTE_PUT_EARLY:
+        if (result->number == 0 && n > 0 && result->state.cpu.waiting.there == 1)
+            memory[result->state.cpu.waiting.address] = result->state.cpu.waiting.value;
+        break;
+    case BYTE_LOST_BY_A_FULL_LIST:
+        if (result->number == 7)
+            result->state.cpu.waiting = none;
+        break;
+    case HALTS_BEFORE_THE_PUT:
+        if (result->number == 0 && n > 0 && result->state.cpu.waiting.there == 1
+            && result->state.cpu.waiting.address == halt)
+            result->number = 12;
+        break;
     case READS_A_REGISTERS_BYTE:
         if (result->number == 0 && n > 0)
             seen = memory[0x3F];
@@ -251,6 +286,8 @@ static uint8_t wrong_well_formed(r6501q_state state)
 {
     if (fault == WELL_FORMED_BUT_FOR_A_LEVEL)
         state.last.res = state.last.res != 0;
+    if (fault == WELL_FORMED_BUT_FOR_THE_BYTE && state.cpu.waiting.there == 1 && state.cpu.wait == 0)
+        state.cpu.wait = 1;
     return right.well_formed(state);
 }
 
