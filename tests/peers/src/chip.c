@@ -6,7 +6,7 @@ r6501q_state chip_start(const struct peer_registers *r)
 {
     r6501q_state state = r6501q_fresh();
     state.due.reset = 0;
-    state.cpu = (r6501q_cpu){.a = r->a, .x = r->x, .y = r->y, .sp = r->sp, .p = r->p, .pc = r->pc, .wait = 0};
+    state.cpu = (r6501q_cpu){.a = r->a, .x = r->x, .y = r->y, .sp = r->sp, .p = r->p, .pc = r->pc};
     return state;
 }
 
@@ -35,7 +35,8 @@ static int same_levels(const r6501q_levels *x, const r6501q_levels *y)
 static int same_cpu(const r6501q_cpu *x, const r6501q_cpu *y)
 {
     return x->a == y->a && x->x == y->x && x->y == y->y && x->sp == y->sp && x->p == y->p && x->pc == y->pc
-        && x->wait == y->wait;
+        && x->wait == y->wait && x->waiting.there == y->waiting.there && x->waiting.address == y->waiting.address
+        && x->waiting.value == y->waiting.value;
 }
 
 static int same_peripherals(const r6501q_peripherals *x, const r6501q_peripherals *y)
@@ -69,8 +70,11 @@ void print_result(const r6501q_call_result *result)
     const r6501q_state *s = &result->state;
     struct peer_registers registers = chip_registers(s);
     print_registers("ours", &registers);
-    printf(" wait %u, clock %u, number %u, leaps %u, read %zu, written %zu\n", s->cpu.wait, s->clock, result->number,
+    printf(" wait %u, clock %u, number %u, leaps %u, read %zu, written %zu", s->cpu.wait, s->clock, result->number,
         result->leaps, result->read, result->written);
+    if (s->cpu.waiting.there)
+        printf(", waiting %04X=%02X", s->cpu.waiting.address, s->cpu.waiting.value);
+    printf("\n");
 }
 
 void print_memory_differences(const uint8_t *peers, const uint8_t *ours)

@@ -9,7 +9,7 @@
 /* The state with these registers, before its first clock. */
 r6501q_state chip_start(const struct peer_registers *registers);
 
-/* The state that so many clocks from there must leave, with so many still to wait. */
+/* The state that so many clocks from there must leave, with so many still to wait and no byte waiting. */
 r6501q_state chip_after(const struct peer_registers *registers, unsigned clocks, unsigned wait);
 
 struct peer_registers chip_registers(const r6501q_state *state);

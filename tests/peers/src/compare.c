@@ -23,6 +23,11 @@ static r6501q_call_result step(r6501q_state state)
     return r6501q_step(state, ours, sizeof ours, 0, 0, 0, 0, 0, 0, 0, 0, R6501Q_NO_HALT);
 }
 
+static r6501q_call_result run(r6501q_state state, unsigned clocks)
+{
+    return r6501q_run(state, ours, sizeof ours, 0, 0, 0, 0, 0, 0, 0, 0, clocks, R6501Q_NO_HALT);
+}
+
 static void print_accesses(const char *kind, unsigned count, const struct peer_access *access)
 {
     printf("  peer's %s:", kind);
@@ -32,28 +37,47 @@ static void print_accesses(const char *kind, unsigned count, const struct peer_a
 }
 
 static void print_difference(uint8_t opcode, const struct peer_registers *before, const struct peer_registers *after,
-    const struct peer_record *record, const r6501q_call_result *result)
+    const struct peer_record *record, const r6501q_call_result *first, const r6501q_call_result *rest)
 {
     printf("difference: %02X %s %s\n", opcode, instructions[opcode].name, mode_words[instructions[opcode].mode]);
     print_registers("before", before);
     printf("\n");
     print_registers("peer", after);
-    printf(" wait %u, clock 1, number 0, leaps 1, read 0, written 0\n", record->clocks - 1);
-    print_result(result);
+    printf(" clocks %u\n", record->clocks);
+    print_result(first);
+    print_result(rest);
     print_accesses("reads", record->reads, record->read);
     print_accesses("writes", record->writes, record->write);
     print_memory_differences(peers, ours);
 }
 
-/* Runs ours where the peer has run, and compares all that there is. */
+static int same_result(const r6501q_call_result *result, const r6501q_state *expected)
+{
+    return result->number == R6501Q_DONE && result->leaps == 1 && result->read == 0 && result->written == 0
+        && same_state(&result->state, expected);
+}
+
+/* Runs ours where the peer has run, and compares all that there is: after the first clock registers, wait and the byte
+ * that a store leaves waiting, whose place in memory is as it was; after the last one memory too. A push is in memory
+ * after the first. One leap is the start; the rest of the instruction is another, be the last clock a store's or not. */
 static void compare_with(uint8_t opcode, const struct peer_registers *before, const struct peer_registers *after,
     const struct peer_record *record)
 {
-    r6501q_call_result result = step(chip_start(before));
-    r6501q_state expected = chip_after(after, 1, record->clocks - 1);
-    if (result.number != R6501Q_DONE || result.leaps != 1 || result.read != 0 || result.written != 0
-        || !same_state(&result.state, &expected) || memcmp(ours, peers, sizeof ours) != 0) {
-        print_difference(opcode, before, after, record, &result);
+    const int stores = writes_last(&instructions[opcode]);
+    const struct peer_access *write = &record->write[0];
+    r6501q_call_result first = step(chip_start(before));
+    r6501q_state started = chip_after(after, 1, record->clocks - 1), ended = chip_after(after, record->clocks, 0);
+    int right = 1;
+    if (stores) {
+        started.cpu.waiting = (r6501q_waiting){.there = 1, .address = write->address, .value = write->value};
+        right = record->writes == 1 && ours[write->address] == write->before;
+    } else {
+        right = memcmp(ours, peers, sizeof ours) == 0;
+    }
+    r6501q_call_result rest = run(first.state, record->clocks - 1);
+    if (!right || !same_result(&first, &started) || !same_result(&rest, &ended)
+        || memcmp(ours, peers, sizeof ours) != 0) {
+        print_difference(opcode, before, after, record, &first, &rest);
         exit(1);
     }
 }

@@ -19,16 +19,26 @@ const struct group groups[GROUPS] = {
     { "bit_branches", "BBR BBS" },
 };
 
-int in_group(const struct group *group, const struct instruction *instruction)
+/* Whether a list of names has this one, by its first three letters. */
+static int has_name(const char *names, const char *wanted)
 {
-    if (!instruction->name)
-        return 0;
-    for (const char *name = group->instructions; ; name += 4) {
-        if (strncmp(name, instruction->name, 3) == 0)
+    for (const char *name = names; ; name += 4) {
+        if (strncmp(name, wanted, 3) == 0)
             return 1;
         if (!name[3])
             return 0;
     }
+}
+
+int in_group(const struct group *group, const struct instruction *instruction)
+{
+    return instruction->name && has_name(group->instructions, instruction->name);
+}
+
+int writes_last(const struct instruction *instruction)
+{
+    return instruction->mode != ACCUMULATOR
+        && has_name("STA STX STY ASL DEC INC LSR ROL ROR RMB SMB", instruction->name);
 }
 
 const char *const mode_words[MODES] = {

@@ -39,6 +39,10 @@ extern const struct group {
 } groups[GROUPS];
 int in_group(const struct group *group, const struct instruction *instruction);
 
+/* Whether an instruction writes its byte on its last clock: a store or a read-modify-write one (document 02, U6). All
+ * others that write push. */
+int writes_last(const struct instruction *instruction);
+
 /* The opcodes that some rule names. */
 #define BRK_OPCODE 0x00
 #define PHP_OPCODE 0x08

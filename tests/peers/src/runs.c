@@ -15,6 +15,8 @@ static uint8_t ours[R6501Q_MEMORY_LENGTH], peers[R6501Q_MEMORY_LENGTH], loops[R6
 struct run {
     struct peer_registers before, after;
     unsigned instructions, clocks;
+    unsigned stores; /* instructions that write on their last clock */
+    int last_stores; /* the last one does */
     int r65c02; /* has one of RMB, SMB, BBR, BBS */
 };
 
@@ -54,18 +56,27 @@ static struct run run_peer(struct random *random)
         run.after = next;
         run.clocks += record.clocks;
         run.r65c02 |= instructions[opcode].r65c02;
+        run.last_stores = writes_last(&instructions[opcode]);
+        run.stores += run.last_stores;
         run.instructions++;
     }
     return run;
 }
 
-/* As many clocks of ours. Each instruction's start is an event clock, and the last clock is none. */
+/* Each instruction's start is an event clock, and the last clock of each that writes there. Where the run's last clock
+ * is none, it is a leap more. */
+static unsigned leaps_of(const struct run *run)
+{
+    return run->instructions + run->stores + (run->instructions > 0 && !run->last_stores);
+}
+
+/* As many clocks of ours. */
 static void compare_run(const struct run *run)
 {
     r6501q_call_result result
         = r6501q_run(chip_start(&run->before), ours, sizeof ours, 0, 0, 0, 0, 0, 0, 0, 0, run->clocks, R6501Q_NO_HALT);
     r6501q_state expected = chip_after(&run->after, run->clocks, 0);
-    unsigned leaps = run->instructions ? run->instructions + 1 : 0;
+    unsigned leaps = leaps_of(run);
     if (result.number == R6501Q_DONE && result.leaps == leaps && result.read == 0 && result.written == 0
         && same_state(&result.state, &expected) && memcmp(ours, peers, sizeof ours) == 0)
         return;
@@ -102,7 +113,7 @@ static void compare_loop(loop *loop, const char *name, const uint8_t *memory, co
 
 void compare_runs(unsigned runs, struct random *random)
 {
-    unsigned long total_instructions = 0, total_clocks = 0;
+    unsigned long total_instructions = 0, total_clocks = 0, total_stores = 0;
     unsigned longest = 0, looped = 0;
     for (unsigned i = 0; i < runs; i++) {
         if (i % 32 == 0)
@@ -116,9 +127,10 @@ void compare_runs(unsigned runs, struct random *random)
         compare_run(&run);
         total_instructions += run.instructions;
         total_clocks += run.clocks;
+        total_stores += run.stores;
         longest = run.instructions > longest ? run.instructions : longest;
     }
-    printf(
-        "runs: %u, instructions %lu, at most %u in one, clocks %lu\n", runs, total_instructions, longest, total_clocks);
+    printf("runs: %u, instructions %lu, at most %u in one, that write on their last clock %lu, clocks %lu\n", runs,
+        total_instructions, longest, total_stores, total_clocks);
     printf("runs of the peer's loops against its steps: %u\n", looped);
 }
