@@ -62,15 +62,19 @@ impl Vice {
         time
     }
 
-    // The same registers, clocks and memory as the chip's, or what differs. All that an instruction does is in its
-    // first clock; the others are the chip's wait. The program touches no register of the chip, so all memory must be
-    // the same.
+    // The same registers, clocks and memory as the chip's, or what differs. The chip's registers change on the first
+    // clock of an instruction; the others are its wait, with which a store's byte still waits. The program touches no
+    // register of the chip, so all memory must be the same.
     pub fn same(&self, state: &State, memory: &[u8]) -> Result<(), String> {
         let registers = Registers::from(state);
         let clocks = u64::from(state.clock) + u64::from(state.cpu.wait);
         if (registers, clocks) != (self.registers, self.clocks) {
             return Err(format!("{registers} and {clocks} clocks, VICE {} and {}", self.registers, self.clocks));
         }
-        same_memory(memory, &self.memory)
+        let mut put = memory.to_vec();
+        if state.cpu.waiting.there == 1 {
+            put[usize::from(state.cpu.waiting.address)] = state.cpu.waiting.value;
+        }
+        same_memory(&put, &self.memory)
     }
 }

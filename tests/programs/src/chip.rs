@@ -1,6 +1,6 @@
 //! A program on the chip, from reset to its exit.
 
-use r6501q::{Chip, Number, State};
+use r6501q::{Chip, Number, State, Waiting};
 
 use crate::executable::{guarded, Executable};
 use crate::registers::Registers;
@@ -55,9 +55,19 @@ impl Served {
         Served { chip, services: Services::new(program.c_stack, name) }
     }
 
-    /// The rest of what is at work, and the first clock of what comes next, in which all that it does happens.
+    /// The rest of what is at work, on whose last clock a store puts its byte, and the first clock of what comes next, in
+    /// which the registers change.
     pub fn begin_next(&mut self) -> Number {
         self.chip.call_run(u32::from(self.chip.state.cpu.wait) + 1).number
+    }
+
+    /// The opcode of what comes next, which a store that is at work may put.
+    pub fn next_opcode(&self) -> u8 {
+        let cpu = &self.chip.state.cpu;
+        match cpu.waiting {
+            Waiting { there: 1, address, value } if address == cpu.pc => value,
+            _ => self.chip.memory[usize::from(cpu.pc)],
+        }
     }
 
     pub fn registers(&self) -> Registers {

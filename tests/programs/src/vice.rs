@@ -55,7 +55,7 @@ pub fn beside(program: &Executable, name: &str, limit: u32) -> Result<Beside, St
     same(&served, &vice, clocks)?;
     while served.chip.state.clock < limit {
         let at = served.registers();
-        let opcode = served.chip.memory[usize::from(at.pc)];
+        let opcode = served.next_opcode();
         match served.begin_next() {
             Number::Done => {
                 clocks += vice.instruction();
