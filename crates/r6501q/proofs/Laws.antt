@@ -1,6 +1,6 @@
 -- What crosses comes back as it was, and a refused call hands back the host's own state.
 use mathlib.Core.Path.{_≡_, refl, sym, ap, _∙_}
-use mathlib.Core.Bool.{Bool, true, false, _&&_, cond}
+use mathlib.Core.Bool.{Bool, true, false, _&&_, _||_, cond}
 use mathlib.Core.List.{List}
 use Prim.Native.Nat.{ℕ}
 use native.Mathlib.Omega.{arith}
@@ -17,11 +17,15 @@ use Rattle.leaps.specs.Calls.{refusedHanded, refusalIn}
 use Rattle.r6501q_state.specs.declared.state.State.{State}
 use Rattle.r6501q_state.specs.State.{wellFormed}
 use Rattle.r6501q_step.specs.R6501q.{World, Handed, r6501q, machine}
+use Rattle.cpu_access.specs.declared.waiting.Waiting.{Waiting}
+use Rattle.cpu_access.specs.declared.waiting.Waiting.the-variants.{Nothing, Byte}
+use Rattle.cpu_access.specs.Stack.{writeAt}
+use Rattle.r6501q.specs.declared.host.HostWaiting.{HostWaiting}
 use Rattle.r6501q.specs.declared.host.HostDue.{HostDue}
 use Rattle.r6501q.specs.declared.host.HostPeripherals.{HostPeripherals}
 use Rattle.r6501q.specs.declared.host.HostLevels.{HostLevels}
 use Rattle.r6501q.specs.declared.host.HostState.{HostState}
-use Rattle.r6501q.specs.Host.{flagOf, isFlag, levelsFromHost, stateFromHost, flagsFit, haltOf, hostLevels, hostState}
+use Rattle.r6501q.specs.Host.{flagOf, isFlag, waitingFromHost, levelsFromHost, stateFromHost, waitingFits, flagsFit, haltOf, hostWaiting, hostLevels, hostState}
 use Rattle.r6501q.specs.Calls.{HostWorld, hostWellFormed, worldFromHost, hostHandedOf, hostRefusalOf, hostCall}
 use Rattle.r6501q.specs.Lists.{hostCalled}
 
@@ -40,31 +44,69 @@ flag-back b e =
     cond-both (λ (x : ℕ). x ≡ b) (eqb b 1) 1 0 (λ (h : eqb b 1 ≡ true). sym (eqb-true b 1 h))
     (λ (h : eqb b 1 ≡ false). omega (arith, leb-true b 1 e, eqb-false b 1 h))
 
+-- a byte waiting, or none, to the host and back, and of the host, to the library and back
+pub waiting-kept : (w : Waiting) → waitingFromHost (hostWaiting w) ≡ w
+unfolding waitingFromHost hostWaiting
+waiting-kept Nothing = refl
+waiting-kept (Byte w) = refl
+
+pub waiting-fits : (w : Waiting) → waitingFits (hostWaiting w) ≡ true
+unfolding waitingFits hostWaiting
+waiting-fits Nothing = refl
+waiting-fits (Byte w) = refl
+
+pub waiting-back : (h : HostWaiting) → waitingFits h ≡ true → hostWaiting (waitingFromHost h) ≡ h
+unfolding waitingFits waitingFromHost hostWaiting
+waiting-back h e = by-test (eqb (h .there) 1) refl e
+  where
+    there : Bool
+    there = eqb (h .there) 0
+
+    address : Bool
+    address = eqb (h .address) 0
+
+    value : Bool
+    value = eqb (h .value) 0
+
+    by-test : (t : Bool) → eqb (h .there) 1 ≡ t → (t || (there && address && value)) ≡ true
+        → hostWaiting (cond t (Byte (writeAt (h .address) (h .value))) Nothing) ≡ h
+    by-test true q z = sym (λ i. record { there = eqb-true (h .there) 1 q i; address = h .address; value = h .value })
+    by-test false q z =
+        let both = and-left (there && address) value z in
+        sym (λ i. record {
+          there = eqb-true (h .there) 0 (and-left there address both) i;
+          address = eqb-true (h .address) 0 (and-right there address both) i;
+          value = eqb-true (h .value) 0 (and-right (there && address) value z) i;
+        })
+
 -- a state of the library, to the host and back
 pub state-kept : (s : State) → stateFromHost (hostState s) ≡ s
 unfolding stateFromHost hostState
-state-kept s = simp flag-kept
+state-kept s = simp (flag-kept, waiting-kept)
 
 -- what the library hands over has flags alone
 pub state-fits : (s : State) → flagsFit (hostState s) ≡ true
 unfolding flagsFit hostState
-state-fits s = simp flag-fits
+state-fits s = simp (flag-fits, waiting-fits)
 
 -- a state of the host, to the library and back
 pub host-kept : (h : HostState) → flagsFit h ≡ true → hostState (stateFromHost h) ≡ h
 unfolding stateFromHost hostState flagsFit
 host-kept h e =
+    let waits = waitingFits (h .cpu .waiting) in
     let due = isFlag (h .due .reset) && isFlag (h .due .nmi) in
     let parts = isFlag (h .peripherals .counterb .turnc) && isFlag (h .peripherals .receiver .half) in
     let external = isFlag (h .external .nmi) && isFlag (h .external .res) in
     let last = isFlag (h .last .nmi) && isFlag (h .last .res) in
-    let three = and-left (due && parts && external) last e in
-    let two = and-left (due && parts) external three in
-    let a = and-left due parts two in
-    let b = and-right due parts two in
-    let c = and-right (due && parts) external three in
-    let d = and-right (due && parts && external) last e in
+    let four = and-left (waits && due && parts && external) last e in
+    let three = and-left (waits && due && parts) external four in
+    let two = and-left (waits && due) parts three in
+    let a = and-right waits due two in
+    let b = and-right (waits && due) parts three in
+    let c = and-right (waits && due && parts) external four in
+    let d = and-right (waits && due && parts && external) last e in
     rw (
+      waiting-back (h .cpu .waiting) (and-left waits due two),
       flag-back (h .due .reset) (and-left _ _ a),
       flag-back (h .due .nmi) (and-right (isFlag (h .due .reset)) _ a),
       flag-back (h .peripherals .counterb .turnc) (and-left _ _ b),

@@ -38,7 +38,7 @@ use Rattle.r6501q.specs.declared.host.HostLatchResult.{HostLatchResult}
 abbrev pub flagOf : ℕ → Bool
 flagOf b = eqb b 1
 
-abbrev pub waitingFromHost : HostWaiting → Waiting
+unfoldable pub waitingFromHost : HostWaiting → Waiting
 waitingFromHost h = cond (flagOf (h .there)) (Byte (writeAt (h .address) (h .value))) waiting.Nothing
 
 abbrev pub cpuFromHost : HostCpu → Cpu
@@ -114,7 +114,7 @@ haltOf halt = cond (leb halt 65535) (At halt) Nowhere
 
 -- ---- to the host
 
-abbrev pub hostWaiting : Waiting → HostWaiting
+unfoldable pub hostWaiting : Waiting → HostWaiting
 hostWaiting waiting.Nothing = record { there = 0; address = 0; value = 0 }
 hostWaiting (Byte w) = record { there = 1; address = w .address; value = w .value }
 
