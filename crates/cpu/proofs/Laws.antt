@@ -109,6 +109,10 @@ table-fits : (o : ℕ) → T (passes costFits (decodeOf o))
 unfolding decodeOf costFits
 table-fits o = looked-up costFits o rows tt
 
+-- so of each entry of the table
+pub entry-fits : (o : ℕ) (e : Entry) → decodeOf o ≡ decoded.Defined e → CostFits e
+entry-fits o e d = cost-fits e (rw d at (table-fits o))
+
 pushed-writes : (sp pc : ℕ) → pushWord sp pc .count ≤ 3
 unfolding pushWord
 pushed-writes sp pc = lit≤ tt

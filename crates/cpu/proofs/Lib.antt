@@ -3,3 +3,4 @@ pub mod Ranges
 pub mod Sequence
 pub mod Kept
 pub mod Leaves
+pub mod Conclusions

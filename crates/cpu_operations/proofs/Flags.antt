@@ -80,7 +80,7 @@ pub record Kept (o : Operation) (s t : Status) : Type 0 where
 pub unlisted : {A : Type 0} (b : Bool) → b ≡ false → Unless b A → A
 unlisted b e u = rw e at u
 
-read-keeps : (p : ReadOperation) (r : CpuRegisters) (v : ℕ) → Kept (Read p) (r .status) (withRead p r v .status)
+pub read-keeps : (p : ReadOperation) (r : CpuRegisters) (v : ℕ) → Kept (Read p) (r .status) (withRead p r v .status)
 unfolding withRead adcOf addDecimal addBinary sbcOf andOf oraOf eorOf bitOf compareOf
 read-keeps Adc r v =
     cond-both (λ (k : Computed). Kept (Read Adc) (r .status) (k .status)) (r .status .d) (addDecimal (r .a) v (r .status)) (addBinary (r .a) v (r .status))
@@ -103,7 +103,7 @@ read-keeps Sbc r v =
     (λ t. record { n = tt; v = tt; d = refl; i = refl; z = tt; c = tt })
     (λ t. record { n = tt; v = tt; d = refl; i = refl; z = tt; c = tt })
 
-change-keeps : (p : ModifyOperation) (v : ℕ) (s : Status) → Kept (Modify p) s (changedBy p v s .status)
+pub change-keeps : (p : ModifyOperation) (v : ℕ) (s : Status) → Kept (Modify p) s (changedBy p v s .status)
 unfolding changedBy aslOf lsrOf rolOf rorOf incrementOf decrementOf
 change-keeps Asl v s = record { n = tt; v = refl; d = refl; i = refl; z = tt; c = tt }
 change-keeps Dec v s = record { n = tt; v = refl; d = refl; i = refl; z = tt; c = refl }
@@ -123,12 +123,12 @@ modified-keeps p o r =
     (λ t. change-keeps p (o .value) (r .status))
     (λ t. change-keeps p (o .value) (r .status))
 
-pulled-keeps : (p : PullOperation) (r : CpuRegisters) (v : ℕ) → Kept (Pull p) (r .status) (withPulled p r v .status)
+pub pulled-keeps : (p : PullOperation) (r : CpuRegisters) (v : ℕ) → Kept (Pull p) (r .status) (withPulled p r v .status)
 unfolding withPulled
 pulled-keeps Pla r v = record { n = tt; v = refl; d = refl; i = refl; z = tt; c = refl }
 pulled-keeps Plp r v = record { n = tt; v = tt; d = tt; i = tt; z = tt; c = tt }
 
-register-keeps : (p : RegisterOperation) (r : CpuRegisters) → Kept (Register p) (r .status) (withRegister p r .status)
+pub register-keeps : (p : RegisterOperation) (r : CpuRegisters) → Kept (Register p) (r .status) (withRegister p r .status)
 unfolding withRegister incrementOf decrementOf
 register-keeps Dex r = record { n = tt; v = refl; d = refl; i = refl; z = tt; c = refl }
 register-keeps Dey r = record { n = tt; v = refl; d = refl; i = refl; z = tt; c = refl }
@@ -141,7 +141,7 @@ register-keeps Txa r = record { n = tt; v = refl; d = refl; i = refl; z = tt; c 
 register-keeps Txs r = record { n = refl; v = refl; d = refl; i = refl; z = refl; c = refl }
 register-keeps Tya r = record { n = tt; v = refl; d = refl; i = refl; z = tt; c = refl }
 
-flag-keeps : (p : FlagOperation) (s : Status) → Kept (Flag p) s (withFlag p s)
+pub flag-keeps : (p : FlagOperation) (s : Status) → Kept (Flag p) s (withFlag p s)
 unfolding withFlag
 flag-keeps Clc s = record { n = refl; v = refl; d = refl; i = refl; z = refl; c = tt }
 flag-keeps Cld s = record { n = refl; v = refl; d = tt; i = refl; z = refl; c = refl }

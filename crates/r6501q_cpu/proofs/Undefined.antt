@@ -19,13 +19,13 @@ use Rattle.r6501q_cpu.specs.declared.Processed.the-variants.{Undefined, 
 use Rattle.r6501q_cpu.specs.Processor.{registersOf, registerFile, processedBy, processedAfter, wholeInstruction, opcodeAt}
 
 -- an instruction after its opcode
-abbrev decodedBy : State → List ℕ → Decoded → Processed
+abbrev pub decodedBy : State → List ℕ → Decoded → Processed
 decodedBy s memory d =
     processedAfter s (performed (registerFile (s .last .ports)) memory (peripheralsRead (registerFile (s .last .ports)) (s .peripherals) (s .cpu .pc)) []
     (opcodeAccesses (withPc (nextAddress (s .cpu .pc)) (registersOf (s .cpu))) d))
 
 -- it goes by the opcode at PC
-by-opcode : (s : State) (memory : List ℕ) → wholeInstruction s memory ≡ decodedBy s memory (decodeOf (opcodeAt s memory))
+pub by-opcode : (s : State) (memory : List ℕ) → wholeInstruction s memory ≡ decodedBy s memory (decodeOf (opcodeAt s memory))
 unfolding wholeInstruction instructionAccesses performed valueRead byteAfter opcodeAt
 by-opcode s memory = refl
 

@@ -8,9 +8,6 @@ use lib.Dec.{ltb, eqb}
 use lib.ListN.{getD}
 use borrow.Author.Tests.{eqb-true, eqb-false, ne-eqb, le-ltb, lt-ltb, not-false}
 use Rattle.bits.specs.Bits.{bit, digit, setWhere, flipWhere}
-use Rattle.bits.proofs.Cond.{cond-yes, cond-no}
-use Rattle.cpu_access.specs.declared.waiting.Waiting.{Waiting}
-use Rattle.cpu_access.specs.declared.waiting.Waiting.the-variants.{Nothing, Byte}
 use Rattle.cpu_access.specs.Waiting.{byteWaits}
 use Rattle.bits.specs.Lists.{anyOf}
 use Rattle.counters.specs.declared.a.CounterA.{CounterA}
@@ -25,7 +22,8 @@ use Rattle.r6501q_state.specs.Copies.{withCounterA, withCounterB}
 use Rattle.r6501q_state.specs.Pins.{levelsOf, rose, fell, edges, withEdges, resetOf, sensedAt, sensed}
 use Rattle.r6501q_state.specs.Control.{modeA, modeB}
 use Rattle.r6501q_clock.specs.Clock.{withInputs, inputsSet, countA, countB, sentBy, heardBy, worked, readyOf}
-use Rattle.r6501q_cpu.specs.Processor.{processorOf, withoutWrites, waitLess, waitedBy}
+use Rattle.r6501q_cpu.specs.Processor.{processorOf, withoutWrites}
+use Rattle.r6501q_cpu.proofs.Stores.{clock-waits, waited-less}
 use Rattle.r6501q_gaps.specs.Events.{hasInput, levelsChange, underflowsA, underflowsB, isReset, resetChanges, cpuStarts, putsByte, eventTests, eventOf}
 use Rattle.r6501q_gaps.specs.Gaps.{clocksOf, runningA, runningB, untilCpu, waitAfter, passCounters, passOf}
 use Rattle.r6501q_gaps.proofs.Same.{same-levels, levels-same, reset-same}
@@ -231,20 +229,6 @@ acts-later : (r b : Bool) (wait : ℕ) → (r && eqb wait 0) ≡ false → (r &&
 acts-later true true wait e f z = let some = eqb-false wait 0 e in let more = eqb-false wait 1 f in omega arith
 acts-later true false wait e f z = let some = eqb-false wait 0 e in omega arith
 acts-later false b wait e f z = absurd (false≢true z)
-
--- a clock after the first
-pub clock-waits : (s : State) (memory : List ℕ) → s .last .res ≡ true → 0 < s .cpu .wait → processorOf s memory ≡ waitedBy s (s .cpu .waiting)
-unfolding processorOf
-clock-waits s memory high some = cond-yes (s .last .res) _ _ high ∙ cond-yes (ltb 0 (s .cpu .wait)) _ _ (lt-ltb 0 (s .cpu .wait) some)
-
--- where no byte is put, it is one less to wait
-pub waited-less : (s : State) → (byteWaits (s .cpu .waiting) && eqb (s .cpu .wait) 1) ≡ false → waitedBy s (s .cpu .waiting) ≡ waitLess s
-unfolding byteWaits
-waited-less s h = by-waiting (s .cpu .waiting) h
-  where
-    by-waiting : (v : Waiting) → (byteWaits v && eqb (s .cpu .wait) 1) ≡ false → waitedBy s v ≡ waitLess s
-    by-waiting Nothing e = refl
-    by-waiting (Byte w) e = cond-no (eqb (s .cpu .wait) 1) _ _ e
 
 -- steps 1 to 4 of a clock without inputs
 pub clock-quiet : (s : State) (memory : List ℕ) → Quiet s → processorOf (readyOf s []) memory ≡ withoutWrites (passOf s (clocksOf 1))

@@ -20,7 +20,7 @@ use Rattle.r6501q_clock.specs.Clock.{countA, countB, workedState}
 use Rattle.r6501q_cpu.specs.Processor.{processorOf, startOf, bytePut, withoutWrites}
 use Rattle.r6501q_gaps.specs.Events.{underflowsA, underflowsB, cpuStarts, putsByte}
 use Rattle.r6501q_gaps.specs.Gaps.{clocksOf, waitAfter}
-use Rattle.r6501q_gaps.proofs.Quiet.{clock-waits, waited-less}
+use Rattle.r6501q_cpu.proofs.Stores.{clock-waits, waited-less}
 
 -- `s` is the state that step 1 leaves, `before` are the port levels before it
 module _ (before : ℕ) (s : State) where

@@ -74,6 +74,9 @@ pub record Examples : Type 0 where
   pub halt-last : clocks.reached (plains (chip (At 0)) 12 (clocks.tapeStart 1)) ≡ 12 ∷ 12 ∷ 0 ∷ 1 ∷ []
   pub halt-before : clocks.reached (plains (chip (At 0)) 11 (clocks.tapeStart 1)) ≡ 0 ∷ 11 ∷ 1 ∷ 0 ∷ []
   pub halt-full : clocks.reached (plains (chip (At 0)) 100 (clocks.tapeStart 0)) ≡ 7 ∷ 11 ∷ 1 ∷ 0 ∷ []
+  -- 02, U6, its one record with no halt address: `12 FFFFFF55`
+  pub tape-record : plains (chip Nowhere) 100 (clocks.tapeStart 2) .outputClocks ≡ 12 ∷ 0 ∷ []
+  pub tape-word : plains (chip Nowhere) 100 (clocks.tapeStart 2) .outputWords ≡ 0xFFFFFF55 ∷ 0 ∷ []
   pub halt-waiting : tabulate (λ k. plains (chip (At 0)) k (clocks.tapeStart 1) .state .cpu .waiting) 4 9
       ≡ Nothing ∷ Byte (writeAt 0x0000 0x55) ∷ Byte (writeAt 0x0000 0x55) ∷ Nothing ∷ []
   pub full-waiting : plains (chip (At 0)) 100 (clocks.tapeStart 0) .state .cpu .waiting ≡ Byte (writeAt 0x0000 0x55)
@@ -115,6 +118,8 @@ examples = record {
   halt-last = clocks.halt-last;
   halt-before = clocks.halt-before;
   halt-full = clocks.halt-full;
+  tape-record = clocks.tape-record;
+  tape-word = clocks.tape-word;
   halt-waiting = clocks.halt-waiting;
   full-waiting = clocks.full-waiting;
   call-told = clocks.call-told;

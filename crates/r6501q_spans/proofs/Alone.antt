@@ -10,7 +10,7 @@ use lib.Bits.{bitAnd}
 use lib.Dec.{ltb, eqb}
 use borrow.Author.Tests.{eqb-true, eq-eqb, le-ltb, not-true, not-false}
 use Rattle.bits.specs.Bits.{bit}
-use Rattle.bits.proofs.Cond.{cond-yes, and-left, and-right}
+use Rattle.bits.proofs.Cond.{and-left, and-right}
 use Rattle.cpu_alu.specs.Status.{packed, unpacked}
 use Rattle.cpu_alu.proofs.Flags.{unpacked-packed}
 use Rattle.counters.specs.Counters.{passA, passB}
@@ -37,16 +37,17 @@ use Rattle.r6501q_clock.specs.Clock.{readyOf}
 use Rattle.r6501q_cpu.specs.declared.Processed.{Processed}
 use Rattle.r6501q_cpu.specs.declared.Processed.the-variants as processed
 use Rattle.r6501q_cpu.specs.declared.Turn.the-variants.{Over}
-use Rattle.r6501q_cpu.specs.Processor.{registersOf, wholeInstruction, irqDue, startOf, bytePut, waitedBy, processorOf}
+use Rattle.r6501q_cpu.specs.Processor.{registersOf, wholeInstruction, irqDue, startOf, bytePut, processorOf}
 use Rattle.r6501q_cpu.specs.Asking.{putRegister, registersAfter, nextOf, turnBy, turnOf, answeredInstruction}
 use Rattle.r6501q_cpu.proofs.Asks.{turn-over}
 use Rattle.r6501q_cpu.proofs.Answered.{instruction-answered}
 use Rattle.r6501q_cpu.proofs.Ranges.{never-both}
+use Rattle.r6501q_cpu.proofs.Stores.{byte-put}
 use Rattle.pin_lists.specs.PinLists.{dueCount}
 use Rattle.r6501q_gaps.specs.Events.{sameLevels, levelsChange, isReset, resetChanges}
 use Rattle.r6501q_gaps.specs.Gaps.{clocksOf, runningA, runningB, toInput, toChange, toUnderflowA, toUnderflowB, toReset, untilCpu, toCpu, gapOf, waitAfter, passCounters, passOf}
 use Rattle.r6501q_gaps.proofs.Same.{same-levels}
-use Rattle.r6501q_gaps.proofs.Quiet.{Still, workedTo, ahead, ready-still, clock-waits}
+use Rattle.r6501q_gaps.proofs.Quiet.{Still, workedTo, ahead, ready-still}
 use Rattle.r6501q_gaps.proofs.Gaps.{no-event, not-due}
 use Rattle.r6501q_clock.specs.declared.Clocked.the-variants.{Done}
 use Rattle.r6501q_clock.specs.Clock.{endedWith, finished, recorded, clockOf}
@@ -157,12 +158,6 @@ instruction-starts t memory high over reset nmi irq =
     pick : (h z r m q : Bool) (a b c d e f : Processed) → h ≡ true → z ≡ false → r ≡ false → m ≡ false → q ≡ false
         → cond h (cond z a (cond r b (cond m c (cond q d e)))) f ≡ e
     pick h z r m q a b c d e f eh ez er em eq = rw (eh, ez, er, em, eq)
-
--- the last clock of a store
-byte-put : (t : State) (memory : List ℕ) (x : Write) → t .last .res ≡ true → t .cpu .wait ≡ 1 → t .cpu .waiting ≡ waiting.Byte x
-    → processorOf t memory ≡ processed.Done (bytePut t x)
-byte-put t memory x high last waits =
-    clock-waits t memory high (omega arith) ∙ ap (waitedBy t) waits ∙ cond-yes (eqb (t .cpu .wait) 1) _ _ (eq-eqb (t .cpu .wait) 1 last)
 
 -- ---- a state in a span
 

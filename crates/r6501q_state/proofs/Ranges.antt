@@ -10,13 +10,15 @@ use Rattle.bits.proofs.Cond.{and-left, and-right, and-both, cond-both}
 use Rattle.bits.proofs.Bits.{bit-room}
 use Rattle.serial.specs.Transmitter.{transmitterFits}
 use Rattle.serial.specs.Receiver.{receiverFits}
+use Rattle.cpu_access.specs.declared.stack.Write.{Write}
+use Rattle.cpu_access.specs.declared.waiting.Waiting.the-variants.{Nothing, Byte}
 use Rattle.cpu_access.specs.Waiting.{byteWaits}
 use Rattle.r6501q_state.specs.declared.state.Cpu.{Cpu}
 use Rattle.r6501q_state.specs.declared.state.Peripherals.{Peripherals}
 use Rattle.r6501q_state.specs.declared.state.Levels.{Levels}
 use Rattle.r6501q_state.specs.declared.state.State.{State}
-use Rattle.r6501q_state.specs.State.{fresh, cpuFits, peripheralsFit, wellFormed}
-use Rattle.r6501q_state.specs.Copies.{flagged}
+use Rattle.r6501q_state.specs.State.{freshCpu, fresh, cpuFits, peripheralsFit, wellFormed}
+use Rattle.r6501q_state.specs.Copies.{waitingAt, flagged}
 use Rattle.r6501q_state.specs.Pins.{rose, fell, edges, withEdges, resetOf, sensedAt, sensed, levelsOf}
 use Rattle.r6501q_state.specs.Inputs.{withInput}
 
@@ -124,3 +126,22 @@ unfolding sensed sensedAt withEdges resetOf
 sensed-last s =
     let now = levelsOf s in
     cond-both (λ (t : State). t .last ≡ now) (now .res) (withEdges s now) (resetOf (withEdges s now)) (λ _. refl) (λ _. refl)
+
+-- ---- 02, U6
+
+-- "RES low drops a waiting byte.": on the very clock
+pub byte-dropped : (s : State) → levelsOf s .res ≡ false → sensed s .cpu .waiting ≡ Nothing
+unfolding sensed sensedAt resetOf
+byte-dropped s low = rw low refl
+
+-- "A byte waiting with wait 0 isn't well-formed."; with wait 1 it is
+abbrev waitingFor : ℕ → Write → Cpu
+waitingFor n w = waitingAt freshCpu n (Byte w)
+
+pub waiting-zero : (w : Write) → cpuFits (waitingFor 0 w) ≡ false
+unfolding byteWaits
+waiting-zero w = refl
+
+pub waiting-one : (w : Write) → cpuFits (waitingFor 1 w) ≡ true
+unfolding byteWaits
+waiting-one w = refl

@@ -18,6 +18,7 @@ use Rattle.leaps.proofs.Chips.{plain-fits, no-gap-event}
 use Rattle.r6501q_state.specs.declared.state.State.{State}
 use Rattle.r6501q_state.specs.State.{fresh, wellFormed}
 use Rattle.r6501q_state.specs.Inputs.{lastPin}
+use Rattle.r6501q_state.proofs.Ranges.{fresh-formed}
 use Rattle.r6501q_step.specs.declared.CallResult.{CallResult}
 use Rattle.r6501q_step.specs.R6501q.{World, Handed, r6501qLimits, r6501q, chip, machine}
 use Rattle.r6501q_step.specs.Calls.{handed}
@@ -26,10 +27,6 @@ use Rattle.tape.specs.declared.LoadResult.{LoadResult}
 use Rattle.tape.specs.Tapes.{loaded, loadOf}
 use Rattle.record_text.specs.Lines.{endLine, outcomeLines}
 use Rattle.replay_text.specs.Replay.{zeroMemory, freeRecords, replayStart, ranOf, replayOf}
-
-fresh-formed : wellFormed fresh ≡ true
-unfolding fresh wellFormed
-fresh-formed = refl
 
 fresh-clock : fresh .clock ≡ 0
 unfolding fresh

@@ -1,0 +1,109 @@
+-- 02, U6: a store begins on its first clock and writes nothing; its byte waits, and is put on its last clock alone. What
+-- an instruction begins with, of its direct definition.
+use mathlib.Core.Path.{_≡_, refl, sym, ap, _∙_}
+use mathlib.Core.Bool.{Bool, true, false, _&&_, cond}
+use mathlib.Core.List.{List, []}
+use Prim.Native.Nat.{ℕ, _-_, _≤_, _<_}
+use native.Mathlib.Omega.{arith}
+use lib.Dec.{ltb, eqb}
+use borrow.Author.Tests.{lt-ltb, eq-eqb}
+use Rattle.bits.proofs.Cond.{cond-yes, cond-no}
+use Rattle.cpu_opcodes.specs.Decode.{decodeOf}
+use Rattle.cpu_opcodes.specs.declared.Decoded.the-variants as decoded
+use Rattle.cpu_opcodes.specs.declared.Entry.{Entry}
+use Rattle.cpu_alu.specs.Status.{unpacked}
+use Rattle.cpu_alu.specs.declared.Status.{Status}
+use Rattle.cpu_access.specs.declared.stack.Write.{Write}
+use Rattle.cpu_access.specs.declared.waiting.Waiting.{Waiting}
+use Rattle.cpu_access.specs.declared.waiting.Waiting.the-variants.{Nothing, Byte}
+use Rattle.cpu_access.specs.Stack.{noWrites}
+use Rattle.cpu_access.specs.Waiting.{byteWaits}
+use Rattle.cpu_access.specs.Accesses.{ends, peripheralsRead, Performed, performed, inOrder}
+use Rattle.cpu_access.specs.Bus.{nextAddress}
+use Rattle.cpu_operations.specs.Effects.{withPc}
+use Rattle.cpu_operations.proofs.Flags.{Kept}
+use Rattle.cpu.specs.Sequence.{Conclusion, Ending, leaves, operationAccesses, opcodeAccesses}
+use Rattle.cpu.proofs.Laws.{storesOf, entry-fits}
+use Rattle.cpu.proofs.Conclusions.{Concludes, ends-then, performed-ends, operation-concludes}
+use Rattle.r6501q_state.specs.declared.state.Peripherals.{Peripherals}
+use Rattle.r6501q_state.specs.declared.state.State.{State}
+use Rattle.r6501q_cpu.specs.declared.Next.{Next}
+use Rattle.r6501q_cpu.specs.declared.Processed.{Processed}
+use Rattle.r6501q_cpu.specs.declared.Processed.the-variants.{Done}
+use Rattle.r6501q_cpu.specs.Processor.{registersOf, registerFile, nextAfter, processedBy, wholeInstruction, opcodeAt, withoutWrites, waitLess, bytePut, waitedBy, processorOf}
+use Rattle.r6501q_cpu.proofs.Undefined.{decodedBy, by-opcode}
+
+-- ---- the first clock
+
+-- an end that leaves something, by its opcode's row e; s: the flags before
+record Left (e : Entry) (s : Status) (pushes : List Write) (x : Ending) : Type 0 where
+  conclusion : Conclusion
+  is : x ≡ leaves conclusion
+  so : Concludes (e .operation) (e .mode) (e .length) s pushes conclusion
+
+-- The first clock of the instruction with the row e: its flags are kept by the lists of 001, 3.8; it leaves a byte
+-- waiting just where it is a store, or a read-modify-write in memory, and then it writes nothing, and waits for two
+-- clocks at least.
+pub record Begun (s : State) (e : Entry) (x : Processed) : Type 0 where
+  pub next : Next
+  pub done : x ≡ Done next
+  pub conclusion : Conclusion
+  pub flags : Kept (e .operation) (unpacked (s .cpu .p)) (conclusion .registers .status)
+  pub waiting : next .state .cpu .waiting ≡ conclusion .waiting
+  pub waits : byteWaits (next .state .cpu .waiting) ≡ storesOf e
+  pub writes : storesOf e ≡ true → next .writes ≡ noWrites
+  pub wait : storesOf e ≡ true → 2 ≤ next .state .cpu .wait
+
+pub instruction-begun : (s : State) (memory : List ℕ) (e : Entry) → decodeOf (opcodeAt s memory) ≡ decoded.Defined e → Begun s e (wholeInstruction s memory)
+unfolding inOrder
+instruction-begun s memory e d =
+    let file = registerFile (s .last .ports) in
+    let p = peripheralsRead file (s .peripherals) (s .cpu .pc) in
+    let r = withPc (nextAddress (s .cpu .pc)) (registersOf (s .cpu)) in
+    let t = operationAccesses (e .operation) (e .mode) (e .length) r in
+    let whole = opcodeAccesses r (decoded.Defined e) in
+    let x : Performed Peripherals Ending = performed file memory p [] whole in
+    let left : Left e (r .status) (x .writes) (x .end) =
+    performed-ends file memory (Left e (r .status)) p [] whole
+    (ends-then (Concludes (e .operation) (e .mode) (e .length) (r .status)) (Left e (r .status)) t (λ l. ends (leaves l)) []
+    (operation-concludes (e .mode) (e .length) r (e .operation)) (λ ws l so. record { conclusion = l; is = refl; so = so })) in
+    let l = left .conclusion in
+    let c = left .so in
+    let fits = entry-fits (opcodeAt s memory) e d in
+    record {
+      next = nextAfter s (s .due) (record { end = l; peripherals = x .peripherals; writes = x .writes });
+      done = by-opcode s memory ∙ ap (decodedBy s memory) d ∙ ap (processedBy s (x .peripherals) (x .writes)) (left .is);
+      conclusion = l;
+      flags = c .flags;
+      waiting = refl;
+      waits = c .waits;
+      writes = λ h. ap inOrder (c .alone h);
+      wait = λ h. let n = c .clocks h in let least = fits .store h in omega (arith, n, least);
+    }
+
+-- ---- the clocks after it
+
+module _ (s : State) (memory : List ℕ) (high : s .last .res ≡ true) (some : 0 < s .cpu .wait) where
+  pub clock-waits : processorOf s memory ≡ waitedBy s (s .cpu .waiting)
+  unfolding processorOf
+  clock-waits = cond-yes (s .last .res) _ _ high ∙ cond-yes (ltb 0 (s .cpu .wait)) _ _ (lt-ltb 0 (s .cpu .wait) some)
+
+-- where no byte is put, it is one less to wait, and nothing is written
+pub waited-less : (s : State) → (byteWaits (s .cpu .waiting) && eqb (s .cpu .wait) 1) ≡ false → waitedBy s (s .cpu .waiting) ≡ waitLess s
+unfolding byteWaits
+waited-less s h = by-waiting (s .cpu .waiting) h
+  where
+    by-waiting : (v : Waiting) → (byteWaits v && eqb (s .cpu .wait) 1) ≡ false → waitedBy s v ≡ waitLess s
+    by-waiting Nothing e = refl
+    by-waiting (Byte w) e = cond-no (eqb (s .cpu .wait) 1) _ _ e
+
+-- the last clock: the byte is put, on the state that steps 1 to 3 leave, and it is all that is written
+pub byte-put : (s : State) (memory : List ℕ) (w : Write) → s .last .res ≡ true → s .cpu .wait ≡ 1 → s .cpu .waiting ≡ Byte w
+    → processorOf s memory ≡ Done (bytePut s w)
+byte-put s memory w high last waits =
+    clock-waits s memory high (omega arith) ∙ ap (waitedBy s) waits ∙ cond-yes (eqb (s .cpu .wait) 1) _ _ (eq-eqb (s .cpu .wait) 1 last)
+
+-- with RES low nothing is written
+pub held-writes : (s : State) (memory : List ℕ) → s .last .res ≡ false → processorOf s memory ≡ withoutWrites s
+unfolding processorOf
+held-writes s memory low = cond-no (s .last .res) _ _ low
