@@ -2,5 +2,4 @@ pub mod Laws
 pub mod Ranges
 pub mod Sequence
 pub mod Kept
-pub mod Leaves
 pub mod Conclusions

@@ -25,14 +25,7 @@ use Rattle.cpu_alu.specs.Shift.{aslOf, lsrOf, rolOf, rorOf, incrementOf, decrem
 use Rattle.cpu_alu.specs.declared.Status.{Status}
 use Rattle.cpu_alu.specs.declared.Computed.{Computed}
 use Rattle.cpu_access.specs.declared.CpuRegisters.{CpuRegisters}
-use Rattle.cpu_access.specs.Bus.{fetchOf}
-use Rattle.cpu_access.specs.Modes.{relativeTo}
-use Rattle.cpu_operations.specs.declared.Operand.{Operand}
-use Rattle.cpu_operations.specs.declared.Executed.{Executed}
-use Rattle.cpu_operations.specs.Updates.{withPc, withStatus, intoA}
 use Rattle.cpu_operations.specs.Kinds.{withRead, changedBy, withPulled, withRegister, withFlag}
-use Rattle.cpu_operations.specs.Effects.{quiet, completed, stored, modified, branched, branchOperand, bitBranched, jumped, pushedByte, pulledByte, returned, returnedFromInterrupt, interrupted, breakTaken}
-use Rattle.cpu_operations.specs.Operations.{workOf}
 
 -- a list names an operation by its mnemonic, RMB, SMB, BBR and BBS whatever their bit
 abbrev pub listed : List Operation → Operation → Bool
@@ -114,15 +107,6 @@ change-keeps Ror v s = record { n = tt; v = refl; d = refl; i = refl; z = tt; c 
 change-keeps (Rmb m) v s = record { n = refl; v = refl; d = refl; i = refl; z = refl; c = refl }
 change-keeps (Smb m) v s = record { n = refl; v = refl; d = refl; i = refl; z = refl; c = refl }
 
-modified-keeps : (p : ModifyOperation) (o : Operand) (r : CpuRegisters) → Kept (Modify p) (r .status) (modified o r (changedBy p (o .value) (r .status)) .worked .registers .status)
-unfolding modified stored
-modified-keeps p o r =
-    let k = changedBy p (o .value) (r .status) in
-    cond-both (λ (e : Executed). Kept (Modify p) (r .status) (e .worked .registers .status)) (o .accumulator)
-    (quiet (intoA k r) (o .length) (o .bus)) (stored o (withStatus (k .status) r) (k .value))
-    (λ t. change-keeps p (o .value) (r .status))
-    (λ t. change-keeps p (o .value) (r .status))
-
 pub pulled-keeps : (p : PullOperation) (r : CpuRegisters) (v : ℕ) → Kept (Pull p) (r .status) (withPulled p r v .status)
 unfolding withPulled
 pulled-keeps Pla r v = record { n = tt; v = refl; d = refl; i = refl; z = tt; c = refl }
@@ -165,33 +149,3 @@ same-kept o s t e = record {
   z = unless-same (listed affectNZ o) (rw e);
   c = unless-same (listed affectC o) (rw e);
 }
-
-branch-same : (o : Operand) (r : CpuRegisters) (taken : Bool) → branched o r taken .worked .registers .status ≡ r .status
-unfolding branched
-branch-same o r true = refl
-branch-same o r false = refl
-
-module _ (answers memory : List ℕ) where
-  bit-branch-same : (o : Operand) (r : CpuRegisters) (taken : Bool) → bitBranched answers memory o r taken .worked .registers .status ≡ r .status
-  unfolding bitBranched
-  bit-branch-same o r taken =
-      let p = relativeTo (fetchOf answers memory (r .pc) (o .bus)) in branch-same (branchOperand o p) (withPc (p .pc) r) taken
-
-  -- an operation keeps each flag whose list does not name it
-  pub flags-kept : (p : Operation) (r : CpuRegisters) (o : Operand) → Kept p (r .status) (workOf answers memory p r o .worked .registers .status)
-  unfolding workOf completed stored jumped pushedByte pulledByte returned returnedFromInterrupt interrupted breakTaken
-  flags-kept (Read p) r o = read-keeps p r (o .value)
-  flags-kept (Modify p) r o = modified-keeps p o r
-  flags-kept (Store p) r o = same-kept (Store p) (r .status) (r .status) refl
-  flags-kept (Branch p) r o = same-kept (Branch p) (r .status) _ (branch-same o r _)
-  flags-kept (BitBranch p) r o = same-kept (BitBranch p) (r .status) _ (bit-branch-same o r _)
-  flags-kept (Push p) r o = same-kept (Push p) (r .status) (r .status) refl
-  flags-kept (Pull p) r o = pulled-keeps p _ _
-  flags-kept (Register p) r o = register-keeps p r
-  flags-kept (Flag p) r o = flag-keeps p (r .status)
-  flags-kept Brk r o = record { n = refl; v = refl; d = refl; i = tt; z = refl; c = refl }
-  flags-kept Jmp r o = same-kept Jmp (r .status) (r .status) refl
-  flags-kept Jsr r o = same-kept Jsr (r .status) (r .status) refl
-  flags-kept Nop r o = same-kept Nop (r .status) (r .status) refl
-  flags-kept Rti r o = record { n = tt; v = tt; d = tt; i = tt; z = tt; c = tt }
-  flags-kept Rts r o = same-kept Rts (r .status) (r .status) refl
