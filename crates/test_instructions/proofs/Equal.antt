@@ -1,12 +1,16 @@
 -- Two structs are the same where a test of each field says so.
 use mathlib.Core.Path.{_≡_, refl}
-use mathlib.Core.Bool.{Bool, true, false, _&&_, Bool·beq}
+use mathlib.Core.Bool.{Bool, true, false, _&&_, not, Bool·beq}
 use mathlib.Core.List.{List, [], _∷_}
 use Prim.Native.Nat.{ℕ}
 use native.Mathlib.Omega.{arith}
 use lib.Dec.{eqb}
 use borrow.Author.Tests.{eqb-true}
 use Rattle.bits.proofs.Cond.{and-left, and-right}
+use Rattle.cpu_access.specs.declared.stack.Write.{Write}
+use Rattle.cpu_access.specs.declared.waiting.Waiting.{Waiting}
+use Rattle.cpu_access.specs.declared.waiting.Waiting.the-variants.{Nothing, Byte}
+use Rattle.cpu_access.specs.Waiting.{byteWaits}
 use Rattle.r6501q_state.specs.declared.state.Cpu.{Cpu}
 use Rattle.r6501q_state.specs.declared.state.Due.{Due}
 use Rattle.r6501q_state.specs.declared.state.Ports.{Ports}
@@ -73,13 +77,29 @@ all ps e = each true ps e .1
 
 -- ---- structs
 
-abbrev pub cpu-pairs : Cpu → Cpu → List Pair
-cpu-pairs a b = numbers (a .a) (b .a) ∷ numbers (a .x) (b .x) ∷ numbers (a .y) (b .y) ∷ numbers (a .sp) (b .sp) ∷ numbers (a .p) (b .p) ∷ numbers (a .pc) (b .pc) ∷ numbers (a .wait) (b .wait) ∷ []
+abbrev pub write-pairs : Write → Write → List Pair
+write-pairs a b = numbers (a .address) (b .address) ∷ numbers (a .value) (b .value) ∷ []
 
-pub cpu-same : (a b : Cpu) → testsOf true (cpu-pairs a b) ≡ true → a ≡ b
-cpu-same a b e =
-    let fields = all (cpu-pairs a b) e in
-    let whole : _≡_ {A = Cpu} (record { a = a .a; x = a .x; y = a .y; sp = a .sp; p = a .p; pc = a .pc; wait = a .wait }) (record { a = b .a; x = b .x; y = b .y; sp = b .sp; p = b .p; pc = b .pc; wait = b .wait }) = cc in
+pub write-same : (a b : Write) → testsOf true (write-pairs a b) ≡ true → a ≡ b
+write-same a b e =
+    let fields = all (write-pairs a b) e in
+    let whole : _≡_ {A = Write} (record { address = a .address; value = a .value }) (record { address = b .address; value = b .value }) = cc in
+    whole
+
+pub nothing-waits : (w : Waiting) → not (byteWaits w) ≡ true → Nothing ≡ w
+unfolding byteWaits
+nothing-waits Nothing e = refl
+nothing-waits (Byte w) e = absurd (never e)
+
+abbrev pub register-pairs : Cpu → Cpu → List Pair
+register-pairs a b = numbers (a .a) (b .a) ∷ numbers (a .x) (b .x) ∷ numbers (a .y) (b .y) ∷ numbers (a .sp) (b .sp) ∷ numbers (a .p) (b .p) ∷ numbers (a .pc) (b .pc) ∷ numbers (a .wait) (b .wait) ∷ []
+
+-- `t` tests what waits
+pub cpu-same : (a b : Cpu) (t : Bool) → (testsOf true (register-pairs a b) && t) ≡ true → (t ≡ true → a .waiting ≡ b .waiting) → a ≡ b
+cpu-same a b t e same-waiting =
+    let fields = all (register-pairs a b) (and-left (testsOf true (register-pairs a b)) t e) in
+    let waiting' = same-waiting (and-right (testsOf true (register-pairs a b)) t e) in
+    let whole : _≡_ {A = Cpu} (record { a = a .a; x = a .x; y = a .y; sp = a .sp; p = a .p; pc = a .pc; wait = a .wait; waiting = a .waiting }) (record { a = b .a; x = b .x; y = b .y; sp = b .sp; p = b .p; pc = b .pc; wait = b .wait; waiting = b .waiting }) = cc in
     whole
 
 abbrev pub due-pairs : Due → Due → List Pair

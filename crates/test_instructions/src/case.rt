@@ -5,10 +5,10 @@
 // a register's.
 ghost use mathlib.Core.Path.{_≡_};
 ghost use mathlib.Core.Bool.{true};
-ghost use Rattle.test_instructions.specs.Instruction.{stepAlone, doneWith};
+ghost use Rattle.test_instructions.specs.Instruction.{runAlone, doneWith};
 use crate::instruction::done_with;
 use crate::instruction::instruction_writes;
-use crate::instruction::step_alone;
+use crate::instruction::run_alone;
 use crate::line::Cursor;
 use crate::line::after;
 use crate::line::bad;
@@ -21,8 +21,10 @@ use crate::memories::byte_of;
 use crate::memories::cleared;
 use crate::memories::put;
 use crate::memories::same_bytes;
+use crate::same::same_write;
 use cpu_access::stack::Write;
 use cpu_access::stack::Writes;
+use cpu_access::waiting::Waiting;
 use memory::is_register;
 use r6501q_state::state::Cpu;
 
@@ -41,11 +43,12 @@ struct Placed {
     rest: Cursor,
 }
 
-// What a case says beside the bytes of memory: the registers before and after, how many writes there are and where they
-// begin.
+// What a case says beside the bytes of memory: the registers before and after, the clocks, how many writes there are
+// and where they begin.
 struct Case {
     first: Cpu,
     last: Cpu,
+    clocks: u8,
     writes: u8,
     from: Cursor,
 }
@@ -68,6 +71,7 @@ fn registers_at(line: &[u8], c: Cursor) -> Registers {
             p: p.value,
             pc: pc.value,
             wait: 0,
+            waiting: Waiting::Nothing,
         },
         rest: rest,
     }
@@ -107,11 +111,6 @@ fn put_bytes(line: &[u8], from: Cursor, count: u8, memory: &mut [u8]) -> Cursor 
     c
 }
 
-// The clocks still to wait behind the first of an instruction's; no instruction has 0.
-fn wait_of(clocks: u8) -> u8 {
-    std::num::wrapping_sub_u8(clocks, 1)
-}
-
 // What a case says up to its writes; `memory` gets the bytes that the instruction reads.
 fn read_case(line: &[u8], memory: &mut [u8]) -> Case {
     let first = registers_at(line, after(line, start(), CASE_MARK));
@@ -120,20 +119,16 @@ fn read_case(line: &[u8], memory: &mut [u8]) -> Case {
     let last = registers_at(line, after(line, put, b' '));
     let clocks = next_byte(line, last.rest);
     let writes = next_byte(line, clocks.rest);
-    let cpu = first.cpu;
-    let mut result = last.cpu;
-    result.wait = wait_of(clocks.value);
+    let before = first.cpu;
+    let result = last.cpu;
     let from = writes.rest;
     Case {
-        first: cpu,
+        first: before,
         last: result,
+        clocks: clocks.value,
         writes: writes.value,
         from: from,
     }
-}
-
-fn same_write(a: Write, b: Write) -> bool {
-    (a.address == b.address) & (a.value == b.value)
 }
 
 fn write_of(writes: Writes, i: u8) -> Write {
@@ -165,10 +160,12 @@ fn writes_as(line: &[u8], case: Case, writes: Writes) -> bool {
 }
 
 // Whether the instruction does what a case says, in all: it is the group's, its writes, the state and the whole memory
-// after it.
+// after its clocks.
 fn holds(line: &[u8], case: Case, opcode: u8, memory: &mut [u8], expected: &[u8]) -> bool
-    ensures { λ r. ⌜ (r ≡ true → stepAlone (case .first) (now (memory .entry)) .result ≡ doneWith (case .last)) ⌝ }
-    ensures { λ r. ⌜ (r ≡ true → stepAlone (case .first) (now (memory .entry)) .memory ≡ now (expected .entry)) ⌝ }
+    ensures { λ r. ⌜ (r ≡ true → runAlone (case .first) (case .clocks) (now (memory .entry)) .result
+        ≡ doneWith (case .clocks) (case .last)) ⌝ }
+    ensures { λ r. ⌜ (r ≡ true → runAlone (case .first) (case .clocks) (now (memory .entry)) .memory
+        ≡ now (expected .entry)) ⌝ }
 {
     if byte_of(memory, case.first.pc) != opcode {
         return false;
@@ -176,8 +173,8 @@ fn holds(line: &[u8], case: Case, opcode: u8, memory: &mut [u8], expected: &[u8]
     if !writes_as(line, case, instruction_writes(case.first, memory)) {
         return false;
     }
-    let result = step_alone(case.first, memory);
-    done_with(result, case.last) & same_bytes(memory, expected)
+    let result = run_alone(case.first, case.clocks, memory);
+    done_with(result, case.clocks, case.last) & same_bytes(memory, expected)
 }
 
 // Whether a line is a case that holds.

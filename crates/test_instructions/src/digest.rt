@@ -4,7 +4,7 @@
 // each operand the byte A after it, then P after it.
 ghost use Prim.Native.Nat.{_<_, _^_};
 use crate::instruction::done_with;
-use crate::instruction::step_alone;
+use crate::instruction::run_alone;
 use crate::line::after;
 use crate::line::byte_at;
 use crate::line::digits;
@@ -15,6 +15,7 @@ use crate::memories::cleared;
 use crate::memories::put;
 use crate::memories::same_bytes;
 use cpu_access::stack::Write;
+use cpu_access::waiting::Waiting;
 use r6501q_state::state::Cpu;
 
 // Begins a digest.
@@ -22,6 +23,9 @@ pub const DIGEST_MARK: u8 = b'+';
 
 // Where the instruction stands.
 const PLACE: u16 = 0x200;
+
+// The clocks of an immediate instruction.
+const CLOCKS: u8 = 2;
 
 // Of FNV-1a with 32 bits: the digest of nothing, and the factor.
 const OFFSET: u32 = 2166136261;
@@ -46,7 +50,7 @@ fn digested(digest: u32, byte: u8) -> u32 {
     (wide(digest ^ byte as u32) * PRIME % 0x100000000) as u32
 }
 
-fn registers(a: u8, p: u8, pc: u16, wait: u8) -> Cpu {
+fn registers(a: u8, p: u8, pc: u16) -> Cpu {
     Cpu {
         a: a,
         x: 0,
@@ -54,7 +58,8 @@ fn registers(a: u8, p: u8, pc: u16, wait: u8) -> Cpu {
         sp: 255,
         p: p,
         pc: pc,
-        wait: wait,
+        wait: 0,
+        waiting: Waiting::Nothing,
     }
 }
 
@@ -74,9 +79,9 @@ fn put_instruction(memory: &mut [u8], opcode: u8, operand: u8) {
 
 // The instruction that stands in memory, with A and P.
 fn with_instruction(sum: Sum, memory: &mut [u8], a: u8, p: u8) -> Sum {
-    let result = step_alone(registers(a, p, PLACE, 0), memory);
+    let result = run_alone(registers(a, p, PLACE), CLOCKS, memory);
     let after = result.state.cpu;
-    let right = done_with(result, registers(after.a, after.p, PLACE + 2, 1));
+    let right = done_with(result, CLOCKS, registers(after.a, after.p, PLACE + 2));
     Sum {
         digest: digested(digested(sum.digest, after.a), after.p),
         good: sum.good & right,

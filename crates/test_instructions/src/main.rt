@@ -1,4 +1,4 @@
-// Runs cases of instructions, which another emulator gave, through the single-clock call, and prints for each group of
+// Runs cases of instructions, which another emulator gave, each by one run for its clocks, and prints for each group of
 // them how many agree. The arguments name the files. A line of a file is empty, or a comment that begins with `#`, or
 // begins a group (group.rt), or is a case of it (case.rt) or a digest of cases (digest.rt). A line that is none of
 // these is a case that does not agree.

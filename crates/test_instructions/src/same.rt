@@ -1,6 +1,9 @@
 // Whether two states are the same.
 use counters::a::CounterA;
 use counters::b::CounterB;
+use cpu_access::stack::Write;
+use cpu_access::waiting::Waiting;
+use cpu_access::waiting::byte_waits;
 use r6501q_state::state::Control;
 use r6501q_state::state::Cpu;
 use r6501q_state::state::Due;
@@ -13,10 +16,38 @@ use serial::receiver::Receiver;
 use serial::transmitter::Transmitter;
 ghost use mathlib.Core.Path.{_≡_};
 ghost use mathlib.Core.Bool.{true};
+ghost use Rattle.cpu_access.specs.declared.waiting.Waiting.the-variants.{Byte};
+
+pub(crate) fn same_write(a: Write, b: Write) -> bool
+    ensures { λ r. ⌜ (r ≡ true → a ≡ b) ⌝ }
+{
+    (a.address == b.address) & (a.value == b.value)
+}
+
+// Whether just this byte waits.
+fn is_waiting(waiting: Waiting, write: Write) -> bool
+    ensures { λ r. ⌜ (r ≡ true → waiting ≡ Byte write) ⌝ }
+{
+    match waiting {
+        Waiting::Nothing => false,
+        Waiting::Byte(w) => same_write(w, write),
+    }
+}
+
+fn same_waiting(a: Waiting, b: Waiting) -> bool
+    ensures { λ r. ⌜ (r ≡ true → a ≡ b) ⌝ }
+{
+    match a {
+        Waiting::Nothing => !byte_waits(b),
+        Waiting::Byte(w) => is_waiting(b, w),
+    }
+}
 
 fn same_cpu(a: Cpu, b: Cpu) -> bool
     ensures { λ r. ⌜ (r ≡ true → a ≡ b) ⌝ }
 {
+    let waiting = a.waiting;
+    let other = b.waiting;
     (a.a == b.a)
         & (a.x == b.x)
         & (a.y == b.y)
@@ -24,6 +55,7 @@ fn same_cpu(a: Cpu, b: Cpu) -> bool
         & (a.p == b.p)
         & (a.pc == b.pc)
         & (a.wait == b.wait)
+        & same_waiting(waiting, other)
 }
 
 fn same_due(a: Due, b: Due) -> bool

@@ -27,8 +27,8 @@ same-length-2 c = search needs
 returns-2 : tie.Need-returns-2
 returns-2 c = (λ e. absurd (never e), λ e. absurd (never e))
 
-step-alone-requires : tie.Need-step-alone-requires
-step-alone-requires c κs = search needs
+run-alone-requires : tie.Need-run-alone-requires
+run-alone-requires c κs = search needs
 
 done-with-requires : tie.Need-done-with-requires
 done-with-requires c κs = search needs
@@ -42,7 +42,7 @@ same-length-3 c = search needs
 returns-3 : tie.Need-returns-3
 returns-3 c =
     let tests = tested (c .before .before .done-with .result) ∷ tested (c .same-bytes .result) ∷ [] in
-    (λ e. c .before .before .before .before .before .step-alone .ensures .0 ∙ c .before .before .done-with .ensures (all tests e .0), λ e. c .before .before .before .before .before .step-alone .ensures .1 ∙ c .same-bytes .ensures (all tests e .1 .0))
+    (λ e. c .before .before .before .before .before .run-alone .ensures .0 ∙ c .before .before .done-with .ensures (all tests e .0), λ e. c .before .before .before .before .before .run-alone .ensures .1 ∙ c .same-bytes .ensures (all tests e .1 .0))
 
 pub holds-spec : {M : Type 1} → statement M
 holds-spec =
@@ -55,7 +55,7 @@ holds-spec =
     writes-as-requires
     same-length-2
     returns-2
-    step-alone-requires
+    run-alone-requires
     done-with-requires
     same-bytes-requires
     same-length-3

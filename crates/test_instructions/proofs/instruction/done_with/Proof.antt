@@ -6,8 +6,8 @@ use borrow.Author.Needs.{needs}
 use Rattle.test_instructions.proofs.instruction.done_with.Statement.{statement}
 use Rattle.test_instructions.proofs.instruction.done_with.Tie as tie
 
-one-later-requires : tie.Need-one-later-requires
-one-later-requires c κs = search needs
+later-requires : tie.Need-later-requires
+later-requires c κs = search needs
 
 same-state-requires : tie.Need-same-state-requires
 same-state-requires c κs = search needs
@@ -15,8 +15,8 @@ same-state-requires c κs = search needs
 returns : tie.Need-returns
 returns c e =
     let result = c .before .before .before .before .before .before .args .result in
-    let parts = all (numbers (result .number) 0 ∷ tested (c .before .before .before .before .same-state .result) ∷ numbers (result .leaps) 1 ∷ numbers (result .read) 0 ∷ numbers (result .written) 0 ∷ []) e in
-    results-equal _ _ (parts .0) (c .before .before .before .before .same-state .ensures (parts .1 .0) ∙ c .before .before .before .before .before .one-later .ensures) (parts .1 .1 .0) (parts .1 .1 .1 .0) (parts .1 .1 .1 .1 .0)
+    let parts = all (numbers (result .number) 0 ∷ tested (c .before .before .before .before .same-state .result) ∷ numbers (result .leaps) 2 ∷ numbers (result .read) 0 ∷ numbers (result .written) 0 ∷ []) e in
+    results-equal _ _ (parts .0) (c .before .before .before .before .same-state .ensures (parts .1 .0) ∙ c .before .before .before .before .before .later .ensures) (parts .1 .1 .0) (parts .1 .1 .1 .0) (parts .1 .1 .1 .1 .0)
 
 pub done-with-spec : {M : Type 1} → statement M
-done-with-spec = tie.close (tie.spec one-later-requires same-state-requires returns)
+done-with-spec = tie.close (tie.spec later-requires same-state-requires returns)

@@ -15,11 +15,14 @@ no-writes-requires c κs = search needs
 enum-known-clocked : tie.Need-enum-known-clocked
 enum-known-clocked c = search needs
 
+writes-with-requires : tie.Need-writes-with-requires
+writes-with-requires c κs = search needs
+
 returns : tie.Need-returns
 returns c = c .no-writes .ensures ∙ rw (← (c .before .before .before .clock-alone .ensures), c .before .enum-told .given .1)
 
 returns-2 : tie.Need-returns-2
-returns-2 c = rw (← (c .before .before .before .before .clock-alone .ensures), c .before .before .clocked .given .1)
+returns-2 c = c .writes-with .ensures ∙ rw (← (c .before .before .before .before .clock-alone .ensures), c .before .before .clocked .given .1)
 
 pub instruction-writes-spec : {M : Type 1} → statement M
 instruction-writes-spec =
@@ -29,5 +32,6 @@ instruction-writes-spec =
     enum-told
     no-writes-requires
     enum-known-clocked
+    writes-with-requires
     returns
     returns-2)
