@@ -43,8 +43,12 @@ freshPeripherals = record {
 }
 
 -- "all levels 1"
+abbrev pub highLevels : Levels
+highLevels = record { ports = 0xFFFFFFFF; nmi = true; res = true }
+
+-- 02, U8: "Make fresh mean RES low in both its levels, all else as before."
 abbrev pub freshLevels : Levels
-freshLevels = record { ports = 0xFFFFFFFF; nmi = true; res = true }
+freshLevels = record { ports = 0xFFFFFFFF; nmi = true; res = false }
 
 -- "Fresh", with "clock 0"
 unfoldable pub fresh : State

@@ -151,13 +151,14 @@ fn fresh_peripherals() -> Peripherals
     }
 }
 
+// All levels high but RES: a fresh chip is held.
 fn fresh_levels() -> Levels
     ensures { λ r. ⌜ r ≡ freshLevels ⌝ }
 {
     Levels {
         ports: 4294967295,
         nmi: true,
-        res: true,
+        res: false,
     }
 }
 
@@ -179,7 +180,7 @@ impl Cpu {
     }
 }
 
-// A chip that has not run yet.
+// A chip that has not run yet. RES is low, and a CPU start waits until an input makes it high.
 pub fn fresh_state() -> State
     ensures { λ r. ⌜ r ≡ fresh ⌝ }
 {
