@@ -39,7 +39,7 @@ use Rattle.r6501q_clock.specs.Clock.{withInputs, countA, countB, sentBy, heardB
 use Rattle.r6501q_clock.specs.Commit.{putByte, committed}
 use Rattle.r6501q_state.specs.declared.state.Levels.{Levels}
 use Rattle.r6501q_state.specs.declared.state.State.{State}
-use Rattle.r6501q_state.specs.State.{freshCpu, freshPorts, freshLevels, freshPeripherals}
+use Rattle.r6501q_state.specs.State.{freshCpu, freshPorts, freshLevels, highLevels, freshPeripherals}
 use Rattle.r6501q_state.specs.Copies.{flagged, withCounterA, withCounterB, withPeripherals}
 use Rattle.serial.specs.Transmitter.{idleTransmitter}
 use Rattle.r6501q_clock.specs.Clock.{inputsSet}
@@ -65,9 +65,6 @@ startWith s memory inputClocks inputCodes outputClocks outputWords = record {
 
 -- ---- P1, "L = 0: underflow each clock.": counters count while RES is low too, and there step 1 clears the flags on each clock
 
-abbrev pub lowLevels : Levels
-lowLevels = record { ports = 0xFFFFFFFF; nmi = true; res = false }
-
 -- both counters and their latches 0, the flags as given
 abbrev pub heldLow : ℕ → ℕ → State
 heldLow ifr clock = record {
@@ -76,8 +73,8 @@ heldLow ifr clock = record {
   peripherals =
       withCounterB (withCounterA (flagged freshPeripherals ifr) (record { count = 0; latch = 0 }))
       (record { count = 0; latchb = 0; latchc = 0; turnc = true });
-  external = lowLevels;
-  last = lowLevels;
+  external = freshLevels;
+  last = freshLevels;
   clock = clock;
 }
 
@@ -106,8 +103,8 @@ running wait = record {
   cpu = record { a = 0; x = 0; y = 0; sp = 0xFF; p = 0x04; pc = 0x40; wait = wait; waiting = Nothing };
   due = record { reset = false; nmi = false };
   peripherals = freshPeripherals;
-  external = freshLevels;
-  last = freshLevels;
+  external = highLevels;
+  last = highLevels;
   clock = 0;
 }
 
@@ -191,7 +188,7 @@ pub p5-edges : plains (chip Nowhere) 195 senderStart .outputClocks ≡ 19 ∷ 35
 unfolding withBit setWhere flipWhere dueCount ticksOf inForce downA countsA clockA lowerA upperA loadCounterA reloadB downB clockB lowerB upperB copyB loadCounterB turnToC transmitterAsynchronous receiverAsynchronous receiverShifting holdsA keepsTransmitter keepsReceiver parityBit frameBits sentBits pace startDetected withLevel receivedByte wrongParity statusAfter keptWith frameEnded lookTaken looked receiveTick shiftedAtRise byteEnded receiveRise receiverClock receiverWithSccr framed taken idleTick frameEnd nextPhase ticked bitTick sendTick transmitterClock line shiftClock transmitterWithSccr decodeOf packed unpacked pushed memoryByte displacement flagsOf modeA modeB withInput driveA driveD drivenWord levelsOf rose fell edges withEdges resetOf sensedAt sensed fresh portValue registerValue afterRead startB startA entering keptFlag keptFlags writeOf wholeInstruction irqDue resetStart nmiStart irqStart startOf bytePut processorOf withInputs countA countB sentBy heardBy worked readyOf finished clockOf halts putByte committed plainOf plains putRecord located byteAfter peripheralsRead peripheralsWritten valueRead performed inOrder completion storeAt modifyAccesses branchOn bitBranchAccesses jumpTo pushAccesses pullAccesses returnAccesses interruptReturnAccesses entryAccesses breakAccesses callAccesses operationAccesses withRead changedBy byteToStore branchTaken bitBranchTaken byteToPush withPulled withRegister withFlag instructionAccesses resetAccesses interruptAccesses
 p5-edges = refl
 
--- ---- 02, U4: document 01's tape with the halt address 0000h, from fresh
+-- ---- 02, U4: document 01's tape with the halt address 0000h, from fresh, with RES high on clock 1
 
 -- LDA #55h, STA 00h and a jump to itself at 0200h; the reset vector
 abbrev pub tapeMemory : List ℕ
@@ -199,7 +196,7 @@ tapeMemory = replicate 0x200 0 ++ (0xA9 ∷ 0x55 ∷ 0x85 ∷ 0x00 ∷ 0x4C ∷ 
 
 -- with so many free records
 abbrev pub tapeStart : ℕ → World
-tapeStart free = startWith fresh tapeMemory [] [] (replicate free 0) (replicate free 0)
+tapeStart free = startWith fresh tapeMemory (1 ∷ []) (97 ∷ []) (replicate free 0) (replicate free 0)
 
 -- the stop, the clock, the wait, and the records written
 abbrev pub reached : World → List ℕ
@@ -253,8 +250,8 @@ atCall = record {
   cpu = record { a = 0; x = 0; y = 0; sp = 0x00; p = 0x04; pc = 0x40; wait = 0; waiting = Nothing };
   due = record { reset = false; nmi = false };
   peripherals = freshPeripherals;
-  external = freshLevels;
-  last = freshLevels;
+  external = highLevels;
+  last = highLevels;
   clock = 0;
 }
 

@@ -7,3 +7,4 @@ pub mod Examples
 pub mod ShiftRegister
 pub mod IndirectJump
 pub mod AccessOrder
+pub mod Held
