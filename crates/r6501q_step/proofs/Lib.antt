@@ -8,3 +8,4 @@ pub mod ShiftRegister
 pub mod IndirectJump
 pub mod AccessOrder
 pub mod Held
+pub mod Released
