@@ -140,7 +140,7 @@ module _ {S : Type 0} (C : Chip S) where
 
   module _ (L : ChipLaws C) where
     -- the clocks done and their events
-    trace-whole : (n : ℕ) (w v : WorldOf S) → Room w → trace (systemOf C) n (wholeOf w v) ≡ trace (systemOf C) n v
+    pub trace-whole : (n : ℕ) (w v : WorldOf S) → Room w → trace (systemOf C) n (wholeOf w v) ≡ trace (systemOf C) n v
     unfolding trace eventIn
     trace-whole zero w v room = refl
     trace-whole (suc n) w v room = by-done (doneIn C v) refl (trace-whole n w (plainOf C v) room)

@@ -8,15 +8,16 @@ use native.Mathlib.Nat.{le-of-suc-le-suc}
 use native.Mathlib.Omega.{arith}
 use lib.Dec.{ltb, eqb}
 use lib.ListN.{length, take, drop}
-use borrow.Author.Tests.{ltb-true, ltb-false, lt-ltb, eqb-true, eqb-false, eq-eqb, ne-eqb}
+use borrow.Author.Tests.{ltb-true, ltb-false, lt-ltb, le-ltb, eqb-true, eqb-false, eq-eqb, ne-eqb}
 use Rattle.bits.specs.Bits.{withBit, setWhere, flipWhere}
 use Rattle.bits.specs.Lists.{allOf}
 use Rattle.bits.proofs.Cond.{and-left, and-right}
-use Rattle.pin_lists.specs.PinLists.{pinOf, highOf, dueCount}
+use Rattle.pin_lists.specs.PinLists.{pinOf, highOf, codeRight, entryRight, restRight, pinsRight, dueCount}
 use Rattle.pin_lists.proofs.PinLists.{due-within}
+use Rattle.refusals.specs.Refusals.{refusalOf}
 use Rattle.r6501q_state.specs.declared.state.Levels.{Levels}
 use Rattle.r6501q_state.specs.declared.state.State.{State}
-use Rattle.r6501q_state.specs.State.{freshCpu, freshDue, freshPeripherals, freshLevels, highLevels, fresh}
+use Rattle.r6501q_state.specs.State.{freshCpu, freshDue, freshPeripherals, freshLevels, highLevels, fresh, wellFormed}
 use Rattle.r6501q_state.specs.Inputs.{lastPin, levelsAt, withInput}
 use Rattle.counters.specs.Counters.{ticksOf, inForce, downA, countsA, clockA, downB, clockB}
 use Rattle.serial.specs.Format.{transmitterAsynchronous, receiverAsynchronous, receiverShifting, holdsA}
@@ -27,14 +28,14 @@ use Rattle.cpu_access.specs.Accesses.{peripheralsRead, performed}
 use Rattle.cpu.specs.Sequence.{resetAccesses}
 use Rattle.r6501q_cpu.specs.Processor.{resetStart, startOf, processorOf}
 use Rattle.r6501q_state.specs.Control.{modeA, modeB}
-use Rattle.r6501q_state.specs.Pins.{driveA, driveD, drivenWord, levelsOf, rose, fell, edges, withEdges, sensedAt, sensed}
+use Rattle.r6501q_state.specs.Pins.{driveA, driveD, drivenWord, levelsOf, rose, fell, edges, withEdges, resetOf, sensedAt, sensed}
 use Rattle.r6501q_clock.specs.Clock.{withInputs, countA, countB, sentBy, heardBy, worked, workedState, readyOf, finished, recorded, clockOf}
 use Rattle.r6501q_clock.specs.Copies.{withExternal}
 use Rattle.r6501q_clock.specs.declared.Clocked.{Clocked}
 use Rattle.r6501q_gaps.specs.Events.{hasInput, sameLevels, levelsChange, underflowsA, underflowsB, resetChanges, cpuStarts, eventOf}
 use Rattle.leaps.specs.Chip.{ClockOutcome, stopped, ended}
 use Rattle.leaps.specs.World.{after, outcomeIn, plainOf, isDone, doneIn, eventIn}
-use Rattle.leaps.specs.Calls.{callStart}
+use Rattle.leaps.specs.Calls.{callStart, refusalIn}
 use Rattle.r6501q_step.specs.R6501q.{World, clockOutcome, r6501q, plain}
 
 -- the old start: fresh with RES high in both its levels
@@ -113,34 +114,46 @@ released-levels codes e =
     inputs-append freshLevels codes (resHigh ∷ []) ∙ ap (λ (l : Levels). withInput l resHigh) (below-set 0xFFFFFFFF true false codes e)
     ∙ sym (below-set 0xFFFFFFFF true true codes e)
 
+-- an input of RES behind them: the levels are the same whatever RES was
+given-levels : (codes : List ℕ) (code : ℕ) → belowRes codes ≡ true → pinOf code ≡ lastPin
+    → withInputs freshLevels (codes ++ (code ∷ [])) ≡ withInputs highLevels (codes ++ (code ∷ []))
+unfolding withInputs withInput
+given-levels codes code e res =
+    inputs-append freshLevels codes (code ∷ []) ∙ ap (λ (l : Levels). withInput l code) (below-set 0xFFFFFFFF true false codes e)
+    ∙ rw res refl ∙ ap (λ (l : Levels). withInput l code) (sym (below-set 0xFFFFFFFF true true codes e))
+    ∙ sym (inputs-append highLevels codes (code ∷ []))
+
 -- ---- the first clock
 
--- no edge hangs on RES
-ready-same : (codes : List ℕ) → belowRes codes ≡ true → readyOf fresh (codes ++ (resHigh ∷ [])) ≡ readyOf released codes
-unfolding readyOf fresh sensed sensedAt levelsOf withEdges
-ready-same codes e = rw (released-levels codes e, below-set 0xFFFFFFFF true true codes e)
-
-clock-same : (codes memory : List ℕ) (free : Bool) → belowRes codes ≡ true
-    → clockOf fresh (codes ++ (resHigh ∷ [])) memory free ≡ clockOf released codes memory free
-unfolding clockOf fresh
-clock-same codes memory free e = rw (ready-same codes e)
-
--- it is done: the reset entry starts, and no drive changes
+-- by the levels that its inputs leave; no edge hangs on RES
 abbrev firstClock : Levels → List ℕ → Bool → Clocked
 firstClock l memory free =
     recorded (drivenWord freshPeripherals) free (processorOf (workedState (highLevels .ports) (sensed (withExternal released 1 l))) memory)
 
-done-at : (halt : Halt) (ports : ℕ) (nmi : Bool) (memory : List ℕ) (free : Bool)
-    → isDone (clockOutcome halt memory (firstClock (levelsAt ports nmi true) memory free)) ≡ true
-unfolding sensed sensedAt levelsOf withEdges worked countA countB sentBy heardBy processorOf startOf resetStart resetAccesses performed peripheralsRead drivenWord driveA driveD finished clockA countsA downA clockB downB setWhere flipWhere modeA modeB inForce holdsA transmitterClock receiverClock ticksOf transmitterAsynchronous receiverAsynchronous receiverShifting
-done-at halt ports nmi memory free = refl
+first-fresh : (codes memory : List ℕ) (free : Bool) → clockOf fresh codes memory free ≡ firstClock (withInputs freshLevels codes) memory free
+unfolding clockOf readyOf fresh sensed sensedAt withEdges resetOf levelsOf
+first-fresh codes memory free = refl
 
-first-done : (halt : Halt) (codes memory : List ℕ) (free : Bool) → belowRes codes ≡ true
-    → isDone (clockOutcome halt memory (clockOf released codes memory free)) ≡ true
+first-old : (codes memory : List ℕ) (free : Bool) → clockOf released codes memory free ≡ firstClock (withInputs highLevels codes) memory free
 unfolding clockOf readyOf
-first-done halt codes memory free e =
-    ap (λ (l : Levels). isDone (clockOutcome halt memory (firstClock l memory free))) (below-set 0xFFFFFFFF true true codes e)
-    ∙ done-at halt (portsBy 0xFFFFFFFF true codes) (nmiBy 0xFFFFFFFF true codes) memory free
+first-old codes memory free = refl
+
+clock-same : (codes codes' memory : List ℕ) (free : Bool) → withInputs freshLevels codes ≡ withInputs highLevels codes'
+    → clockOf fresh codes memory free ≡ clockOf released codes' memory free
+clock-same codes codes' memory free e =
+    first-fresh codes memory free ∙ ap (λ (l : Levels). firstClock l memory free) e ∙ sym (first-old codes' memory free)
+
+-- it is done: the reset entry starts, or RES is low again, and no drive changes
+done-at : (halt : Halt) (ports : ℕ) (nmi res : Bool) (memory : List ℕ) (free : Bool)
+    → isDone (clockOutcome halt memory (firstClock (levelsAt ports nmi res) memory free)) ≡ true
+unfolding sensed sensedAt levelsOf withEdges resetOf worked countA countB sentBy heardBy processorOf startOf resetStart resetAccesses performed peripheralsRead drivenWord driveA driveD finished clockA countsA downA clockB downB setWhere flipWhere modeA modeB inForce holdsA transmitterClock receiverClock ticksOf transmitterAsynchronous receiverAsynchronous receiverShifting
+done-at halt ports nmi true memory free = refl
+done-at halt ports nmi false memory free = refl
+
+first-done : (halt : Halt) (codes memory : List ℕ) (free : Bool) → isDone (clockOutcome halt memory (clockOf released codes memory free)) ≡ true
+first-done halt codes memory free =
+    let l = withInputs highLevels codes in
+    ap (λ (c : Clocked). isDone (clockOutcome halt memory c)) (first-old codes memory free) ∙ done-at halt (l .ports) (l .nmi) (l .res) memory free
 
 -- and is an event clock: it has an input, or the CPU starts
 event-old : (codes : List ℕ) → eventOf released codes ≡ true
@@ -148,10 +161,10 @@ unfolding eventOf hasInput withInputs levelsChange sameLevels levelsOf drivenWor
 event-old [] = refl
 event-old (code ∷ codes) = refl
 
-event-new : (codes : List ℕ) → eventOf fresh (codes ++ (resHigh ∷ [])) ≡ true
+event-new : (codes : List ℕ) (code : ℕ) → eventOf fresh (codes ++ (code ∷ [])) ≡ true
 unfolding eventOf hasInput
-event-new [] = refl
-event-new (code ∷ codes) = refl
+event-new [] code = refl
+event-new (first ∷ codes) code = refl
 
 -- ---- the lists
 
@@ -176,6 +189,93 @@ due-inserted (t ∷ clocks) = by-test (eqb t 1) refl (due-inserted clocks)
     by-test true e later = rw e (ap suc later)
     by-test false e later = rw e
 
+inserted-length : (k x : ℕ) (l : List ℕ) → length (inserted k x l) ≡ suc (length l)
+inserted-length zero x l = refl
+inserted-length (suc k) x [] = refl
+inserted-length (suc k) x (y ∷ l) = ap suc (inserted-length k x l)
+
+suc-same : (m n : ℕ) → eqb (suc m) (suc n) ≡ eqb m n
+suc-same m n = by-test (eqb m n) refl
+  where
+    by-test : (t : Bool) → eqb m n ≡ t → eqb (suc m) (suc n) ≡ t
+    by-test true e = eq-eqb (suc m) (suc n) (ap suc (eqb-true m n e))
+    by-test false e = ne-eqb (suc m) (suc n) (λ z. eqb-false m n e (omega (arith, z)))
+
+-- a list of clocks that goes on has no codes behind it
+no-codes : (c p k x : ℕ) (l : List ℕ) → restRight lastPin c p (inserted k x l) [] ≡ false
+unfolding restRight
+no-codes c p zero x l = refl
+no-codes c p (suc k) x [] = refl
+no-codes c p (suc k) x (y ∷ l) = refl
+
+and-none : (a : Bool) → (a && false) ≡ false
+and-none true = refl
+and-none false = refl
+
+-- "within one clock pins rise strictly": RES may stand behind any other pin, and an entry of another clock behind it
+entry-res : (pin : ℕ) → pin < lastPin → entryRight lastPin 1 pin 1 resHigh ≡ true
+unfolding entryRight codeRight
+entry-res pin h = rw (lt-ltb pin lastPin h)
+
+entry-behind : (pin t code : ℕ) → eqb t 1 ≡ false → entryRight lastPin 1 lastPin t code ≡ entryRight lastPin 1 pin t code
+unfolding entryRight
+entry-behind pin t code e = rw (ne-eqb 1 t (λ z. eqb-false t 1 e (sym z)))
+
+-- so the lists are right just where they were
+rest-same : (pin : ℕ) (ts cs : List ℕ) → pin < lastPin → belowRes (take (dueCount 1 ts) cs) ≡ true
+    → restRight lastPin 1 pin (releaseClocks ts) (releaseCodes ts cs) ≡ restRight lastPin 1 pin ts cs
+unfolding restRight dueCount
+rest-same pin [] [] h b = rw (entry-res pin h)
+rest-same pin [] (c ∷ cs) h b = rw (entry-res pin h)
+rest-same pin (t ∷ ts) [] h b = by-test (eqb t 1) refl
+  where
+    by-test : (first : Bool) → eqb t 1 ≡ first
+        → restRight lastPin 1 pin (inserted (cond first (suc (dueCount 1 ts)) 0) 1 (t ∷ ts)) (inserted (cond first (suc (dueCount 1 ts)) 0) resHigh []) ≡ false
+    by-test true e = rw (no-codes t lastPin (dueCount 1 ts) 1 ts) (and-none (entryRight lastPin 1 pin t resHigh))
+    by-test false e = and-none (entryRight lastPin 1 pin 1 resHigh)
+rest-same pin (t ∷ ts) (c ∷ cs) h b = by-test (eqb t 1) refl b (rest-same (pinOf c) ts cs)
+  where
+    by-test : (first : Bool) → eqb t 1 ≡ first → belowRes (take (cond first (suc (dueCount 1 ts)) 0) (c ∷ cs)) ≡ true
+        → (pinOf c < lastPin → belowRes (take (dueCount 1 ts) cs) ≡ true
+        → restRight lastPin 1 (pinOf c) (releaseClocks ts) (releaseCodes ts cs) ≡ restRight lastPin 1 (pinOf c) ts cs)
+        → restRight lastPin 1 pin (inserted (cond first (suc (dueCount 1 ts)) 0) 1 (t ∷ ts)) (inserted (cond first (suc (dueCount 1 ts)) 0) resHigh (c ∷ cs))
+        ≡ (entryRight lastPin 1 pin t c && restRight lastPin t (pinOf c) ts cs)
+    by-test true e below later =
+        let is = eqb-true t 1 e in
+        let lower = ltb-true (pinOf c) lastPin (and-left (ltb (pinOf c) lastPin) (belowRes (take (dueCount 1 ts) cs)) below) in
+        rw is (ap (λ (r : Bool). entryRight lastPin 1 pin 1 c && r) (later lower (and-right (ltb (pinOf c) lastPin) (belowRes (take (dueCount 1 ts) cs)) below)))
+    by-test false e below later = rw (entry-res pin h, entry-behind pin t c e)
+
+pins-same : (ts cs : List ℕ) → belowRes (take (dueCount 1 ts) cs) ≡ true
+    → pinsRight lastPin 0 (releaseClocks ts) (releaseCodes ts cs) ≡ pinsRight lastPin 0 ts cs
+unfolding pinsRight restRight dueCount codeRight entryRight
+pins-same [] [] b = refl
+pins-same [] (c ∷ cs) b = refl
+pins-same (t ∷ ts) [] b = by-test (eqb t 1) refl
+  where
+    by-test : (first : Bool) → eqb t 1 ≡ first
+        → pinsRight lastPin 0 (inserted (cond first (suc (dueCount 1 ts)) 0) 1 (t ∷ ts)) (inserted (cond first (suc (dueCount 1 ts)) 0) resHigh []) ≡ false
+    by-test true e = rw (no-codes t lastPin (dueCount 1 ts) 1 ts) (and-none (ltb 0 t))
+    by-test false e = refl
+pins-same (t ∷ ts) (c ∷ cs) b = by-test (eqb t 1) refl b
+  where
+    by-test : (first : Bool) → eqb t 1 ≡ first → belowRes (take (cond first (suc (dueCount 1 ts)) 0) (c ∷ cs)) ≡ true
+        → pinsRight lastPin 0 (inserted (cond first (suc (dueCount 1 ts)) 0) 1 (t ∷ ts)) (inserted (cond first (suc (dueCount 1 ts)) 0) resHigh (c ∷ cs))
+        ≡ (codeRight lastPin c && ltb 0 t && restRight lastPin t (pinOf c) ts cs)
+    by-test true e below =
+        let is = eqb-true t 1 e in
+        let lower = ltb-true (pinOf c) lastPin (and-left (ltb (pinOf c) lastPin) (belowRes (take (dueCount 1 ts) cs)) below) in
+        rw is (ap (λ (r : Bool). codeRight lastPin c && ltb 0 1 && r) (rest-same (pinOf c) ts cs lower (and-right (ltb (pinOf c) lastPin) (belowRes (take (dueCount 1 ts) cs)) below)))
+    by-test false e below = by-zero (ltb 0 t) refl
+      where
+        other : t ≡ 1 → ⊥
+        other = eqb-false t 1 e
+
+        by-zero : (some : Bool) → ltb 0 t ≡ some
+            → (entryRight lastPin 1 lastPin t c && restRight lastPin t (pinOf c) ts cs) ≡ (codeRight lastPin c && some && restRight lastPin t (pinOf c) ts cs)
+        by-zero true z = rw (lt-ltb 1 t (omega (arith, ltb-true 0 t z, other)))
+        by-zero false z = rw (ne-eqb 1 t (λ y. other (sym y)), le-ltb 1 t (omega (arith, ltb-false 0 t z)))
+
 -- ---- the world after it
 
 -- with one input more read
@@ -199,6 +299,10 @@ releasedStart memory clocks codes times words = callStart fresh memory (releaseC
 abbrev pub oldStart : List ℕ → List ℕ → List ℕ → List ℕ → List ℕ → World
 oldStart memory clocks codes times words = callStart released memory clocks codes times words
 
+pub old-done : (halt : Halt) (memory clocks codes times words : List ℕ) → doneIn (r6501q halt) (oldStart memory clocks codes times words) ≡ true
+unfolding doneIn
+old-done halt memory clocks codes times words = first-done halt (take (dueCount 1 clocks) codes) memory (ltb 0 (length times))
+
 module _ (halt : Halt) (memory clocks codes times words : List ℕ) (below : belowRes (take (dueCount 1 clocks) codes) ≡ true)
     (within : dueCount 1 clocks ≤ length codes) where
   abbrev start : World
@@ -217,10 +321,10 @@ module _ (halt : Halt) (memory clocks codes times words : List ℕ) (below : bel
   outcome = outcomeIn (r6501q halt) old due
 
   outcome-same : outcomeIn (r6501q halt) start (dueCount 1 (releaseClocks clocks)) ≡ outcome
-  outcome-same = rw (codes-due, clock-same (take due codes) memory (ltb 0 (length times)) below)
+  outcome-same = rw (codes-due, clock-same (take due codes ++ (resHigh ∷ [])) (take due codes) memory (ltb 0 (length times)) (released-levels (take due codes) below))
 
   outcome-done : isDone outcome ≡ true
-  outcome-done = first-done halt (take due codes) memory (ltb 0 (length times)) below
+  outcome-done = first-done halt (take due codes) memory (ltb 0 (length times))
 
   after-same : (o : ClockOutcome State) → isDone o ≡ true → after (r6501q halt) start (suc due) o ≡ oneMoreRead (after (r6501q halt) old due o)
   after-same (stopped number) e = absurd (false≢true e)
@@ -234,12 +338,49 @@ module _ (halt : Halt) (memory clocks codes times words : List ℕ) (below : bel
 
   pub first-event : eventIn (r6501q halt) start ≡ eventIn (r6501q halt) old
   unfolding eventIn fresh
-  first-event = rw (codes-due) (event-new (take due codes)) ∙ sym (event-old (take due codes))
+  first-event = rw (codes-due) (event-new (take due codes) resHigh) ∙ sym (event-old (take due codes))
 
   pub start-done : doneIn (r6501q halt) start ≡ true
   unfolding doneIn fresh
   start-done = rw outcome-same outcome-done
 
-  pub old-done : doneIn (r6501q halt) old ≡ true
-  unfolding doneIn
-  old-done = outcome-done
+-- "A list that sets RES on clock 1 itself needs none": RES is then the last of that clock's pins, and the first clock is
+-- the old start's in all
+module _ (halt : Halt) (memory clocks codes times words front : List ℕ) (code : ℕ) (given : take (dueCount 1 clocks) codes ≡ front ++ (code ∷ []))
+    (below : belowRes front ≡ true) (res : pinOf code ≡ lastPin) where
+  given-outcome : outcomeIn (r6501q halt) (callStart fresh memory clocks codes times words) (dueCount 1 clocks)
+      ≡ outcomeIn (r6501q halt) (oldStart memory clocks codes times words) (dueCount 1 clocks)
+  given-outcome = rw (given, clock-same (front ++ (code ∷ [])) (front ++ (code ∷ [])) memory (ltb 0 (length times)) (given-levels front code below res))
+
+  given-after : (o : ClockOutcome State) → isDone o ≡ true
+      → after (r6501q halt) (callStart fresh memory clocks codes times words) (dueCount 1 clocks) o
+      ≡ after (r6501q halt) (oldStart memory clocks codes times words) (dueCount 1 clocks) o
+  given-after (stopped number) e = absurd (false≢true e)
+  given-after (ended end) e = refl
+
+  pub given-plain : plain halt (callStart fresh memory clocks codes times words) ≡ plain halt (oldStart memory clocks codes times words)
+  unfolding plainOf fresh
+  given-plain =
+      rw given-outcome
+      (given-after (outcomeIn (r6501q halt) (oldStart memory clocks codes times words) (dueCount 1 clocks))
+      (first-done halt (take (dueCount 1 clocks) codes) memory (ltb 0 (length times))))
+
+  pub given-event : eventIn (r6501q halt) (callStart fresh memory clocks codes times words) ≡ eventIn (r6501q halt) (oldStart memory clocks codes times words)
+  unfolding eventIn fresh
+  given-event = rw given (event-new front code ∙ sym (event-old (front ++ (code ∷ []))))
+
+  pub given-done : doneIn (r6501q halt) (callStart fresh memory clocks codes times words) ≡ true
+  unfolding doneIn fresh
+  given-done = rw given-outcome (first-done halt (take (dueCount 1 clocks) codes) memory (ltb 0 (length times)))
+
+-- a call for any number of clocks is refused just where it was, with the same number
+pub refusal-same : (halt : Halt) (n : ℕ) (memory clocks codes times words : List ℕ) → belowRes (take (dueCount 1 clocks) codes) ≡ true
+    → refusalIn (r6501q halt) n (releasedStart memory clocks codes times words) ≡ refusalIn (r6501q halt) n (oldStart memory clocks codes times words)
+unfolding refusalOf fresh wellFormed
+refusal-same halt n memory clocks codes times words below =
+    rw (
+      inserted-length (dueCount 1 clocks) 1 clocks,
+      inserted-length (dueCount 1 clocks) resHigh codes,
+      suc-same (length clocks) (length codes),
+      pins-same clocks codes below,
+    )
