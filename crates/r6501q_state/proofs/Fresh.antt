@@ -6,7 +6,8 @@ use Rattle.r6501q_state.specs.State.{fresh}
 -- "RES low in both its levels, all else as before": A, X, Y, PC, wait 0; SP FFh; P with I set alone; reset due, NMI not;
 -- ports FFh; counters and latches FFFFh, turn C; registers 0 but SCSR 40h; serial data and progress 0; every other
 -- level 1; clock 0
-pub fresh-fields : fresh ≡ record {
+abbrev pub FreshFields : Type 0
+FreshFields = fresh ≡ record {
   cpu = record { a = 0; x = 0; y = 0; sp = 0xFF; p = 0x04; pc = 0; wait = 0 };
   due = record { reset = true; nmi = false };
   peripherals = record {
@@ -22,5 +23,7 @@ pub fresh-fields : fresh ≡ record {
   last = record { ports = 0xFFFFFFFF; nmi = true; res = false };
   clock = 0;
 }
+
+pub fresh-fields : FreshFields
 unfolding fresh
 fresh-fields = refl
