@@ -124,7 +124,8 @@ module _ (halt : Halt) where
     abbrev old : World
     old = oldStart memory clocks codes times words
 
-    released-plains : (n : ℕ) → dueCount 1 clocks ≤ length codes → plains (chip halt) (suc n) start ≡ oneMoreRead (plains (chip halt) (suc n) old)
+    -- the clocks that are done
+    pub released-plains : (n : ℕ) → dueCount 1 clocks ≤ length codes → plains (chip halt) (suc n) start ≡ oneMoreRead (plains (chip halt) (suc n) old)
     unfolding plains
     released-plains n within =
         ap (plains (chip halt) n) (first-plain halt memory clocks codes times words below within) ∙ plains-more n (plain halt old)

@@ -16,12 +16,14 @@ use Rattle.cpu_alu.specs.Arithmetic.{adcOf}
 use Rattle.cpu_alu.proofs.Examples as alu
 use Rattle.bits.specs.Bits.{bit, word}
 use Rattle.serial.specs.Transmitter.{idleTransmitter}
+use Rattle.r6501q_state.specs.State.{fresh}
 use Rattle.r6501q_state.specs.Pins.{sensed}
+use Rattle.r6501q_state.proofs.Fresh.{FreshFields, fresh-fields}
 use Rattle.r6501q_clock.specs.Clock.{inputsSet}
 use Rattle.refusals.specs.Refusals.{lastClock}
 use Rattle.leaps.specs.Leaps.{plains, leapCount}
 use Rattle.leaps.specs.Lists.{runFor, calls}
-use Rattle.leaps.specs.Calls.{Fit}
+use Rattle.leaps.specs.Calls.{callStart, Fit}
 use Rattle.cpu_access.specs.declared.waiting.Waiting.the-variants.{Nothing, Byte}
 use Rattle.r6501q_step.specs.R6501q.{World, r6501q, chip, machine}
 use Rattle.r6501q_step.proofs.Halted.{toldBy, clockIn}
@@ -29,7 +31,14 @@ use Rattle.r6501q_step.proofs.Examples as clocks
 use Rattle.r6501q_step.proofs.ShiftRegister.{ShiftRegister, shift-register}
 use Rattle.r6501q_step.proofs.AccessOrder.{AccessOrder, access-order}
 use Rattle.r6501q_step.proofs.IndirectJump.{jumpMemory, indirect-jump}
+use Rattle.r6501q_step.proofs.Held.{held-clocks, held-leaps}
 use Rattle.r6501q_run.proofs.Fair.{first-half}
+
+-- both counters and IFR after n clocks of a fresh chip with no inputs
+abbrev pub heldRow : ℕ → List ℕ → List ℕ
+heldRow n memory =
+    let p = plains (chip Nowhere) n (callStart fresh memory [] [] [] []) .state .peripherals in
+    p .countera .count ∷ p .counterb .count ∷ p .control .ifr ∷ []
 
 pub record Examples : Type 0 where
   -- "L = 0: underflow each clock.": of whole clocks with RES low, of which step 1 clears the flags of both counters and
@@ -89,6 +98,15 @@ pub record Examples : Type 0 where
   pub indirect-jump : (first last next : ℕ)
       → plains (chip Nowhere) 1 (clocks.startWith (clocks.running 0) (jumpMemory first last next) [] [] [] []) .state .cpu
       ≡ record { a = 0; x = 0; y = 0; sp = 0xFF; p = 0x04; pc = word first last; wait = 4; waiting = Nothing }
+  -- 02, U8: fresh, field by field (r6501q_state/proofs/Fresh.antt has the literals)
+  pub fresh-fields : FreshFields
+  -- 02, U8, a fresh chip with no inputs: both counters and IFR after clocks 65,535 to 65,537, and the leaps of 65,536 and
+  -- of 65,538 clocks
+  pub held-counts : (memory : List ℕ) → heldRow 65535 memory ≡ 0 ∷ 0 ∷ 0 ∷ []
+  pub held-underflow : (memory : List ℕ) → heldRow 65536 memory ≡ 0xFFFF ∷ 0xFFFF ∷ 0x30 ∷ []
+  pub held-cleared : (memory : List ℕ) → heldRow 65537 memory ≡ 0xFFFE ∷ 0xFFFE ∷ 0 ∷ []
+  pub held-leap : (memory : List ℕ) → leapCount (chip Nowhere) 65536 (callStart fresh memory [] [] [] []) ≡ 1
+  pub held-leaps : (memory : List ℕ) → leapCount (chip Nowhere) 65538 (callStart fresh memory [] [] [] []) ≡ 3
   -- "cut after a clocks from clock 0, an input on clock a is the first half's."
   pub p7 : (halt : Halt) (a : ℕ) (w : World) → Fit (r6501q halt) w → w .state .clock ≡ 0 → a ≤ lastClock
       → calls (machine halt) (runFor a ∷ []) w .world .stop ≡ 0
@@ -125,6 +143,12 @@ examples = record {
   call-told = clocks.call-told;
   access-order = access-order;
   indirect-jump = indirect-jump;
+  fresh-fields = fresh-fields;
+  held-counts = λ memory. rw (held-clocks Nowhere memory [] [] 65535);
+  held-underflow = λ memory. rw (held-clocks Nowhere memory [] [] 65536);
+  held-cleared = λ memory. rw (held-clocks Nowhere memory [] [] 65537);
+  held-leap = λ memory. held-leaps Nowhere memory [] [] 65536;
+  held-leaps = λ memory. held-leaps Nowhere memory [] [] 65538;
   p7 = first-half;
   p8 = opcodes.p8;
 }

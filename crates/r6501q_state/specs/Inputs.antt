@@ -10,6 +10,10 @@ use Rattle.r6501q_state.specs.declared.state.Levels.{Levels}
 abbrev pub lastPin : ℕ
 lastPin = 33
 
+-- RES high: "33 RES, plus 64 where the new level is high"
+abbrev pub resHigh : ℕ
+resHigh = 97
+
 abbrev pub levelsAt : ℕ → Bool → Bool → Levels
 levelsAt ports nmi res = record { ports = ports; nmi = nmi; res = res }
 

@@ -9,6 +9,9 @@ pub const LAST_PIN: u8 = 33;
 // The weight of the code's level.
 const HIGH: u8 = 64;
 
+// RES high, the input that releases a fresh chip.
+pub const RES_HIGH: u8 = LAST_PIN + HIGH;
+
 impl Levels {
     // The external levels after one input.
     pub fn input(mut self, code: u8) -> Levels

@@ -30,7 +30,7 @@ use Rattle.cpu_operations.specs.Kinds.{withRead, changedBy, byteToStore, branch
 use Rattle.cpu.specs.Sequence.{completion, storeAt, modifyAccesses, branchOn, bitBranchAccesses, jumpTo, pushAccesses, pullAccesses, returnAccesses, interruptReturnAccesses, entryAccesses, breakAccesses, callAccesses, operationAccesses, instructionAccesses, resetAccesses, interruptAccesses}
 use Rattle.r6501q_cpu.specs.Processor.{wholeInstruction, irqDue, resetStart, nmiStart, irqStart, startOf, bytePut, processorOf}
 use Rattle.r6501q_state.specs.Control.{flagsOf, modeA, modeB}
-use Rattle.r6501q_state.specs.Inputs.{withInput}
+use Rattle.r6501q_state.specs.Inputs.{resHigh, withInput}
 use Rattle.r6501q_state.specs.Pins.{driveA, driveD, drivenWord, levelsOf, rose, fell, edges, withEdges, resetOf, sensedAt, sensed}
 use Rattle.r6501q_state.specs.State.{fresh}
 use Rattle.r6501q_registers.specs.Read.{portValue, registerValue, afterRead}
@@ -196,7 +196,7 @@ tapeMemory = replicate 0x200 0 ++ (0xA9 ∷ 0x55 ∷ 0x85 ∷ 0x00 ∷ 0x4C ∷ 
 
 -- with so many free records
 abbrev pub tapeStart : ℕ → World
-tapeStart free = startWith fresh tapeMemory (1 ∷ []) (97 ∷ []) (replicate free 0) (replicate free 0)
+tapeStart free = startWith fresh tapeMemory (1 ∷ []) (resHigh ∷ []) (replicate free 0) (replicate free 0)
 
 -- the stop, the clock, the wait, and the records written
 abbrev pub reached : World → List ℕ

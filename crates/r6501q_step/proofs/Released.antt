@@ -18,7 +18,7 @@ use Rattle.refusals.specs.Refusals.{refusalOf}
 use Rattle.r6501q_state.specs.declared.state.Levels.{Levels}
 use Rattle.r6501q_state.specs.declared.state.State.{State}
 use Rattle.r6501q_state.specs.State.{freshCpu, freshDue, freshPeripherals, freshLevels, highLevels, fresh, wellFormed}
-use Rattle.r6501q_state.specs.Inputs.{lastPin, levelsAt, withInput}
+use Rattle.r6501q_state.specs.Inputs.{lastPin, resHigh, levelsAt, withInput}
 use Rattle.counters.specs.Counters.{ticksOf, inForce, downA, countsA, clockA, downB, clockB}
 use Rattle.serial.specs.Format.{transmitterAsynchronous, receiverAsynchronous, receiverShifting, holdsA}
 use Rattle.serial.specs.Receiver.{receiverClock}
@@ -48,10 +48,6 @@ released = record {
   last = highLevels;
   clock = 0;
 }
-
--- "33 RES, plus 64 where the new level is high"
-abbrev pub resHigh : ℕ
-resHigh = 97
 
 -- a list with one entry more, behind the first `count`
 abbrev pub inserted : ℕ → ℕ → List ℕ → List ℕ

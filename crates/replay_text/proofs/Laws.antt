@@ -1,14 +1,14 @@
 -- A replay is never refused by the call, and what it prints is what 100 plain clocks come to.
 use mathlib.Core.Path.{_≡_, refl, ap, _∙_}
 use mathlib.Core.Bool.{true}
-use mathlib.Core.List.{List, []}
+use mathlib.Core.List.{List, [], _∷_}
 use Prim.Native.Nat.{ℕ, _≤_}
 use native.Mathlib.Omega.{arith}
 use lib.ListN.{length, take, replicate}
 use borrow.Author.Tests.{eq-eqb, ne-eqb}
 use Rattle.cpu_access.specs.declared.halt.Halt.the-variants.{Nowhere}
 use Rattle.memory.specs.Memory.{memorySpan}
-use Rattle.pin_lists.specs.PinLists.{pinsRight}
+use Rattle.pin_lists.specs.PinLists.{codeRight, restRight, pinsRight, dueCount}
 use Rattle.refusals.proofs.Accepted.{accepts}
 use Rattle.leaps.specs.Leaps.{plains, leapCount}
 use Rattle.leaps.specs.Lists.{plainRunOf}
@@ -17,25 +17,27 @@ use Rattle.leaps.proofs.Laws.{plains-kept}
 use Rattle.leaps.proofs.Chips.{plain-fits, no-gap-event}
 use Rattle.r6501q_state.specs.declared.state.State.{State}
 use Rattle.r6501q_state.specs.State.{fresh, wellFormed}
-use Rattle.r6501q_state.specs.Inputs.{lastPin}
+use Rattle.r6501q_state.specs.Inputs.{lastPin, resHigh}
 use Rattle.r6501q_state.proofs.Ranges.{fresh-formed}
 use Rattle.r6501q_step.specs.declared.CallResult.{CallResult}
 use Rattle.r6501q_step.specs.R6501q.{World, Handed, r6501qLimits, r6501q, chip, machine}
 use Rattle.r6501q_step.specs.Calls.{handed}
+use Rattle.r6501q_step.proofs.Released.{oldStart}
 use Rattle.r6501q_run.proofs.Laws.{laws, lawful}
+use Rattle.r6501q_run.proofs.Held.{released-plains}
 use Rattle.tape.specs.declared.LoadResult.{LoadResult}
 use Rattle.tape.specs.Tapes.{loaded, loadOf}
 use Rattle.record_text.specs.Lines.{endLine, outcomeLines}
-use Rattle.replay_text.specs.Replay.{zeroMemory, freeRecords, replayStart, ranOf, replayOf}
+use Rattle.replay_text.specs.Replay.{zeroMemory, freeRecords, replayStart, linesOf, ranOf, replayOf}
 
 fresh-clock : fresh .clock ≡ 0
 unfolding fresh
 fresh-clock = refl
 
--- an empty pin list is right
-none-right : pinsRight lastPin (fresh .clock) [] [] ≡ true
-unfolding fresh pinsRight
-none-right = refl
+-- the pin list is right
+release-right : pinsRight lastPin (fresh .clock) (1 ∷ []) (resHigh ∷ []) ≡ true
+unfolding fresh pinsRight restRight codeRight
+release-right = refl
 
 module _ (memory : List ℕ) (whole : length memory ≡ memorySpan) where
   -- where the clocks lead to
@@ -44,18 +46,18 @@ module _ (memory : List ℕ) (whole : length memory ≡ memorySpan) where
 
   not-refused : refusalIn (r6501q Nowhere) 100 (replayStart memory) ≡ 0
   not-refused =
-      accepts r6501qLimits (wellFormed fresh) (fresh .clock) (length memory) [] [] (length freeRecords) (length freeRecords) 100
-      (record { memory = whole; state = fresh-formed; inputs = refl; outputs = refl; most = omega (arith, fresh-clock); pins = none-right })
+      accepts r6501qLimits (wellFormed fresh) (fresh .clock) (length memory) (1 ∷ []) (resHigh ∷ []) (length freeRecords) (length freeRecords) 100
+      (record { memory = whole; state = fresh-formed; inputs = refl; outputs = refl; most = omega (arith, fresh-clock); pins = release-right })
 
   start-fits : Fit (r6501q Nowhere) (replayStart memory)
-  start-fits = record { memory = whole; state = fresh-formed; pins = none-right; outputs = refl; written = omega arith }
+  start-fits = record { memory = whole; state = fresh-formed; pins = release-right; outputs = refl; written = omega arith }
 
   -- every plain clock keeps it so
   ended-fits : Fit (r6501q Nowhere) ended
   ended-fits = plains-kept (chip Nowhere) (lawful Nowhere) (Fit (r6501q Nowhere)) (plain-fits (r6501q Nowhere) (laws Nowhere)) (no-gap-event (r6501q Nowhere) (laws Nowhere)) 100 (replayStart memory) start-fits
 
   module _ (s : State) (result : CallResult) (memory' times words : List ℕ) (new : s ≡ fresh)
-      (e : handed result memory' times words ≡ plainRunOf (machine Nowhere) 100 (callStart s memory [] [] (replicate 100 0) (replicate 100 0))) where
+      (e : handed result memory' times words ≡ plainRunOf (machine Nowhere) 100 (callStart s memory (1 ∷ []) (resHigh ∷ []) (replicate 100 0) (replicate 100 0))) where
     -- what the call hands back
     back : handed result memory' times words ≡ handedBackOf (leapCount (chip Nowhere) 100 (replayStart memory)) ended
     unfolding plainRunOf freeRecords
@@ -77,6 +79,11 @@ module _ (memory : List ℕ) (whole : length memory ≡ memorySpan) where
     unfolding ranOf
     lines-of-run =
         ap (λ (h : Handed). outcomeLines (take (h .result .written) (h .outputClocks)) (take (h .result .written) (h .outputWords)) (h .result .state .clock) (h .result .number)) back
+
+-- 02, U8: what is printed is "what it was" from the old start with no inputs; inputs read are not printed
+pub printed-before : (memory : List ℕ) → ranOf memory ≡ linesOf (plains (chip Nowhere) 100 (oldStart memory [] [] freeRecords freeRecords))
+unfolding ranOf dueCount
+printed-before memory = ap linesOf (released-plains Nowhere memory [] [] freeRecords freeRecords refl 99 (omega arith))
 
 module _ (tape memory : List ℕ) (result : LoadResult) (e : loaded result memory ≡ loadOf tape zeroMemory) where
   pub replay-refused : (result .number ≡ 0 → ⊥) → endLine 0 (result .number) ≡ replayOf tape

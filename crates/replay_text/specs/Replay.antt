@@ -1,14 +1,15 @@
 -- What the program `replay` prints of a tape: document 01, "Tape": "The program `replay` reads a tape ... into a memory
 -- of zeros and runs 100 clocks from fresh, no inputs, 100 free records. A refused tape prints only the end line, with 0
--- clocks."
+-- clocks." Document 02, U8: "`replay` .. now give[s] RES high on clock 1".
 use mathlib.Core.Bool.{cond}
-use mathlib.Core.List.{List, []}
+use mathlib.Core.List.{List, [], _∷_}
 use Prim.Native.Nat.{ℕ}
 use lib.Dec.{eqb}
 use lib.ListN.{take, replicate}
 use Rattle.memory.specs.Memory.{memorySpan}
 use Rattle.cpu_access.specs.declared.halt.Halt.the-variants.{Nowhere}
 use Rattle.r6501q_state.specs.State.{fresh}
+use Rattle.r6501q_state.specs.Inputs.{resHigh}
 use Rattle.leaps.specs.Leaps.{plains}
 use Rattle.leaps.specs.Calls.{callStart}
 use Rattle.r6501q_step.specs.R6501q.{World, chip}
@@ -27,9 +28,9 @@ zeroMemory = replicate memorySpan 0
 unfoldable pub freeRecords : List ℕ
 freeRecords = replicate 100 0
 
--- "from fresh, no inputs, 100 free records", on a memory into which a tape is loaded
+-- "from fresh, .., 100 free records", on a memory into which a tape is loaded; the one input is RES high on clock 1
 abbrev pub replayStart : List ℕ → World
-replayStart memory = callStart fresh memory [] [] freeRecords freeRecords
+replayStart memory = callStart fresh memory (1 ∷ []) (resHigh ∷ []) freeRecords freeRecords
 
 -- what is printed of a run that ends so: the records written, the clocks done and the stop, or 0
 abbrev pub linesOf : World → List ℕ

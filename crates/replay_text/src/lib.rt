@@ -1,6 +1,7 @@
-// A tape replayed: loaded into a memory of zeros, then 100 clocks from fresh, no inputs.
+// A tape replayed: loaded into a memory of zeros, then 100 clocks from fresh, with RES high on clock 1.
 use cpu_access::halt::Halt;
 use memory::MEMORY_SPAN;
+use r6501q_state::inputs::RES_HIGH;
 use r6501q_state::state::fresh_state;
 use record_text::LINE_LENGTH;
 use record_text::put_end;
@@ -32,8 +33,8 @@ fn run_loaded(memory: &mut [u8], text: &mut [u8]) -> usize
         ≡ putOf (ranOf (now (memory .entry))) (written 0 (now (text .entry))) ⌝ }
     ensures { λ r. ⌜ r ≤ length (now (text .exit)) ⌝ }
 {
-    let inputclocks = [0u32; 0];
-    let inputcodes = [0u8; 0];
+    let inputclocks = [1u32; 1];
+    let inputcodes = [RES_HIGH; 1];
     let mut outputclocks = [0u32; RECORDS];
     let mut outputwords = [0u32; RECORDS];
     let result = r6501q_run::run(
