@@ -5,7 +5,8 @@ use Prim.Native.Nat.{ℕ, _-_}
 use Rattle.r6501q_state.specs.declared.state.Cpu.{Cpu}
 use Rattle.r6501q_state.specs.declared.state.Peripherals.{Peripherals}
 use Rattle.r6501q_state.specs.declared.state.State.{State}
-use Rattle.r6501q_state.specs.State.{freshControl, freshLevels, freshPeripherals, freshPorts}
+use Rattle.r6501q_state.specs.State.{freshControl, freshLevels, highLevels, freshPeripherals, freshPorts}
+use Rattle.r6501q_state.specs.Inputs.{resHigh}
 use Rattle.serial.specs.Transmitter.{idleTransmitter}
 use Rattle.serial.specs.Receiver.{idleReceiver}
 use Rattle.cpu_access.specs.declared.stack.Writes.{Writes}
@@ -42,20 +43,20 @@ counted n = record {
   receiver = idleReceiver;
 }
 
--- n clocks later, when nothing but the registers and the counters has moved
+-- n clocks later, when nothing but the registers, the counters and RES has moved
 abbrev pub later : ℕ → Cpu → State
 later n c = record {
   cpu = c;
   due = record { reset = false; nmi = false };
   peripherals = counted n;
-  external = freshLevels;
-  last = freshLevels;
+  external = highLevels;
+  last = highLevels;
   clock = n;
 }
 
--- the run for n clocks with no inputs, one free output entry and no halt address
+-- the run for n clocks with RES high as its input on clock 1, one free output entry and no halt address
 abbrev pub runAlone : Cpu → ℕ → List ℕ → Handed
-runAlone c n memory = runOf (machine Nowhere) n (callStart (prepared c) memory [] [] (0 ∷ []) (0 ∷ []))
+runAlone c n memory = runOf (machine Nowhere) n (callStart (prepared c) memory (1 ∷ []) (resHigh ∷ []) (0 ∷ []) (0 ∷ []))
 
 -- 01, Run and leaps: "Leaps = event clocks done, plus 1 if the last clock done isn't an event clock": of an instruction
 -- the start, and the last clock, which puts the byte that waits (02, U6: "A last clock with a byte waiting is an event
@@ -65,7 +66,7 @@ instructionLeaps = 2
 
 -- the n clocks are done, with no record, and leave these registers
 abbrev pub doneWith : ℕ → Cpu → Result
-doneWith n c = record { number = 0; state = later n c; leaps = instructionLeaps; read = 0; written = 0 }
+doneWith n c = record { number = 0; state = later n c; leaps = instructionLeaps; read = 1; written = 0 }
 
 -- what an instruction writes, in order, as its first clock tells: its pushes (02, U6: "Stack pushes remain on the first
 -- clock.") or the byte that waits after it

@@ -1,7 +1,8 @@
 // One instruction by a run for all its clocks: what a case starts from, and what it has to come to.
 ghost use mathlib.Core.Path.{_≡_};
 ghost use mathlib.Core.Bool.{true};
-ghost use mathlib.Core.List.{[]};
+ghost use mathlib.Core.List.{[], _∷_};
+ghost use Rattle.r6501q_state.specs.Inputs.{resHigh};
 ghost use Rattle.r6501q_clock.specs.Clock.{clockOf};
 ghost use Rattle.r6501q_step.specs.Calls.{resultFrom};
 ghost use Rattle.test_instructions.specs.Instruction.{prepared, later, runAlone, doneWith, writesWith, writesIn};
@@ -14,6 +15,7 @@ use cpu_access::waiting::Waiting;
 use r6501q_clock::Clocked;
 use r6501q_clock::Ended;
 use r6501q_clock::clock;
+use r6501q_state::inputs::RES_HIGH;
 use r6501q_state::state::Cpu;
 use r6501q_state::state::State;
 use r6501q_state::state::fresh_state;
@@ -32,7 +34,7 @@ fn prepared(cpu: Cpu) -> State
     state
 }
 
-// The same chip so many clocks later: both counters have counted each of them, and nothing else has moved.
+// The same chip so many clocks later: RES is high, both counters have counted each of them, and nothing else has moved.
 fn later(cpu: Cpu, clocks: u8) -> State
     ensures { λ r. ⌜ r ≡ later clocks cpu ⌝ }
 {
@@ -40,22 +42,26 @@ fn later(cpu: Cpu, clocks: u8) -> State
     let count = 0xFFFF - clocks as u16;
     state.peripherals.countera.count = count;
     state.peripherals.counterb.count = count;
+    state.external.res = true;
+    state.last.res = true;
     state.clock = clocks as u32;
     state
 }
 
-// The run for so many clocks with no inputs, one free output entry and no halt address.
+// The run for so many clocks with RES high as its input on clock 1, one free output entry and no halt address.
 pub(crate) fn run_alone(cpu: Cpu, clocks: u8, memory: &mut [u8]) -> CallResult
     ensures { λ r. ⌜ runAlone cpu clocks (now (memory .entry)) .result ≡ resultFrom r ⌝ }
     ensures { λ _. ⌜ runAlone cpu clocks (now (memory .entry)) .memory ≡ now (memory .exit) ⌝ }
 {
+    let inputclocks = [1u32; 1];
+    let inputcodes = [RES_HIGH; 1];
     let mut times = [0u32; 1];
     let mut words = [0u32; 1];
     r6501q_run::run(
         prepared(cpu),
         memory,
-        &[],
-        &[],
+        &inputclocks,
+        &inputcodes,
         &mut times,
         &mut words,
         clocks as u32,
@@ -71,16 +77,17 @@ pub(crate) fn done_with(result: CallResult, clocks: u8, cpu: Cpu) -> bool
     (result.number == 0)
         & state
         & (result.leaps == LEAPS)
-        & (result.read == 0)
+        & (result.read == 1)
         & (result.written == 0)
 }
 
 // What the first clock of an instruction comes to, which holds its pushes in order and the byte that waits.
 fn clock_alone(cpu: Cpu, memory: &[u8]) -> Clocked
-    ensures { λ r. ⌜ r ≡ clockOf (prepared cpu) [] (now (memory .entry)) true ⌝ }
+    ensures { λ r. ⌜ r ≡ clockOf (prepared cpu) (resHigh ∷ []) (now (memory .entry)) true ⌝ }
 {
     let entries = cpu_opcodes::opcode_table();
-    clock(prepared(cpu), &[], memory, true, &entries)
+    let codes = [RES_HIGH; 1];
+    clock(prepared(cpu), &codes, memory, true, &entries)
 }
 
 // What an instruction with this first clock writes, in order: its pushes, or the byte that waits.
@@ -98,7 +105,7 @@ fn writes_with(ended: Ended) -> Writes
 
 // What an instruction writes, in order; nothing where its first clock stops.
 pub(crate) fn instruction_writes(cpu: Cpu, memory: &[u8]) -> Writes
-    ensures { λ r. ⌜ r ≡ writesIn (clockOf (prepared cpu) [] (now (memory .entry)) true) ⌝ }
+    ensures { λ r. ⌜ r ≡ writesIn (clockOf (prepared cpu) (resHigh ∷ []) (now (memory .entry)) true) ⌝ }
 {
     let clocked = clock_alone(cpu, memory);
     match clocked {
