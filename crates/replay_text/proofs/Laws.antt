@@ -56,12 +56,13 @@ module _ (memory : List ℕ) (whole : length memory ≡ memorySpan) where
   ended-fits : Fit (r6501q Nowhere) ended
   ended-fits = plains-kept (chip Nowhere) (lawful Nowhere) (Fit (r6501q Nowhere)) (plain-fits (r6501q Nowhere) (laws Nowhere)) (no-gap-event (r6501q Nowhere) (laws Nowhere)) 100 (replayStart memory) start-fits
 
-  module _ (s : State) (result : CallResult) (memory' times words : List ℕ) (new : s ≡ fresh)
-      (e : handed result memory' times words ≡ plainRunOf (machine Nowhere) 100 (callStart s memory (1 ∷ []) (resHigh ∷ []) (replicate 100 0) (replicate 100 0))) where
+  module _ (s : State) (result : CallResult) (memory' times words : List ℕ) (new : s ≡ fresh) {clocks codes : List ℕ}
+      (e : handed result memory' times words ≡ plainRunOf (machine Nowhere) 100 (callStart s memory clocks codes (replicate 100 0) (replicate 100 0)))
+      (at : clocks ≡ 1 ∷ []) (high : codes ≡ resHigh ∷ []) where
     -- what the call hands back
     back : handed result memory' times words ≡ handedBackOf (leapCount (chip Nowhere) 100 (replayStart memory)) ended
     unfolding plainRunOf freeRecords
-    back = (rw new at e) ∙ rw (eq-eqb (refusalIn (r6501q Nowhere) 100 (replayStart memory)) 0 not-refused)
+    back = (rw (new, at, high) at e) ∙ rw (eq-eqb (refusalIn (r6501q Nowhere) 100 (replayStart memory)) 0 not-refused)
 
     pub written-clocks : result .written ≤ length times
     written-clocks =

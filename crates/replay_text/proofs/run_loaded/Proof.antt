@@ -1,4 +1,4 @@
-use mathlib.Core.Path.{sym, ap, _∙_}
+use mathlib.Core.Path.{refl, sym, ap, _∙_}
 use native.Mathlib.Omega.{arith}
 use denote.Ref.{now}
 use lib.Seq.{length-take-le}
@@ -27,13 +27,13 @@ run-requires : tie.Need-run-requires
 run-requires c κs = search needs
 
 array-share-prefix-outputclocks : tie.Need-array-share-prefix-outputclocks
-array-share-prefix-outputclocks c = written-clocks (now (c .before .before .before .before .before .before .before .before .before .before .before .before .before .args .memory)) (c .before .before .before .before .before .before .before .before .before .before .before .before .before .pre .0) (c .before .before .before .before .before .before .before .before .before .before .fresh-state .result) (c .before .before .before .before .run .result) (c .before .before .before .before .run .last .1 .0) (c .before .before .before .before .run .last .1 .1 .1 .1 .0) (c .before .before .before .before .run .last .1 .1 .1 .1 .1 .0) (c .before .before .before .before .before .before .before .before .before .before .fresh-state .ensures) (c .before .before .before .before .run .ensures .1)
+array-share-prefix-outputclocks c = written-clocks (now (c .before .before .before .before .before .before .before .before .before .before .before .before .before .args .memory)) (c .before .before .before .before .before .before .before .before .before .before .before .before .before .pre .0) (c .before .before .before .before .before .before .before .before .before .before .fresh-state .result) (c .before .before .before .before .run .result) (c .before .before .before .before .run .last .1 .0) (c .before .before .before .before .run .last .1 .1 .1 .1 .0) (c .before .before .before .before .run .last .1 .1 .1 .1 .1 .0) (c .before .before .before .before .before .before .before .before .before .before .fresh-state .ensures) (c .before .before .before .before .run .ensures .1) refl refl
 
 slice-aggregate-put-outcome : tie.Need-slice-aggregate-put-outcome
 slice-aggregate-put-outcome c = sym (length-take-le _ _ (array-share-prefix-outputclocks (c .before)))
 
 array-share-prefix-outputwords : tie.Need-array-share-prefix-outputwords
-array-share-prefix-outputwords c = written-words (now (c .before .before .before .before .before .before .before .before .before .before .before .before .before .before .args .memory)) (c .before .before .before .before .before .before .before .before .before .before .before .before .before .before .pre .0) (c .before .before .before .before .before .before .before .before .before .before .before .fresh-state .result) (c .before .before .before .before .before .run .result) (c .before .before .before .before .before .run .last .1 .0) (c .before .before .before .before .before .run .last .1 .1 .1 .1 .0) (c .before .before .before .before .before .run .last .1 .1 .1 .1 .1 .0) (c .before .before .before .before .before .before .before .before .before .before .before .fresh-state .ensures) (c .before .before .before .before .before .run .ensures .1)
+array-share-prefix-outputwords c = written-words (now (c .before .before .before .before .before .before .before .before .before .before .before .before .before .before .args .memory)) (c .before .before .before .before .before .before .before .before .before .before .before .before .before .before .pre .0) (c .before .before .before .before .before .before .before .before .before .before .before .fresh-state .result) (c .before .before .before .before .before .run .result) (c .before .before .before .before .before .run .last .1 .0) (c .before .before .before .before .before .run .last .1 .1 .1 .1 .0) (c .before .before .before .before .before .run .last .1 .1 .1 .1 .1 .0) (c .before .before .before .before .before .before .before .before .before .before .before .fresh-state .ensures) (c .before .before .before .before .before .run .ensures .1) refl refl
 
 slice-aggregate-put-outcome-2 : tie.Need-slice-aggregate-put-outcome-2
 slice-aggregate-put-outcome-2 c = sym (length-take-le _ _ (array-share-prefix-outputwords (c .before)))
@@ -48,7 +48,7 @@ same-length-2 : tie.Need-same-length-2
 same-length-2 c = search needs
 
 returns : tie.Need-returns
-returns c = (c .before .before .put-outcome .ensures .0 ∙ ap (λ lines. putOf lines (written 0 (now (c .before .before .before .before .before .before .before .before .before .before .before .before .before .before .before .before .before .before .before .args .text)))) (lines-of-run (now (c .before .before .before .before .before .before .before .before .before .before .before .before .before .before .before .before .before .before .before .args .memory)) (c .before .before .before .before .before .before .before .before .before .before .before .before .before .before .before .before .before .before .before .pre .0) (c .before .before .before .before .before .before .before .before .before .before .before .before .before .before .before .before .fresh-state .result) (c .before .before .before .before .before .before .before .before .before .before .run .result) (c .before .before .before .before .before .before .before .before .before .before .run .last .1 .0) (c .before .before .before .before .before .before .before .before .before .before .run .last .1 .1 .1 .1 .0) (c .before .before .before .before .before .before .before .before .before .before .run .last .1 .1 .1 .1 .1 .0) (c .before .before .before .before .before .before .before .before .before .before .before .before .before .before .before .before .fresh-state .ensures) (c .before .before .before .before .before .before .before .before .before .before .run .ensures .1)), c .before .before .put-outcome .ensures .1)
+returns c = (c .before .before .put-outcome .ensures .0 ∙ ap (λ lines. putOf lines (written 0 (now (c .before .before .before .before .before .before .before .before .before .before .before .before .before .before .before .before .before .before .before .args .text)))) (lines-of-run (now (c .before .before .before .before .before .before .before .before .before .before .before .before .before .before .before .before .before .before .before .args .memory)) (c .before .before .before .before .before .before .before .before .before .before .before .before .before .before .before .before .before .before .before .pre .0) (c .before .before .before .before .before .before .before .before .before .before .before .before .before .before .before .before .fresh-state .result) (c .before .before .before .before .before .before .before .before .before .before .run .result) (c .before .before .before .before .before .before .before .before .before .before .run .last .1 .0) (c .before .before .before .before .before .before .before .before .before .before .run .last .1 .1 .1 .1 .0) (c .before .before .before .before .before .before .before .before .before .before .run .last .1 .1 .1 .1 .1 .0) (c .before .before .before .before .before .before .before .before .before .before .before .before .before .before .before .before .fresh-state .ensures) (c .before .before .before .before .before .before .before .before .before .before .run .ensures .1) refl refl), c .before .before .put-outcome .ensures .1)
 
 pub run-loaded-spec : {M : Type 1} → statement M
 run-loaded-spec =
