@@ -26,7 +26,8 @@ use Rattle.r6501q_state.specs.State.{fresh, wellFormed}
 use Rattle.r6501q_state.specs.Inputs.{lastPin}
 use Rattle.r6501q_step.specs.R6501q.{World, Handed, r6501qLimits, r6501q, plain, chip, machine}
 use Rattle.r6501q_step.proofs.Held.{heldState, heldLeaps, held-clocks, held-leaps}
-use Rattle.r6501q_step.proofs.Released.{belowRes, releasedStart, oldStart, oneMoreRead, first-plain, first-event, start-done, old-done, refusal-same, given-plain, given-event, given-done}
+use Rattle.r6501q_step.proofs.ReleaseLists.{belowRes}
+use Rattle.r6501q_step.proofs.Released.{releasedStart, oldStart, oneMoreRead, first-plain, first-event, start-done, old-done, refusal-same, given-plain, given-event, given-done}
 use Rattle.r6501q_run.proofs.Laws.{laws, lawful}
 
 -- a call's start has nothing written

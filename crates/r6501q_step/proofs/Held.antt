@@ -56,8 +56,8 @@ heldFlags n = cond (ltb 0 n && eqb (n % 0x10000) 0) 0x30 0
 abbrev pub heldState : ℕ → State
 heldState n = heldWith (heldCount n) (heldFlags n) n
 
--- an event clock: "each 65,536th and the one after it (RES low clears IFR); clock 1 is none"; and how many there are up
--- to clock n
+-- an event clock: each 65,536th, with an underflow, and the one after it, where RES low clears IFR; clock 1 is none. And
+-- how many there are up to clock n
 abbrev pub heldEvent : ℕ → Bool
 heldEvent n = ltb 1 n && (eqb (n % 0x10000) 0 || eqb (n % 0x10000) 1)
 
@@ -145,8 +145,7 @@ module _ (halt : Halt) (memory times words : List ℕ) where
   unfolding cpuStarts sensed sensedAt levelsOf resetOf withEdges withInputs
   held-no-start n = rw (held-clocks n)
 
-  -- ---- event clocks: "each 65,536th", with an underflow, "and the one after it", where RES low clears IFR; clock 1 is
-  -- none
+  -- ---- event clocks
 
   event-at : (ifr clock : ℕ) → eventIn (r6501q halt) (heldIn (heldWith 0 ifr clock)) ≡ true
   unfolding eventIn hasInput sameLevels levelsChange underflowsA underflowsB portsFresh controlFresh transmitterIdle receiverIdle isReset resetChanges cpuStarts eventOf withBit setWhere flipWhere dueCount ticksOf inForce downA countsA clockA reloadB downB clockB transmitterAsynchronous receiverAsynchronous receiverShifting holdsA receiverClock transmitterClock modeA modeB driveA driveD drivenWord levelsOf rose fell edges withEdges resetOf sensedAt sensed withInputs countA countB sentBy heardBy worked readyOf finished clockOf putByte committed processorOf plainOf putRecord

@@ -8,4 +8,5 @@ pub mod ShiftRegister
 pub mod IndirectJump
 pub mod AccessOrder
 pub mod Held
+pub mod ReleaseLists
 pub mod Released

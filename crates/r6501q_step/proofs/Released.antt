@@ -1,18 +1,16 @@
--- 02, U8: what "relied on the old start now give[s] RES high on clock 1": the first clock of a fresh chip with that input
--- is the first clock of the old start, in all but the one input more that is read.
-use mathlib.Core.Path.{_≡_, refl, sym, ap, ap₂, _∙_, subst}
-use mathlib.Core.Bool.{Bool, true, false, _&&_, _||_, not, cond, false≢true}
+-- 02, U8: "every test that relied on the old start now give RES high on clock 1": the first clock of a fresh chip with
+-- that input is the first clock of the old start, in all but the one input more that is read.
+use mathlib.Core.Path.{_≡_, refl, sym, ap, _∙_}
+use mathlib.Core.Bool.{Bool, true, false, _&&_, cond, false≢true}
 use mathlib.Core.List.{List, [], _∷_, _++_}
-use Prim.Native.Nat.{ℕ, zero, suc, _+_, _-_, _≤_, _<_, _%_}
-use native.Mathlib.Nat.{le-of-suc-le-suc}
+use Prim.Native.Nat.{ℕ, zero, suc, _+_, _≤_}
 use native.Mathlib.Omega.{arith}
 use lib.Dec.{ltb, eqb}
 use lib.ListN.{length, take, drop}
-use borrow.Author.Tests.{ltb-true, ltb-false, lt-ltb, le-ltb, eqb-true, eqb-false, eq-eqb, ne-eqb}
+use borrow.Author.Tests.{ltb-true, ltb-false, eq-eqb}
 use Rattle.bits.specs.Bits.{withBit, setWhere, flipWhere}
-use Rattle.bits.specs.Lists.{allOf}
 use Rattle.bits.proofs.Cond.{and-left, and-right}
-use Rattle.pin_lists.specs.PinLists.{pinOf, highOf, codeRight, entryRight, restRight, pinsRight, dueCount}
+use Rattle.pin_lists.specs.PinLists.{pinOf, highOf, dueCount}
 use Rattle.pin_lists.proofs.PinLists.{due-within}
 use Rattle.refusals.specs.Refusals.{refusalOf}
 use Rattle.r6501q_state.specs.declared.state.Levels.{Levels}
@@ -37,6 +35,7 @@ use Rattle.leaps.specs.Chip.{ClockOutcome, stopped, ended}
 use Rattle.leaps.specs.World.{after, outcomeIn, plainOf, isDone, doneIn, eventIn}
 use Rattle.leaps.specs.Calls.{callStart, refusalIn}
 use Rattle.r6501q_step.specs.R6501q.{World, clockOutcome, r6501q, plain}
+use Rattle.r6501q_step.proofs.ReleaseLists.{releaseClocks, releaseCodes, belowRes, inserted-take, inserted-drop, inserted-length, due-inserted, suc-same, pins-same}
 
 -- the old start: fresh with RES high in both its levels
 abbrev pub released : State
@@ -48,21 +47,6 @@ released = record {
   last = highLevels;
   clock = 0;
 }
-
--- a list with one entry more, behind the first `count`
-abbrev pub inserted : ℕ → ℕ → List ℕ → List ℕ
-inserted count x l = take count l ++ (x ∷ drop count l)
-
--- the lists with RES high on clock 1 too, last of that clock's inputs
-abbrev pub releaseClocks : List ℕ → List ℕ
-releaseClocks clocks = inserted (dueCount 1 clocks) 1 clocks
-
-abbrev pub releaseCodes : List ℕ → List ℕ → List ℕ
-releaseCodes clocks codes = inserted (dueCount 1 clocks) resHigh codes
-
--- inputs of pins below RES, the last pin
-abbrev pub belowRes : List ℕ → Bool
-belowRes codes = allOf (λ (code : ℕ). ltb (pinOf code) lastPin) codes
 
 -- ---- levels
 
@@ -162,116 +146,6 @@ unfolding eventOf hasInput
 event-new [] code = refl
 event-new (first ∷ codes) code = refl
 
--- ---- the lists
-
-inserted-take : (k x : ℕ) (l : List ℕ) → k ≤ length l → take (suc k) (inserted k x l) ≡ take k l ++ (x ∷ [])
-inserted-take zero x l h = refl
-inserted-take (suc k) x [] h = absurd (omega arith)
-inserted-take (suc k) x (y ∷ l) h = ap {B = List ℕ} (λ r. y ∷ r) (inserted-take k x l (le-of-suc-le-suc h))
-
-inserted-drop : (k x : ℕ) (l : List ℕ) → k ≤ length l → drop (suc k) (inserted k x l) ≡ drop k l
-inserted-drop zero x l h = refl
-inserted-drop (suc k) x [] h = absurd (omega arith)
-inserted-drop (suc k) x (y ∷ l) h = inserted-drop k x l (le-of-suc-le-suc h)
-
--- it is one of clock 1's inputs
-due-inserted : (clocks : List ℕ) → dueCount 1 (releaseClocks clocks) ≡ suc (dueCount 1 clocks)
-unfolding dueCount
-due-inserted [] = refl
-due-inserted (t ∷ clocks) = by-test (eqb t 1) refl (due-inserted clocks)
-  where
-    by-test : (first : Bool) → eqb t 1 ≡ first → dueCount 1 (releaseClocks clocks) ≡ suc (dueCount 1 clocks)
-        → dueCount 1 (inserted (cond first (suc (dueCount 1 clocks)) 0) 1 (t ∷ clocks)) ≡ suc (cond first (suc (dueCount 1 clocks)) 0)
-    by-test true e later = rw e (ap suc later)
-    by-test false e later = rw e
-
-inserted-length : (k x : ℕ) (l : List ℕ) → length (inserted k x l) ≡ suc (length l)
-inserted-length zero x l = refl
-inserted-length (suc k) x [] = refl
-inserted-length (suc k) x (y ∷ l) = ap suc (inserted-length k x l)
-
-suc-same : (m n : ℕ) → eqb (suc m) (suc n) ≡ eqb m n
-suc-same m n = by-test (eqb m n) refl
-  where
-    by-test : (t : Bool) → eqb m n ≡ t → eqb (suc m) (suc n) ≡ t
-    by-test true e = eq-eqb (suc m) (suc n) (ap suc (eqb-true m n e))
-    by-test false e = ne-eqb (suc m) (suc n) (λ z. eqb-false m n e (omega (arith, z)))
-
--- a list of clocks that goes on has no codes behind it
-no-codes : (c p k x : ℕ) (l : List ℕ) → restRight lastPin c p (inserted k x l) [] ≡ false
-unfolding restRight
-no-codes c p zero x l = refl
-no-codes c p (suc k) x [] = refl
-no-codes c p (suc k) x (y ∷ l) = refl
-
-and-none : (a : Bool) → (a && false) ≡ false
-and-none true = refl
-and-none false = refl
-
--- "within one clock pins rise strictly": RES may stand behind any other pin, and an entry of another clock behind it
-entry-res : (pin : ℕ) → pin < lastPin → entryRight lastPin 1 pin 1 resHigh ≡ true
-unfolding entryRight codeRight
-entry-res pin h = rw (lt-ltb pin lastPin h)
-
-entry-behind : (pin t code : ℕ) → eqb t 1 ≡ false → entryRight lastPin 1 lastPin t code ≡ entryRight lastPin 1 pin t code
-unfolding entryRight
-entry-behind pin t code e = rw (ne-eqb 1 t (λ z. eqb-false t 1 e (sym z)))
-
--- so the lists are right just where they were
-rest-same : (pin : ℕ) (ts cs : List ℕ) → pin < lastPin → belowRes (take (dueCount 1 ts) cs) ≡ true
-    → restRight lastPin 1 pin (releaseClocks ts) (releaseCodes ts cs) ≡ restRight lastPin 1 pin ts cs
-unfolding restRight dueCount
-rest-same pin [] [] h b = rw (entry-res pin h)
-rest-same pin [] (c ∷ cs) h b = rw (entry-res pin h)
-rest-same pin (t ∷ ts) [] h b = by-test (eqb t 1) refl
-  where
-    by-test : (first : Bool) → eqb t 1 ≡ first
-        → restRight lastPin 1 pin (inserted (cond first (suc (dueCount 1 ts)) 0) 1 (t ∷ ts)) (inserted (cond first (suc (dueCount 1 ts)) 0) resHigh []) ≡ false
-    by-test true e = rw (no-codes t lastPin (dueCount 1 ts) 1 ts) (and-none (entryRight lastPin 1 pin t resHigh))
-    by-test false e = and-none (entryRight lastPin 1 pin 1 resHigh)
-rest-same pin (t ∷ ts) (c ∷ cs) h b = by-test (eqb t 1) refl b (rest-same (pinOf c) ts cs)
-  where
-    by-test : (first : Bool) → eqb t 1 ≡ first → belowRes (take (cond first (suc (dueCount 1 ts)) 0) (c ∷ cs)) ≡ true
-        → (pinOf c < lastPin → belowRes (take (dueCount 1 ts) cs) ≡ true
-        → restRight lastPin 1 (pinOf c) (releaseClocks ts) (releaseCodes ts cs) ≡ restRight lastPin 1 (pinOf c) ts cs)
-        → restRight lastPin 1 pin (inserted (cond first (suc (dueCount 1 ts)) 0) 1 (t ∷ ts)) (inserted (cond first (suc (dueCount 1 ts)) 0) resHigh (c ∷ cs))
-        ≡ (entryRight lastPin 1 pin t c && restRight lastPin t (pinOf c) ts cs)
-    by-test true e below later =
-        let is = eqb-true t 1 e in
-        let lower = ltb-true (pinOf c) lastPin (and-left (ltb (pinOf c) lastPin) (belowRes (take (dueCount 1 ts) cs)) below) in
-        rw is (ap (λ (r : Bool). entryRight lastPin 1 pin 1 c && r) (later lower (and-right (ltb (pinOf c) lastPin) (belowRes (take (dueCount 1 ts) cs)) below)))
-    by-test false e below later = rw (entry-res pin h, entry-behind pin t c e)
-
-pins-same : (ts cs : List ℕ) → belowRes (take (dueCount 1 ts) cs) ≡ true
-    → pinsRight lastPin 0 (releaseClocks ts) (releaseCodes ts cs) ≡ pinsRight lastPin 0 ts cs
-unfolding pinsRight restRight dueCount codeRight entryRight
-pins-same [] [] b = refl
-pins-same [] (c ∷ cs) b = refl
-pins-same (t ∷ ts) [] b = by-test (eqb t 1) refl
-  where
-    by-test : (first : Bool) → eqb t 1 ≡ first
-        → pinsRight lastPin 0 (inserted (cond first (suc (dueCount 1 ts)) 0) 1 (t ∷ ts)) (inserted (cond first (suc (dueCount 1 ts)) 0) resHigh []) ≡ false
-    by-test true e = rw (no-codes t lastPin (dueCount 1 ts) 1 ts) (and-none (ltb 0 t))
-    by-test false e = refl
-pins-same (t ∷ ts) (c ∷ cs) b = by-test (eqb t 1) refl b
-  where
-    by-test : (first : Bool) → eqb t 1 ≡ first → belowRes (take (cond first (suc (dueCount 1 ts)) 0) (c ∷ cs)) ≡ true
-        → pinsRight lastPin 0 (inserted (cond first (suc (dueCount 1 ts)) 0) 1 (t ∷ ts)) (inserted (cond first (suc (dueCount 1 ts)) 0) resHigh (c ∷ cs))
-        ≡ (codeRight lastPin c && ltb 0 t && restRight lastPin t (pinOf c) ts cs)
-    by-test true e below =
-        let is = eqb-true t 1 e in
-        let lower = ltb-true (pinOf c) lastPin (and-left (ltb (pinOf c) lastPin) (belowRes (take (dueCount 1 ts) cs)) below) in
-        rw is (ap (λ (r : Bool). codeRight lastPin c && ltb 0 1 && r) (rest-same (pinOf c) ts cs lower (and-right (ltb (pinOf c) lastPin) (belowRes (take (dueCount 1 ts) cs)) below)))
-    by-test false e below = by-zero (ltb 0 t) refl
-      where
-        other : t ≡ 1 → ⊥
-        other = eqb-false t 1 e
-
-        by-zero : (some : Bool) → ltb 0 t ≡ some
-            → (entryRight lastPin 1 lastPin t c && restRight lastPin t (pinOf c) ts cs) ≡ (codeRight lastPin c && some && restRight lastPin t (pinOf c) ts cs)
-        by-zero true z = rw (lt-ltb 1 t (omega (arith, ltb-true 0 t z, other)))
-        by-zero false z = rw (ne-eqb 1 t (λ y. other (sym y)), le-ltb 1 t (omega (arith, ltb-false 0 t z)))
-
 -- ---- the world after it
 
 -- with one input more read
@@ -340,8 +214,8 @@ module _ (halt : Halt) (memory clocks codes times words : List ℕ) (below : bel
   unfolding doneIn fresh
   start-done = rw outcome-same outcome-done
 
--- "A list that sets RES on clock 1 itself needs none": RES is then the last of that clock's pins, and the first clock is
--- the old start's in all
+-- A list that sets RES on clock 1 itself, the last of that clock's pins, needs no other input: the first clock is the old
+-- start's in all
 module _ (halt : Halt) (memory clocks codes times words front : List ℕ) (code : ℕ) (given : take (dueCount 1 clocks) codes ≡ front ++ (code ∷ []))
     (below : belowRes front ≡ true) (res : pinOf code ≡ lastPin) where
   given-outcome : outcomeIn (r6501q halt) (callStart fresh memory clocks codes times words) (dueCount 1 clocks)
