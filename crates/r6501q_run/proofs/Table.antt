@@ -100,8 +100,8 @@ pub record Examples : Type 0 where
       ≡ record { a = 0; x = 0; y = 0; sp = 0xFF; p = 0x04; pc = word first last; wait = 4; waiting = Nothing }
   -- 02, U8: fresh, field by field (r6501q_state/proofs/Fresh.antt has the literals)
   pub fresh-fields : FreshFields
-  -- 02, U8, a fresh chip with no inputs: both counters and IFR after clocks 65,535 to 65,537, and the leaps of 65,536 and
-  -- of 65,538 clocks
+  -- 02, U8, a fresh chip with no inputs: both counters and IFR after clocks 65,535 to 65,537, and the leaps of 65,536
+  -- and of 65,538 clocks
   pub held-counts : (memory : List ℕ) → heldRow 65535 memory ≡ 0 ∷ 0 ∷ 0 ∷ []
   pub held-underflow : (memory : List ℕ) → heldRow 65536 memory ≡ 0xFFFF ∷ 0xFFFF ∷ 0x30 ∷ []
   pub held-cleared : (memory : List ℕ) → heldRow 65537 memory ≡ 0xFFFE ∷ 0xFFFE ∷ 0 ∷ []

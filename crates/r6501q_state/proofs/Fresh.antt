@@ -3,8 +3,8 @@ use mathlib.Core.Path.{_≡_, refl}
 use mathlib.Core.Bool.{true, false}
 use Rattle.r6501q_state.specs.State.{fresh}
 
--- "RES low in both its levels, all else as before": A, X, Y, PC, wait 0; SP FFh; P with I set alone; reset due, NMI not;
--- ports FFh; counters and latches FFFFh, turn C; registers 0 but SCSR 40h; serial data and progress 0; every other
+-- "RES low in both its levels, all else as before": A, X, Y, PC, wait 0; SP FFh; P with I set alone; reset due, NMI
+-- not; ports FFh; counters and latches FFFFh, turn C; registers 0 but SCSR 40h; serial data and progress 0; every other
 -- level 1; clock 0
 abbrev pub FreshFields : Type 0
 FreshFields = fresh ≡ record {

@@ -56,8 +56,8 @@ heldFlags n = cond (ltb 0 n && eqb (n % 0x10000) 0) 0x30 0
 abbrev pub heldState : ℕ → State
 heldState n = heldWith (heldCount n) (heldFlags n) n
 
--- an event clock: each 65,536th, with an underflow, and the one after it, where RES low clears IFR; clock 1 is none. And
--- how many there are up to clock n
+-- an event clock: each 65,536th, with an underflow, and the one after it, where RES low clears IFR; clock 1 is none.
+-- And how many there are up to clock n
 abbrev pub heldEvent : ℕ → Bool
 heldEvent n = ltb 1 n && (eqb (n % 0x10000) 0 || eqb (n % 0x10000) 1)
 

@@ -214,8 +214,8 @@ module _ (halt : Halt) (memory clocks codes times words : List ℕ) (below : bel
   unfolding doneIn fresh
   start-done = rw outcome-same outcome-done
 
--- A list that sets RES on clock 1 itself, the last of that clock's pins, needs no other input: the first clock is the old
--- start's in all
+-- A list that sets RES on clock 1 itself, the last of that clock's pins, needs no other input: the first clock is the
+-- old start's in all
 module _ (halt : Halt) (memory clocks codes times words front : List ℕ) (code : ℕ) (given : take (dueCount 1 clocks) codes ≡ front ++ (code ∷ []))
     (below : belowRes front ≡ true) (res : pinOf code ≡ lastPin) where
   given-outcome : outcomeIn (r6501q halt) (callStart fresh memory clocks codes times words) (dueCount 1 clocks)
