@@ -9,7 +9,7 @@ sub-count : tie.Need-sub-count
 sub-count c = search needs
 
 returns : tie.Need-returns
-returns c = rw (c .before .before .prepared .ensures)
+returns c = rw (c .before .before .before .before .prepared .ensures)
 
 pub later-spec : {M : Type 1} → statement M
 later-spec = tie.close (tie.spec prepared-requires sub-count returns)
