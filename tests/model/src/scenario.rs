@@ -1,4 +1,5 @@
-//! Scenario files: a tape, inputs, a number of clocks and of free records, one scenario after another.
+//! Scenario files: a tape, inputs, a number of clocks and of free records, one scenario after another. Each starts from
+//! fresh; its inputs make RES high.
 
 use crate::clock::World;
 use crate::run::{run, MEMORY_LENGTH};

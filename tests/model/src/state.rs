@@ -16,6 +16,7 @@ pub const PORT_D: usize = 3;
 
 /// All 34 pins high: bits 0 to 31 are A0 to D7, bit 32 NMI, bit 33 RES.
 pub const ALL_PINS: u64 = (1 << 34) - 1;
+const RES: u64 = 1 << 33;
 
 /// "B's reload turn (B or C)".
 #[derive(Clone, Copy, PartialEq, Eq, Debug)]
@@ -97,7 +98,7 @@ pub fn fresh_receiver() -> Receiver {
     Receiver { sub_interval: 0, half: 0, bits_left: 0, register: 0 }
 }
 
-/// 01, Machine state, "Fresh: ...".
+/// 01, Machine state, "Fresh: ..."; document 02, U8: "Make fresh mean RES low in both its levels, all else as before."
 pub fn fresh() -> State {
     State {
         a: 0,
@@ -126,8 +127,8 @@ pub fn fresh() -> State {
         data_received: 0,
         transmitter: fresh_transmitter(),
         receiver: fresh_receiver(),
-        external: ALL_PINS,
-        last: ALL_PINS,
+        external: ALL_PINS & !RES,
+        last: ALL_PINS & !RES,
         clock: 0,
     }
 }

@@ -1,6 +1,7 @@
 //! P1 to P8 of 01, and other cases worked out by hand.
 
 mod halt;
+mod held;
 mod shift;
 mod waiting;
 
@@ -9,7 +10,7 @@ use crate::opcodes::{defined, TABLE};
 use crate::pins::{driven_word, pin_levels};
 use crate::registers::{interrupt_flags, register_value, write_register};
 use crate::serial::frame;
-use crate::state::{FLAG_C, FLAG_D, FLAG_I, FLAG_N, FLAG_V, FLAG_Z};
+use crate::state::{ALL_PINS, FLAG_C, FLAG_D, FLAG_I, FLAG_N, FLAG_V, FLAG_Z};
 use crate::*;
 
 const EXAMPLE: &str = ";070200A95585004C040201DE\n;02FFFC000201FF\n;0000030003\n";
@@ -39,14 +40,26 @@ fn world_of(state: State, memory: Vec<u8>, inputs: &[(u32, u8)], free: usize) ->
     }
 }
 
-/// From fresh, with a program at 0200h.
+/// From fresh, RES high on clock 1.
+fn released(memory: Vec<u8>, inputs: &[(u32, u8)], free: usize) -> World {
+    let mut world = world_of(fresh(), memory, inputs, free);
+    world.release();
+    world
+}
+
+/// The same with a program at 0200h.
 fn program(bytes: &[u8], inputs: &[(u32, u8)], free: usize) -> World {
-    world_of(fresh(), memory(&[(0x200, bytes)]), inputs, free)
+    released(memory(&[(0x200, bytes)]), inputs, free)
+}
+
+/// Fresh but for RES, which is high in both its levels.
+fn unheld() -> State {
+    State { external: ALL_PINS, last: ALL_PINS, ..fresh() }
 }
 
 /// A state that runs the instruction at 0200h on its next clock.
 fn ready() -> State {
-    State { reset_due: false, pc: 0x200, ..fresh() }
+    State { reset_due: false, pc: 0x200, ..unheld() }
 }
 
 /// The first clock of one instruction on a ready state.
@@ -146,7 +159,7 @@ fn p7_input_on_the_cut_belongs_to_the_first_half() {
     let inputs = [(10, 0x00), (11, 0x40)];
     let mut world = program(&[0x4C, 0x00, 0x02], &inputs, 8);
     let first = run(&mut world, 10, None);
-    assert_eq!(first.inputs_read, 1);
+    assert_eq!(first.inputs_read, 2); // with that of RES
     let second = run(&mut world, 10, None);
     assert_eq!(second.inputs_read, 1);
     let mut whole = program(&[0x4C, 0x00, 0x02], &inputs, 8);
@@ -167,9 +180,9 @@ fn p8_183_opcodes() {
 fn example_tape() {
     let mut memory = vec![0; 65_536];
     assert_eq!(load_tape(EXAMPLE.as_bytes(), &mut memory), (0, 53));
-    let mut world = world_of(fresh(), memory, &[], 100);
+    let mut world = released(memory, &[], 100);
     let outcome = run(&mut world, 100, None);
-    assert_eq!(outcome.number, 0);
+    assert_eq!((outcome.number, outcome.inputs_read), (0, 1));
     assert_eq!(records(&world), [(12, 0xFFFFFF55)]);
     // Event clocks: reset on 1, LDA 8, STA 10, its byte put on 12, JMP on 13, 16, ... 100: 30 times, the first with a
     // level change (PA1, PA3, PA5, PA7 fall).
@@ -324,7 +337,7 @@ fn jump_indirect_takes_its_high_byte_from_the_same_page() {
 #[test]
 fn jump_indirect_at_the_registers() {
     // 00FFh: 0000h, port A by step 1's levels, PA0 being held low outside
-    let external = crate::state::ALL_PINS & !1;
+    let external = ALL_PINS & !1;
     let state = State { external, last: external, ..ready() };
     let world = one(state, &[(0x200, &[0x6C, 0xFF, 0x00]), (0xFF, &[0x34, 0x12])]);
     assert_eq!((world.state.pc, world.state.wait), (0xFE34, 4));
@@ -386,7 +399,7 @@ fn crossed_pages_add_a_clock_to_reads_only() {
 #[test]
 fn read_modify_write_sees_the_port_latch() {
     // PB0 held low outside; latch FFh: INC 01h gives 00h, LDA 01h gives FEh
-    let external = crate::state::ALL_PINS & !(1 << 8);
+    let external = ALL_PINS & !(1 << 8);
     let state = State { external, last: external, ..ready() };
     let world = whole(state.clone(), &[(0x200, &[0xE6, 0x01])]);
     assert_eq!(world.state.ports[1], 0x00);
@@ -438,7 +451,7 @@ fn pulse_mode_of_a_starts_high_and_is_held_by_the_serial_channel() {
 #[test]
 fn retrigger_on_the_clock_of_an_underflow() {
     // B at 0 in mode 11 and PA5 rises: reload, no flag
-    let low = crate::state::ALL_PINS & !(1 << 5);
+    let low = ALL_PINS & !(1 << 5);
     let state = State { mcr: 0x0C, counter_b: 0, latch_b: 7, wait: 6, external: low, last: low, ..ready() };
     let mut world = world_of(state.clone(), memory(&[]), &[(1, 0x45)], 0);
     plain(&mut world, None);
@@ -453,7 +466,7 @@ fn stops_change_nothing_else() {
     // 02h is undefined; on clock 8 after the reset entry
     let mut world = program(&[0x02], &[(8, 0x00)], 0);
     assert_eq!(run(&mut world, 100, None).number, 6);
-    assert_eq!((world.state.clock, world.read), (7, 0));
+    assert_eq!((world.state.clock, world.read), (7, 1));
     // an NMI fall on that clock prevents it; its vector leads to 0000h, where port A's FEh is defined (INC abs,X)
     let mut world = program(&[0x02], &[(8, 0x20)], 0);
     assert_eq!(run(&mut world, 8, None).number, 0);
@@ -488,7 +501,7 @@ fn nmi_fall_is_taken_once() {
     // JMP loop at 0200h; NMI low from 9; vector to 0300h: INC 80h, RTI
     let parts: &[(usize, &[u8])] =
         &[(0x200, &[0x4C, 0x00, 0x02]), (0x300, &[0xE6, 0x80, 0x40]), (0xFFFA, &[0x00, 0x03])];
-    let mut world = world_of(fresh(), memory(parts), &[(9, 0x20)], 0);
+    let mut world = released(memory(parts), &[(9, 0x20)], 0);
     run(&mut world, 200, None);
     assert_eq!(world.memory[0x80], 1);
 }

@@ -16,13 +16,19 @@ os.makedirs(OUT, exist_ok=True)
 SCENARIOS = []
 
 
+RELEASE = (1, 0x61)
+
+
 def S(title, source, clocks, free, hand=None, inputs=(), vectors=None):
-    """hand: text 'clock word, clock word, ... end k s' worked out on paper, or None."""
+    """hand: text 'clock word, clock word, ... end k s' worked out on paper, or None. RES gets high on clock 1 (document
+    02, U8), before all inputs that are given here."""
     if vectors:
         image = assemble(source + '|.org $FFFA|.word %s,$0200,%s' % vectors)
     else:
         image = assemble(source + '|.org $FFFC|.word $0200')
-    lines = [line.strip() for line in title.strip().split('\n')]
+    lines = [line.strip().removeprefix('Hand: ') for line in title.strip().split('\n')]
+    inputs = [RELEASE] + list(inputs)
+    assert all(clock > 1 for clock, _ in inputs[1:]), title
     for line in lines:
         assert not set(line) & set(';+='), line
         assert max(map(ord, line)) < 128, line

@@ -219,6 +219,7 @@ def inputs(r, clocks):
     best = {}
     for clock, code in pins:
         best[(clock, code & 63)] = code
+    best.setdefault((1, 33), 33 | 64)  # RES high on clock 1 (document 02, U8), unless the list sets it itself
     listed = [(c, best[(c, p)]) for c, p in sorted(best)][:32]
     if r.random() < 0.01 and len(listed) > 1:
         listed.reverse()

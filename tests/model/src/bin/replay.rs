@@ -1,4 +1,4 @@
-//! 01, Tape: the program `replay`, with the plain-clock model.
+//! 01, Tape: the program `replay`, with the plain-clock model; RES gets high on clock 1 (document 02, U8).
 
 use plain_clock::{fresh, load_tape, run, World};
 use std::io::Read;
@@ -27,6 +27,7 @@ fn main() {
         written: 0,
         stop: 0,
     };
+    world.release();
     let outcome = run(&mut world, CLOCKS, None);
     for record in 0..world.written {
         println!("{} {:08X}", world.output_clocks[record], world.output_words[record]);

@@ -1,15 +1,15 @@
 //! Document 02, U4: halts after the clock of a write at a chosen address.
 
-use super::{memory, program, ready, records, world_of, EXAMPLE};
+use super::{memory, program, ready, records, released, world_of, EXAMPLE};
 use crate::accesses::AccessKind;
 use crate::state::FLAG_I;
 use crate::*;
 
-/// 01's tape from fresh, with so many free records.
+/// 01's tape from fresh, RES high on clock 1, with so many free records.
 fn example(free: usize) -> World {
     let mut memory = vec![0; 65_536];
     assert_eq!(load_tape(EXAMPLE.as_bytes(), &mut memory), (0, 53));
-    world_of(fresh(), memory, &[], free)
+    released(memory, &[], free)
 }
 
 /// The addresses that the next clock writes, in order.

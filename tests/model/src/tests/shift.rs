@@ -1,7 +1,7 @@
 //! The shift-register mode: document 02, U1, and source document 001, 5. Worked out by hand.
 
 use super::*;
-use crate::state::{fresh_receiver, fresh_transmitter, ALL_PINS};
+use crate::state::{fresh_receiver, fresh_transmitter};
 
 const PA4: u8 = 0x04;
 const PA7: u8 = 0x07;

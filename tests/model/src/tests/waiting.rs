@@ -4,7 +4,7 @@ use super::*;
 use crate::accesses::AccessKind;
 use crate::cpu::Start;
 use crate::opcodes::{Addressing, Operation};
-use crate::state::{fresh_transmitter, ALL_PINS};
+use crate::state::fresh_transmitter;
 
 const RES_LOW: u8 = 33;
 const RES_HIGH: u8 = 64 + 33;
@@ -194,9 +194,8 @@ fn reset_low_drops_the_byte() {
 
 #[test]
 fn a_dropped_byte_alone_makes_an_event_clock() {
-    // RES has been low for long, but the state was lent with a byte waiting
-    let low = ALL_PINS & !(1 << 33);
-    let state = State { external: low, last: low, reset_due: true, wait: 1, waiting: waits(0, 0), ..fresh() };
+    // held, but the state was lent with a byte waiting
+    let state = State { wait: 1, waiting: waits(0, 0), ..fresh() };
     let mut world = world_of(state.clone(), memory(&[]), &[], 0);
     let report = plain(&mut world, None).unwrap();
     assert!(report.event && report.met.reset_changes && report.put.is_none());
