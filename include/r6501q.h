@@ -200,7 +200,9 @@ typedef struct r6501q_latch_result {
     uint16_t value; /* the latch value, 0 where none is found */
 } r6501q_latch_result;
 
-/* A chip that has not run yet: reset due, clock 0, no byte waiting, all levels high. Always well-formed. */
+/* A chip that has not run yet: reset due, clock 0, no byte waiting, RES low in both its levels, all other levels high.
+ * Always well-formed. It is held, its counters counting, until an input makes RES high (document 02, U8): with clock 1
+ * and R6501Q_PIN_RES + R6501Q_HIGH, behind that clock's other inputs, its reset entry begins on clock 1. */
 r6501q_state r6501q_fresh(void);
 
 /* 1 where every field of the state is within its range, 0 where one is not. The one rule across fields is that of a byte

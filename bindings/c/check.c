@@ -37,7 +37,27 @@ static r6501q_call_result run(r6501q_state state, uint32_t n)
         R6501Q_NO_HALT);
 }
 
-/* Document 01, "Fresh". */
+/* The input that releases a fresh chip: RES high on clock 1 (document 02, U8). */
+static const uint32_t release_clocks[] = {1};
+static const uint8_t release_codes[] = {R6501Q_PIN_RES + R6501Q_HIGH};
+
+/* A fresh chip, released, with space for so many records. */
+static r6501q_call_result start(size_t records, uint32_t n, uint32_t halt)
+{
+    return r6501q_run(r6501q_fresh(), memory, sizeof memory, release_clocks, 1, release_codes, 1, output_clocks,
+        records, output_words, records, n, halt);
+}
+
+/* Fresh but for RES, which is high in both its levels. */
+static r6501q_state unheld(void)
+{
+    r6501q_state s = r6501q_fresh();
+    s.external.res = 1;
+    s.last.res = 1;
+    return s;
+}
+
+/* Document 01, "Fresh"; document 02, U8: RES is low in both its levels. */
 static void check_fresh(void)
 {
     const r6501q_state s = r6501q_fresh();
@@ -79,10 +99,10 @@ static void check_fresh(void)
     SAME(s.peripherals.receiver.register_, 0);
     SAME(s.external.ports, 0xFFFFFFFF);
     SAME(s.external.nmi, 1);
-    SAME(s.external.res, 1);
+    SAME(s.external.res, 0);
     SAME(s.last.ports, 0xFFFFFFFF);
     SAME(s.last.nmi, 1);
-    SAME(s.last.res, 1);
+    SAME(s.last.res, 0);
     SAME(s.clock, 0);
     SAME(r6501q_well_formed(s), 1);
 }
@@ -138,7 +158,7 @@ static void check_waiting(void)
     r6501q_call_result result;
     size_t i;
     for (i = 0; i < sizeof states / sizeof *states; i++) {
-        r6501q_state s = r6501q_fresh();
+        r6501q_state s = unheld();
         s.cpu.wait = states[i].wait;
         s.cpu.waiting.there = states[i].there;
         s.cpu.waiting.address = states[i].address;
@@ -194,8 +214,9 @@ static void check_registers(void)
     r6501q_state s;
     place(program, sizeof program);
     /* Reset 7, LDX and LDY 4, fifteen pairs of LDA and STA 75, PHA 3, LDA 2, and the first clock of JMP. */
-    result = run(r6501q_fresh(), 7 + 4 + 75 + 3 + 2 + 1);
+    result = start(100, 7 + 4 + 75 + 3 + 2 + 1, R6501Q_NO_HALT);
     SAME(result.number, 0);
+    SAME(result.read, 1);
     s = result.state;
     SAME(s.clock, 92);
     SAME(s.cpu.a, 0x66);
@@ -244,7 +265,7 @@ static void check_registers(void)
 /* The serial halves' progress, the turn, NMI due and a byte waiting: from a state that is lent, one clock on. */
 static void check_progress(void)
 {
-    r6501q_state s = r6501q_fresh();
+    r6501q_state s = unheld();
     r6501q_call_result result;
     memset(memory, 0, sizeof memory);
     s.due.reset = 0;
@@ -303,14 +324,15 @@ static void check_progress(void)
 /* Inputs: levels before and after, NMI due, RES low. */
 static void check_inputs(void)
 {
-    static const uint32_t input_clocks[] = {3, 3, 5, 200};
-    static const uint8_t input_codes[] = {31, R6501Q_PIN_NMI, R6501Q_PIN_RES, 31 + R6501Q_HIGH};
+    static const uint32_t input_clocks[] = {1, 3, 3, 5, 200};
+    static const uint8_t input_codes[]
+        = {R6501Q_PIN_RES + R6501Q_HIGH, 31, R6501Q_PIN_NMI, R6501Q_PIN_RES, 31 + R6501Q_HIGH};
     r6501q_call_result result;
     memset(memory, 0, sizeof memory);
-    result = r6501q_run(r6501q_fresh(), memory, sizeof memory, input_clocks, 4, input_codes, 4, output_clocks, 0,
+    result = r6501q_run(r6501q_fresh(), memory, sizeof memory, input_clocks, 5, input_codes, 5, output_clocks, 0,
         output_words, 0, 3, R6501Q_NO_HALT);
     SAME(result.number, 0);
-    SAME(result.read, 2);
+    SAME(result.read, 3);
     SAME(result.state.external.ports, 0x7FFFFFFF);
     SAME(result.state.last.ports, 0x7FFFFFFF);
     SAME(result.state.external.nmi, 0);
@@ -319,7 +341,7 @@ static void check_inputs(void)
     SAME(result.state.last.res, 1);
     SAME(result.state.due.reset, 0);
     SAME(result.state.due.nmi, 1);
-    result = r6501q_run(result.state, memory, sizeof memory, input_clocks + 2, 2, input_codes + 2, 2, output_clocks, 0,
+    result = r6501q_run(result.state, memory, sizeof memory, input_clocks + 3, 2, input_codes + 3, 2, output_clocks, 0,
         output_words, 0, 2, R6501Q_NO_HALT);
     SAME(result.number, 0);
     SAME(result.read, 1);
@@ -351,10 +373,10 @@ static void check_example(void)
 
     memset(output_clocks, 0xEE, sizeof output_clocks);
     memset(output_words, 0xEE, sizeof output_words);
-    result = run(r6501q_fresh(), 100);
+    result = start(100, 100, R6501Q_NO_HALT);
     SAME(result.number, R6501Q_DONE);
     SAME(result.state.clock, 100);
-    SAME(result.read, 0);
+    SAME(result.read, 1);
     SAME(result.written, 1);
     SAME(output_clocks[0], 12);
     SAME(output_words[0], 0xFFFFFF55);
@@ -365,9 +387,11 @@ static void check_example(void)
 
     result.state = r6501q_fresh();
     for (clock = 1; clock <= 100; clock++) {
-        result = r6501q_step(result.state, memory, sizeof memory, NULL, 0, NULL, 0, output_clocks, 1, output_words, 1,
-            R6501Q_NO_HALT);
+        const size_t inputs = clock == 1;
+        result = r6501q_step(result.state, memory, sizeof memory, release_clocks, inputs, release_codes, inputs,
+            output_clocks, 1, output_words, 1, R6501Q_NO_HALT);
         SAME(result.number, R6501Q_DONE);
+        SAME(result.read, inputs);
         SAME(result.state.clock, clock);
         SAME(result.leaps, 1);
         SAME(result.state.cpu.waiting.there, clock == 10 || clock == 11);
@@ -376,8 +400,7 @@ static void check_example(void)
     SAME(result.state.cpu.pc, 0x204);
     SAME(result.state.cpu.wait, 2);
 
-    result = r6501q_run(
-        r6501q_fresh(), memory, sizeof memory, NULL, 0, NULL, 0, NULL, 0, NULL, 0, 100, R6501Q_NO_HALT);
+    result = start(0, 100, R6501Q_NO_HALT);
     SAME(result.number, R6501Q_NO_FREE_RECORD);
     SAME(result.state.clock, 11);
     SAME(result.state.cpu.wait, 1);
@@ -419,14 +442,17 @@ static void check_refusals(void)
     REFUSED(65536, 2, 2, 2, 2, 5, R6501Q_WRONG_PIN_LIST);
     s.clock = 0xFFFFFFF0;
     REFUSED(65536, 2, 2, 2, 2, 16, R6501Q_CLOCK_TOO_HIGH);
+    REFUSED(65536, 0, 0, 2, 2, 7, R6501Q_DONE); /* not refused: held by RES */
+    s.external.res = 1;
     REFUSED(65536, 0, 0, 2, 2, 7, R6501Q_DONE); /* not refused: the reset entry, which pushes nothing */
     s.due.nmi = 2;
     REFUSED(65536, 2, 1, 2, 2, 16, R6501Q_STATE_NOT_WELL_FORMED);
 #undef REFUSED
     memory[0xFFFD] = 2;
     memory[0x200] = 2;
-    SAME(run(r6501q_fresh(), 7).number, R6501Q_DONE);
-    SAME(run(r6501q_fresh(), 8).number, R6501Q_UNDEFINED_OPCODE);
+    SAME(start(100, 7, R6501Q_NO_HALT).number, R6501Q_DONE);
+    SAME(start(100, 8, R6501Q_NO_HALT).number, R6501Q_UNDEFINED_OPCODE);
+    SAME(run(r6501q_fresh(), 8).number, R6501Q_DONE);
 }
 
 /* Document 02, U4 and U6: STA port A of 55h, put on clock 12, JSR on clock 13 with pushes at FFh and FEh, a store at
@@ -444,8 +470,7 @@ static void check_halts(void)
     size_t i;
     for (i = 0; i < sizeof halts / sizeof *halts; i++) {
         place(program, sizeof program);
-        result = r6501q_run(r6501q_fresh(), memory, sizeof memory, NULL, 0, NULL, 0, output_clocks, 100, output_words,
-            100, 40, halts[i].halt);
+        result = start(100, 40, halts[i].halt);
         SAME(result.number, R6501Q_HALTED_AT_WRITE);
         SAME(result.state.clock, halts[i].clock);
         SAME(result.written, 1);
@@ -454,7 +479,7 @@ static void check_halts(void)
         SAME(result.number, R6501Q_DONE);
         SAME(result.state.clock, halts[i].clock + 40);
         place(program, sizeof program);
-        result = run(r6501q_fresh(), halts[i].clock - 1);
+        result = start(100, halts[i].clock - 1, R6501Q_NO_HALT);
         result = r6501q_step(result.state, memory, sizeof memory, NULL, 0, NULL, 0, output_clocks, 100, output_words,
             100, halts[i].halt);
         SAME(result.number, R6501Q_HALTED_AT_WRITE);
@@ -462,16 +487,40 @@ static void check_halts(void)
     }
     for (i = 0; i < sizeof nowhere / sizeof *nowhere; i++) {
         place(program, sizeof program);
-        result = r6501q_run(r6501q_fresh(), memory, sizeof memory, NULL, 0, NULL, 0, output_clocks, 100, output_words,
-            100, 40, nowhere[i]);
+        result = start(100, 40, nowhere[i]);
         SAME(result.number, R6501Q_DONE);
         SAME(result.state.clock, 40);
     }
     place(program, sizeof program);
-    result = r6501q_run(
-        r6501q_fresh(), memory, sizeof memory, NULL, 0, NULL, 0, NULL, 0, NULL, 0, 100, 0x0000);
+    result = start(0, 100, 0x0000);
     SAME(result.number, R6501Q_NO_FREE_RECORD);
     SAME(result.state.clock, 11);
+}
+
+/* Document 02, U8: a fresh chip without inputs stays held, its counters counting. */
+static void check_held(void)
+{
+    static const uint32_t clocks[] = {0, 1, 65535, 65536, 65537, 65538, 131072, 0xFFFFFFFFu};
+    static const uint32_t leaps[] = {0, 1, 1, 1, 2, 3, 3, 131071};
+    size_t i;
+    for (i = 0; i < sizeof clocks / sizeof *clocks; i++) {
+        const uint32_t n = clocks[i];
+        r6501q_call_result result;
+        memset(memory, 0x48, sizeof memory); /* PHA everywhere */
+        result = run(r6501q_fresh(), n);
+        SAME(result.number, R6501Q_DONE);
+        SAME(result.leaps, leaps[i]);
+        SAME(result.read, 0);
+        SAME(result.written, 0);
+        SAME(result.state.clock, n);
+        SAME(result.state.cpu.pc, 0);
+        SAME(result.state.cpu.wait, 0);
+        SAME(result.state.due.reset, 1);
+        SAME(result.state.peripherals.countera.count, 65535 - n % 65536);
+        SAME(result.state.peripherals.counterb.count, 65535 - n % 65536);
+        SAME(result.state.peripherals.control.ifr, n > 0 && n % 65536 == 0 ? 0x30 : 0);
+        SAME(memory[0xFF], 0x48);
+    }
 }
 
 /* Document 02's two examples of U2, and its limits. */
@@ -510,6 +559,7 @@ int main(void)
     check_example();
     check_refusals();
     check_halts();
+    check_held();
     check_latch();
     if (faults != 0) {
         printf("%d faults\n", faults);

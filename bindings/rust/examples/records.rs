@@ -1,5 +1,5 @@
 //! Runs a tape with a list of inputs and writes the records as CSV to standard output: the clock and ports A to D, or
-//! the clock and the pins that are named.
+//! the clock and the pins that are named. RES gets high on clock 1, unless the list sets it on that clock itself.
 //! usage: records TAPE INPUTS CLOCKS [PIN..]
 use r6501q::{Chip, Level, Pin, Record};
 use std::error::Error;
@@ -27,6 +27,7 @@ fn records(tape: &str, inputs: &str, clocks: &str, pins: &[String]) -> Result<()
     let mut chip = Chip::new();
     chip.load(&std::fs::read(tape).map_err(|e| format!("{tape}: {e}"))?).map_err(|e| format!("{tape}: {e}"))?;
     append(&mut chip, inputs)?;
+    chip.release();
 
     let mut rows = Rows::new(BufWriter::new(io::stdout().lock()), pins)?;
     let mut written = Ok(());

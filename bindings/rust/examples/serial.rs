@@ -33,6 +33,7 @@ fn main() -> Result<(), Number> {
         chip.input(clock, Pin::PA7, level)?;
         clock += CLOCKS_PER_BIT;
     }
+    chip.release();
     chip.run(clock)?;
 
     let mut received = Vec::new();

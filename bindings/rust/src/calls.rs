@@ -36,6 +36,11 @@ pub const fn code(pin: u8, high: bool) -> u8 {
     }
 }
 
+/// The input that releases a fresh chip, which is held with RES low (document 02, U8): clock and code of RES high on
+/// clock 1. It stands behind that clock's other inputs, since no pin is above RES. [`Chip::release`](crate::Chip::release)
+/// puts it there.
+pub const RELEASE: (u32, u8) = (1, code(PIN_RES, true));
+
 /// What a run or a step hands back.
 #[must_use]
 #[derive(Clone, Copy, PartialEq, Eq, Debug)]
@@ -90,11 +95,11 @@ fn call_result(host: HostCallResult) -> CallResult {
 /// 0.
 ///
 /// ```
-/// use r6501q::{step, Number, State, MEMORY_LENGTH};
+/// use r6501q::{step, Number, State, MEMORY_LENGTH, RELEASE};
 ///
 /// let mut memory = vec![0; MEMORY_LENGTH];
-/// let result = step(State::fresh(), &mut memory, &[], &[], &mut [], &mut [], None);
-/// assert_eq!((result.number, result.leaps), (Number::Done, 1));
+/// let result = step(State::fresh(), &mut memory, &[RELEASE.0], &[RELEASE.1], &mut [], &mut [], None);
+/// assert_eq!((result.number, result.leaps, result.read), (Number::Done, 1, 1));
 /// assert_eq!((result.state.clock, result.state.cpu.wait), (1, 6)); // the reset entry takes 7 clocks
 /// ```
 #[inline]
@@ -127,20 +132,26 @@ pub fn step(
 ///   goes on behind the write.
 ///
 /// ```
-/// use r6501q::{run, Number, State, MEMORY_LENGTH};
+/// use r6501q::{run, Number, State, MEMORY_LENGTH, RELEASE};
+/// let (clocks, codes) = (&[RELEASE.0], &[RELEASE.1]);
 ///
 /// // A memory of zeros holds BRK alone, which goes on forever; 02h is undefined.
 /// let mut memory = vec![0; MEMORY_LENGTH];
-/// let result = run(State::fresh(), &mut memory, &[], &[], &mut [], &mut [], 1_000, None);
+/// let result = run(State::fresh(), &mut memory, clocks, codes, &mut [], &mut [], 1_000, None);
 /// assert_eq!((result.number, result.state.clock), (Number::Done, 1_000));
 ///
 /// let mut memory = vec![2; MEMORY_LENGTH];
-/// let result = run(State::fresh(), &mut memory, &[], &[], &mut [], &mut [], 1_000, None);
+/// let result = run(State::fresh(), &mut memory, clocks, codes, &mut [], &mut [], 1_000, None);
 /// assert_eq!((result.number, result.state.clock), (Number::UndefinedOpcode, 7));
+///
+/// // Not released, a fresh chip starts nothing; its counters count.
+/// let result = run(State::fresh(), &mut memory, &[], &[], &mut [], &mut [], 1_000, None);
+/// assert_eq!((result.number, result.state.clock), (Number::Done, 1_000));
+/// assert_eq!((result.state.cpu.pc, result.state.peripherals.countera.count), (0, 65_535 - 1_000));
 ///
 /// // PHA alone: a push on clocks 8, 11, 14, .. at 00FFh, 00FEh, 00FDh, ..
 /// let mut memory = vec![0x48; MEMORY_LENGTH];
-/// let result = run(State::fresh(), &mut memory, &[], &[], &mut [], &mut [], 1_000, Some(0x00FD));
+/// let result = run(State::fresh(), &mut memory, clocks, codes, &mut [], &mut [], 1_000, Some(0x00FD));
 /// assert_eq!((result.number, result.state.clock), (Number::HaltedAtWrite, 14));
 /// let result = run(result.state, &mut memory, &[], &[], &mut [], &mut [], 100, Some(0x00FD));
 /// assert_eq!((result.number, result.state.clock), (Number::Done, 114));

@@ -19,6 +19,7 @@ const SPACE: usize = 4_096;
 /// chip.memory[0x0200..0x0205].copy_from_slice(&[0xE6, 0x00, 0x4C, 0x00, 0x02]);
 /// chip.memory[0xFFFC..0xFFFE].copy_from_slice(&0x0200u16.to_le_bytes());
 /// chip.input(1_000, Pin::PB0, Level::Low)?;
+/// chip.release();
 ///
 /// let mut records = 0;
 /// chip.run_with(1_000_000, |_record| records += 1)?;
@@ -41,6 +42,7 @@ const SPACE: usize = 4_096;
 /// chip.memory[0x0200..0x0205].copy_from_slice(&[0xE6, 0x40, 0x4C, 0x00, 0x02]);
 /// chip.memory[0xFFFC..0xFFFE].copy_from_slice(&0x0200u16.to_le_bytes());
 /// chip.halt = Some(0x0040);
+/// chip.release();
 ///
 /// let mut clocks = Vec::new();
 /// while let Err(number) = chip.run(30 - chip.state.clock) {
@@ -75,7 +77,8 @@ enum Call {
 }
 
 impl Chip {
-    /// A fresh chip with a memory of zeros.
+    /// A fresh chip with a memory of zeros. It is held until [`release`](Chip::release), or another input that makes RES
+    /// high.
     #[must_use]
     pub fn new() -> Chip {
         Chip::with(State::fresh(), vec![0; MEMORY_LENGTH])
@@ -141,6 +144,34 @@ impl Chip {
         self.input_clocks.push(clock);
         self.input_codes.push(pin.code(level));
         Ok(())
+    }
+
+    /// Releases a chip that is held by RES, as a fresh one is (document 02, U8): on the next clock RES gets high,
+    /// behind that clock's other inputs. Nothing is added where the inputs set RES on that clock themselves. Call it
+    /// when the inputs of that clock are there: none of them can be appended behind it.
+    ///
+    /// ```
+    /// use r6501q::{Chip, Level, Pin};
+    ///
+    /// let mut chip = Chip::new();
+    /// chip.run(5)?;
+    /// assert_eq!((chip.state.due.reset, chip.state.last.res), (1, 0)); // held
+    /// chip.input(6, Pin::PA0, Level::Low)?;
+    /// chip.input(8, Pin::PA0, Level::High)?;
+    /// chip.release();
+    /// chip.run(1)?;
+    /// assert_eq!((chip.state.due.reset, chip.state.last.res, chip.state.cpu.wait), (0, 1, 6)); // in the reset entry
+    /// assert_eq!(chip.read(), 2);
+    /// # Ok::<(), r6501q::Number>(())
+    /// ```
+    pub fn release(&mut self) {
+        let Some(next) = self.state.clock.checked_add(1) else { return };
+        let behind = self.due(1).min(self.input_codes.len());
+        let set = self.input_codes[self.read..behind].last().is_some_and(|code| code % 64 == Pin::RES.number());
+        if !set {
+            self.input_clocks.insert(behind, next);
+            self.input_codes.insert(behind, Pin::RES.code(Level::High));
+        }
     }
 
     /// `n` clocks. The records stay in the chip until [`take_records`](Chip::take_records).

@@ -1,6 +1,6 @@
 //! A Rockwell R6501Q, clock by clock: safe calls of the proved library.
 //!
-//! [`Chip`] owns all that a chip needs. Load a tape, append inputs, run, take the records:
+//! [`Chip`] owns all that a chip needs. Load a tape, append inputs, release it from RES, run, take the records:
 //!
 //! ```
 //! use r6501q::{Chip, Level, Pin, Record};
@@ -9,6 +9,7 @@
 //! let mut chip = Chip::new();
 //! chip.load(b";070200A95585004C040201DE\n;02FFFC000201FF\n;0000030003\n")?;
 //! chip.input(20, Pin::PA0, Level::Low)?;
+//! chip.release();
 //! chip.run(100)?;
 //! assert_eq!(chip.take_records(), [Record { clock: 12, word: 0xFFFF_FF55 }]);
 //! # Ok::<(), Box<dyn std::error::Error>>(())
@@ -19,20 +20,22 @@
 //! one of document 01's numbers ([`Number`]), whatever it is given, and none panics. A run goes by leaps from event to
 //! event and, where it is not refused, ends as the same number of single clocks would. Inputs are two lists of equal
 //! length, clocks and codes ([`code`] makes one); outputs are two lists, clocks and driven words. A call gives back how
-//! many entries it has read and written, and the next call is lent the rest:
+//! many entries it has read and written, and the next call is lent the rest. A fresh chip is held with RES low until an
+//! input makes it high (document 02, U8), as [`RELEASE`] does on clock 1:
 //!
 //! ```
-//! use r6501q::{code, run, step, Number, State, MEMORY_LENGTH};
+//! use r6501q::{code, run, step, Number, State, MEMORY_LENGTH, RELEASE};
 //!
 //! let mut memory = vec![0; MEMORY_LENGTH];
 //! memory[0xFFFD] = 2; // the reset vector: 0200h
 //! memory[0x200..0x203].copy_from_slice(&[0x4C, 0x00, 0x02]); // jumps in place
-//! let (input_clocks, input_codes) = ([5, 5, 9], [code(0, false), code(1, false), code(0, true)]);
+//! let input_clocks = [RELEASE.0, 5, 5, 9];
+//! let input_codes = [RELEASE.1, code(0, false), code(1, false), code(0, true)];
 //! let (mut output_clocks, mut output_words) = ([0; 8], [0; 8]);
 //!
 //! let first =
 //!     run(State::fresh(), &mut memory, &input_clocks, &input_codes, &mut output_clocks, &mut output_words, 8, None);
-//! assert_eq!((first.number, first.read), (Number::Done, 2));
+//! assert_eq!((first.number, first.read), (Number::Done, 3));
 //! assert_eq!(first.state.external.ports, 0xFFFF_FFFC);
 //!
 //! let (input_clocks, input_codes) = (&input_clocks[first.read..], &input_codes[first.read..]);
@@ -69,7 +72,7 @@ mod pin;
 mod record;
 mod state;
 
-pub use calls::{code, load, run, step, CallResult, LoadResult, MEMORY_LENGTH, PIN_NMI, PIN_RES};
+pub use calls::{code, load, run, step, CallResult, LoadResult, MEMORY_LENGTH, PIN_NMI, PIN_RES, RELEASE};
 pub use chip::{Chip, RefusedTape};
 pub use frame::{Frame, Parity};
 pub use latch::{latch, Latch, HIGHEST_RATE, HIGHEST_TOLERANCE};

@@ -201,11 +201,13 @@ pub struct State {
 }
 
 impl State {
-    /// A chip that has not run yet.
+    /// A chip that has not run yet. RES is low in both its levels: it is held until an input makes RES high
+    /// ([`RELEASE`](crate::RELEASE)).
     ///
     /// ```
     /// let state = r6501q::State::fresh();
     /// assert_eq!((state.clock, state.cpu.sp, state.due.reset), (0, 0xFF, 1));
+    /// assert_eq!((state.external.res, state.last.res, state.external.nmi, state.last.nmi), (0, 0, 1, 1));
     /// assert!(state.is_well_formed());
     /// ```
     #[must_use]

@@ -1,5 +1,5 @@
 //! A chip that owns its lists does what the plain calls do, and 7 never ends a run of it.
-use r6501q::{run, Chip, Level, Number, Pin, Record, State, MEMORY_LENGTH};
+use r6501q::{run, Chip, Level, Number, Pin, Record, State, MEMORY_LENGTH, RELEASE};
 
 // INC 00h, then again: a record each 8 clocks, the first on clock 12.
 fn counting() -> Vec<u8> {
@@ -14,8 +14,15 @@ fn inputs(n: u32) -> impl Iterator<Item = (u32, Level)> {
     (1..=n).map(|i| (7 * i, Level::from(i % 2 == 0)))
 }
 
-fn with_inputs(n: u32) -> Chip {
+// A fresh chip, released.
+fn started() -> Chip {
     let mut chip = Chip::with(State::fresh(), counting());
+    chip.release();
+    chip
+}
+
+fn with_inputs(n: u32) -> Chip {
+    let mut chip = started();
     for (clock, level) in inputs(n) {
         assert_eq!(chip.input(clock, Pin::PB0, level), Ok(()));
     }
@@ -25,8 +32,8 @@ fn with_inputs(n: u32) -> Chip {
 // The same by one plain call with all the space that it needs.
 fn plainly(n: u32) -> (State, Vec<u8>, Vec<Record>) {
     let mut memory = counting();
-    let (clocks, codes): (Vec<u32>, Vec<u8>) =
-        inputs(n / 7 + 10).map(|(clock, level)| (clock, Pin::PB0.code(level))).unzip();
+    let coded = inputs(n / 7 + 10).map(|(clock, level)| (clock, Pin::PB0.code(level)));
+    let (clocks, codes): (Vec<u32>, Vec<u8>) = std::iter::once(RELEASE).chain(coded).unzip();
     let (mut output_clocks, mut output_words) = (vec![0; n as usize], vec![0; n as usize]);
     let result = run(State::fresh(), &mut memory, &clocks, &codes, &mut output_clocks, &mut output_words, n, None);
     assert_eq!(result.number, Number::Done);
@@ -40,7 +47,7 @@ fn a_run_makes_space_for_its_records() {
     let mut chip = with_inputs(n / 7 + 10);
     assert_eq!(chip.run(n), Ok(()));
     let (state, memory, records) = plainly(n);
-    assert_eq!((chip.state, chip.read()), (state, (n / 7) as usize));
+    assert_eq!((chip.state, chip.read()), (state, 1 + (n / 7) as usize));
     assert_eq!(chip.memory, memory);
     assert_eq!(chip.take_records(), records);
     assert_eq!(chip.take_records(), []);
@@ -72,7 +79,7 @@ fn steps_are_runs_of_one() {
 
 #[test]
 fn a_stop_keeps_what_was_reached() {
-    let mut chip = Chip::with(State::fresh(), counting());
+    let mut chip = started();
     chip.memory[0x0202] = 2; // undefined
     let mut taken = Vec::new();
     assert_eq!(chip.run_with(100, |record| taken.push(record)), Err(Number::UndefinedOpcode));
@@ -92,7 +99,7 @@ fn a_halt_ends_a_run_and_the_next_goes_on() {
         assert_eq!(chip.step(), Ok(()));
     }
     assert_eq!(chip.step(), Err(Number::HaltedAtWrite)); // the single clock is done too
-    assert_eq!((chip.state.clock, chip.read(), chip.written()), (36, 3, 4));
+    assert_eq!((chip.state.clock, chip.read(), chip.written()), (36, 4, 4));
     assert_eq!(chip.run(8), Err(Number::HaltedAtWrite)); // on the last clock
     chip.halt = Some(0x0001);
     assert_eq!(chip.run(8), Ok(()));
@@ -103,7 +110,7 @@ fn a_halt_ends_a_run_and_the_next_goes_on() {
 
 #[test]
 fn space_is_made_for_the_record_of_a_halt() {
-    let mut chip = Chip::with(State::fresh(), counting());
+    let mut chip = started();
     chip.halt = Some(0x0000);
     chip.set_space(&[], &[]);
     assert_eq!(chip.call_run(100).number, Number::NoFreeRecord);
@@ -131,7 +138,7 @@ fn refusals_change_nothing() {
 
 #[test]
 fn a_call_takes_the_space_as_it_is() {
-    let mut chip = Chip::with(State::fresh(), counting());
+    let mut chip = started();
     chip.set_space(&[1; 2], &[2; 2]);
     let result = chip.call_run(100);
     assert_eq!((result.number, result.written, result.state.clock), (Number::NoFreeRecord, 2, 27));
@@ -144,8 +151,9 @@ fn a_call_takes_the_space_as_it_is() {
 
 #[test]
 fn an_input_must_come_behind_the_last() {
-    let mut chip = Chip::with(State::fresh(), counting());
+    let mut chip = started();
     assert_eq!(chip.input(0, Pin::PA0, Level::Low), Err(Number::WrongPinList));
+    assert_eq!(chip.input(1, Pin::PA0, Level::Low), Err(Number::WrongPinList)); // RES is the last pin of clock 1
     assert_eq!(chip.input(10, Pin::PA1, Level::High), Ok(()));
     assert_eq!(chip.input(10, Pin::PA1, Level::Low), Err(Number::WrongPinList));
     assert_eq!(chip.input(9, Pin::PA2, Level::Low), Err(Number::WrongPinList));
@@ -153,5 +161,5 @@ fn an_input_must_come_behind_the_last() {
     assert_eq!(chip.input(10, Pin::PA2, Level::Low), Err(Number::WrongPinList));
     assert_eq!(chip.input(11, Pin::PA0, Level::Low), Ok(()));
     chip.run(1).unwrap();
-    assert_eq!((chip.read(), chip.state.external.ports), (2, 0xFFFF_FFFE));
+    assert_eq!((chip.read(), chip.state.external.ports), (3, 0xFFFF_FFFE));
 }

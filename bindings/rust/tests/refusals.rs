@@ -1,5 +1,6 @@
 //! Each number of document 01, and 12 of document 02, from a call that earns it, and what stays unchanged.
-use r6501q::{code, load, run, step, CallResult, LoadResult, Number, State, Waiting, MEMORY_LENGTH, PIN_NMI, PIN_RES};
+use r6501q::{code, load, run, step, CallResult, LoadResult, Number, State, Waiting};
+use r6501q::{MEMORY_LENGTH, PIN_NMI, PIN_RES, RELEASE};
 
 // What a call is lent. Memory and output space are filled so that a change shows.
 #[derive(Clone, PartialEq, Debug)]
@@ -12,13 +13,20 @@ struct Lent {
     halt: Option<u16>,
 }
 
+// These inputs behind the release of a fresh chip.
+fn released(inputs: &[(u32, u8)]) -> (Vec<u32>, Vec<u8>) {
+    std::iter::once(&RELEASE).chain(inputs).copied().unzip()
+}
+
 impl Lent {
     // Inputs and space that no check refuses. Memory: BRK at 0000h and everywhere.
     fn good() -> Lent {
+        let (input_clocks, input_codes) =
+            released(&[(3, code(0, false)), (3, code(PIN_NMI, false)), (8, code(PIN_NMI, true))]);
         Lent {
             memory: vec![0; MEMORY_LENGTH],
-            input_clocks: vec![3, 3, 8],
-            input_codes: vec![code(0, false), code(PIN_NMI, false), code(PIN_NMI, true)],
+            input_clocks,
+            input_codes,
             output_clocks: vec![0xAAAA_AAAA; 4],
             output_words: vec![0x5555_5555; 4],
             halt: None,
@@ -36,6 +44,12 @@ impl Lent {
             n,
             self.halt,
         )
+    }
+
+    // What the next call is lent: the inputs without those that were read.
+    fn without_read(&mut self, result: &CallResult) {
+        self.input_clocks.drain(..result.read);
+        self.input_codes.drain(..result.read);
     }
 
     fn step(&mut self, state: State) -> CallResult {
@@ -72,7 +86,7 @@ fn refused(number: Number, state: State, lent: Lent) {
 fn good_inputs_are_not_refused() {
     let mut lent = Lent::good();
     let result = lent.run(State::fresh(), 10);
-    assert_eq!((result.number, result.state.clock, result.read, result.written), (Number::Done, 10, 3, 0));
+    assert_eq!((result.number, result.state.clock, result.read, result.written), (Number::Done, 10, 4, 0));
 }
 
 #[test]
@@ -143,6 +157,7 @@ fn every_field_at_its_highest_is_well_formed() {
     state.peripherals.receiver.half = 1;
     state.peripherals.receiver.left = 11;
     state.peripherals.receiver.register = 2047;
+    (state.external.res, state.last.res) = (1, 1);
     assert!(state.is_well_formed());
     assert_eq!(Lent::good().run(state, 5).number, Number::Done);
 }
@@ -230,7 +245,7 @@ fn an_undefined_opcode_is_6() {
     let mut lent = Lent { memory: vec![2; MEMORY_LENGTH], ..Lent::good() };
     let result = lent.run(State::fresh(), 100);
     assert_eq!((result.number, result.state.clock, result.leaps), (Number::UndefinedOpcode, 14, 4));
-    assert_eq!((result.read, result.written), (3, 0));
+    assert_eq!((result.read, result.written), (4, 0));
     assert_eq!(lent.memory[0xFC..0x101], [2, 0x24, 2, 2, 2]); // P with bit 5, PC low, PC high
     let again = lent.step(result.state);
     assert_eq!(again.number, Number::WrongPinList); // the inputs read are behind the clock now
@@ -243,13 +258,14 @@ fn an_undefined_opcode_is_6() {
 fn a_record_without_space_is_7() {
     // STA port A of 00h on clock 8: the word changes on its last clock, 10. Event clocks are 1 and 8.
     let mut lent = Lent { output_clocks: vec![], output_words: vec![], ..Lent::good() };
-    (lent.input_clocks, lent.input_codes) = (vec![10], vec![code(0, false)]);
+    (lent.input_clocks, lent.input_codes) = released(&[(10, code(0, false))]);
     lent.memory[0x200..0x205].copy_from_slice(&[0x85, 0x00, 0x4C, 0x02, 0x02]);
     lent.memory[0xFFFD] = 2;
     let result = lent.run(State::fresh(), 100);
     assert_eq!((result.number, result.state.clock, result.leaps), (Number::NoFreeRecord, 9, 3));
-    assert_eq!((result.read, result.written), (0, 0));
+    assert_eq!((result.read, result.written), (1, 0));
     assert_eq!((result.state.cpu.wait, result.state.cpu.waiting), (1, Waiting::byte(0x0000, 0x00)));
+    lent.without_read(&result);
     assert_eq!(lent.step(result.state).number, Number::NoFreeRecord);
     (lent.output_clocks, lent.output_words) = (vec![1; 2], vec![1; 2]);
     let result = lent.step(result.state);
@@ -260,7 +276,8 @@ fn a_record_without_space_is_7() {
 
 // STA port A of 00h, put on clock 10, INC 40h, put on clock 15, then again; PB0 falls on clock 10.
 fn writing() -> Lent {
-    let mut lent = Lent { input_clocks: vec![10], input_codes: vec![code(8, false)], ..Lent::good() };
+    let (input_clocks, input_codes) = released(&[(10, code(8, false))]);
+    let mut lent = Lent { input_clocks, input_codes, ..Lent::good() };
     lent.memory[0x200..0x207].copy_from_slice(&[0x85, 0x00, 0xE6, 0x40, 0x4C, 0x00, 0x02]);
     lent.memory[0xFFFD] = 2;
     lent
@@ -271,7 +288,7 @@ fn a_write_at_the_halt_address_is_12() {
     let mut lent = Lent { halt: Some(0x0000), ..writing() };
     let result = lent.run(State::fresh(), 100);
     assert_eq!((result.number, result.state.clock, result.leaps), (Number::HaltedAtWrite, 10, 3));
-    assert_eq!((result.read, result.written, result.state.cpu.wait), (1, 1, 0));
+    assert_eq!((result.read, result.written, result.state.cpu.wait), (2, 1, 0));
     assert_eq!((lent.output_clocks[0], lent.output_words[0]), (10, 0xFFFF_FF00));
     (lent.input_clocks, lent.input_codes, lent.halt) = (vec![], vec![], Some(0x0040));
     let result = lent.run(result.state, 5);
@@ -284,6 +301,7 @@ fn a_write_at_the_halt_address_is_12() {
     let mut lent = Lent { halt: Some(0x0000), ..writing() };
     let result = lent.run(State::fresh(), 9);
     assert_eq!(result.number, Number::Done);
+    lent.without_read(&result);
     assert_eq!(lent.run(result.state, 0).number, Number::Done);
     let result = lent.step(result.state);
     assert_eq!((result.number, result.leaps, result.state.clock), (Number::HaltedAtWrite, 1, 10));
@@ -296,7 +314,8 @@ fn a_write_at_the_halt_address_is_12() {
 fn a_full_list_comes_before_a_halt() {
     let mut lent = Lent { halt: Some(0x0000), output_clocks: vec![], output_words: vec![], ..writing() };
     let result = lent.run(State::fresh(), 100);
-    assert_eq!((result.number, result.state.clock, result.read), (Number::NoFreeRecord, 9, 0));
+    assert_eq!((result.number, result.state.clock, result.read), (Number::NoFreeRecord, 9, 1));
+    lent.without_read(&result);
     (lent.output_clocks, lent.output_words) = (vec![1; 2], vec![1; 2]);
     let result = lent.run(result.state, 100);
     assert_eq!((result.number, result.state.clock, result.read), (Number::HaltedAtWrite, 10, 1));

@@ -1,12 +1,13 @@
 //! A store's byte is put on its last clock (document 02, U6), whoever makes the calls.
 use r6501q::{Chip, Level, Number, Pin, State, Waiting, MEMORY_LENGTH};
 
-// INC 40h on clocks 8 to 12, then a jump in place.
+// INC 40h on clocks 8 to 12, then a jump in place. Released.
 fn counting_once() -> Chip {
     let mut chip = Chip::with(State::fresh(), vec![0; MEMORY_LENGTH]);
     chip.memory[0x0200..0x0205].copy_from_slice(&[0xE6, 0x40, 0x4C, 0x02, 0x02]);
     chip.memory[0xFFFD] = 2;
     chip.memory[0x40] = 0x0F;
+    chip.release();
     chip
 }
 
@@ -54,7 +55,8 @@ fn reset_low_drops_the_byte() {
 
 #[test]
 fn a_lent_byte_is_put_and_halts_there() {
-    let mut chip = counting_once();
+    let mut chip = Chip::with(State::fresh(), vec![0; MEMORY_LENGTH]);
+    (chip.state.external.res, chip.state.last.res) = (1, 1);
     chip.state.cpu.wait = 3;
     chip.state.cpu.waiting = Waiting::byte(0x1234, 0x56);
     chip.halt = Some(0x1234);
