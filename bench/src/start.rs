@@ -14,6 +14,7 @@ impl Start {
     // The program writes no port.
     pub fn new(memory: Vec<u8>) -> Result<Start, String> {
         let mut chip = Chip::with(State::fresh(), memory);
+        chip.release();
         chip.run(BEFORE).map_err(|number| number.to_string())?;
         chip.run(u32::from(chip.state.cpu.wait)).map_err(|number| number.to_string())?;
         Ok(Start { state: chip.state, memory: chip.memory })

@@ -14,17 +14,18 @@ const SPACE: usize = 262_144;
 // Inputs as the library takes them: clocks and codes.
 pub type Inputs = (Vec<u32>, Vec<u8>);
 
-// A fresh chip.
+// A fresh chip, released.
 pub fn chip(memory: Vec<u8>, inputs: &Inputs) -> Chip {
     let mut chip = Chip::with(State::fresh(), memory);
     chip.set_inputs(&inputs.0, &inputs.1);
+    chip.release();
     chip.set_space(&[0; SPACE], &[0; SPACE]);
     chip
 }
 
-// A fresh model.
+// A fresh model, released.
 pub fn model(memory: Vec<u8>, inputs: &Inputs) -> World {
-    World {
+    let mut world = World {
         state: plain_clock::fresh(),
         memory,
         input_clocks: inputs.0.clone(),
@@ -34,7 +35,9 @@ pub fn model(memory: Vec<u8>, inputs: &Inputs) -> World {
         output_words: vec![0; SPACE],
         written: 0,
         stop: 0,
-    }
+    };
+    world.release();
+    world
 }
 
 fn done(number: Result<(), Number>) -> Result<(), String> {

@@ -79,7 +79,7 @@ void judge_begin(library calls, uint64_t from, unsigned seconds)
     lent_make(&output_words, "output words", 4 * MOST_RECORDS);
     lent_make(&tape, "tape", MOST_TAPE);
     lent_make(&result_place, "the place of what is handed back", sizeof(r6501q_call_result));
-    kept_state = r6501q_fresh();
+    kept_state = fresh_state();
     memset(&action, 0, sizeof action);
     action.sa_sigaction = trapped;
     action.sa_flags = SA_SIGINFO;
@@ -120,7 +120,7 @@ static r6501q_state random_state(void)
     case 1:
         return damaged_state();
     case 2:
-        return r6501q_fresh();
+        return fresh_state();
     case 3:
     case 4:
         return kept_state;

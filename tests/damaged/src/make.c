@@ -77,6 +77,13 @@ r6501q_state good_state(void)
     return s;
 }
 
+r6501q_state fresh_state(void)
+{
+    r6501q_state s = r6501q_fresh();
+    s.external.res = s.last.res = chance(60);
+    return s;
+}
+
 /* A byte above the highest, mostly by one. */
 static uint8_t above(unsigned highest)
 {

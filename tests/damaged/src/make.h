@@ -10,6 +10,9 @@ r6501q_state any_state(void);
 /* Well-formed, and random in that. */
 r6501q_state good_state(void);
 
+/* A fresh chip, held by RES, or with RES high in both its levels. */
+r6501q_state fresh_state(void);
+
 /* A good state with one field out of its range. */
 r6501q_state damaged_state(void);
 

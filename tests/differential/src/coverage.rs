@@ -29,6 +29,8 @@ macro_rules! kinds {
 
 kinds! {
     StartFresh: "start: fresh",
+    StartReleased: "start: fresh, RES high on the next clock",
+    StartHeld: "start: fresh, held on the next clock",
     StartEven: "start: any well-formed state",
     StartNearEvents: "start: near events",
     StartNearTop: "start: clock within 300 of the top",
@@ -332,6 +334,10 @@ impl Coverage {
         });
         self.met_if(scenario.state.clock > u32::MAX - 300, Kind::StartNearTop);
         self.met_if(scenario.state.waiting.is_some(), Kind::StartWaiting);
+        if scenario.state_kind() == StateKind::Fresh {
+            let released = scenario.release().is_some();
+            self.met(if released { Kind::StartReleased } else { Kind::StartHeld });
+        }
     }
 
     /// A list, whose calls are given this halt address or none.

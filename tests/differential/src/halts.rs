@@ -77,7 +77,7 @@ impl Survey {
     /// Puts halt addresses into a scenario, and lists of calls that follow where one ends with a stop.
     pub fn fill(&mut self, random: &Random, scenario: &mut Scenario, budget: u32) {
         match scenario.theme {
-            Theme::LongGaps => self.writes.clear(),
+            Theme::Held | Theme::LongGaps => self.writes.clear(),
             Theme::HugeCount => self.look(scenario, 40),
             _ => self.look(scenario, budget),
         }

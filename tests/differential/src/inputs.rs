@@ -70,6 +70,16 @@ impl Inputs {
         }
     }
 
+    /// A fresh chip is held (document 02, U8): mostly RES gets high on the first clock, behind that clock's other
+    /// inputs, else later or never.
+    pub fn release(&mut self, random: &Random, span: u32) {
+        match random.below(20) {
+            0 => {}
+            1..=2 => self.add(random.between(2, span), RES, true),
+            _ => self.add(1, RES, true),
+        }
+    }
+
     pub fn nmi(&mut self, random: &Random, span: u32) {
         let from = random.between(1, span);
         self.add(from, NMI, false);

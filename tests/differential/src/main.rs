@@ -1,7 +1,8 @@
 //! The library's calls against the plain-clock model, over lists of calls.
 //!
-//! `differential run scenarios seed [threads]`, `differential serial`, `differential tapes number seed`, `differential
-//! replay seed index`. It ends with 1 at a difference, with 2 where an argument is wrong.
+//! `differential run scenarios seed [threads]`, `differential serial`, `differential starts scenarios seed`,
+//! `differential tapes number seed`, `differential replay seed index`. It ends with 1 at a difference, with 2 where an
+//! argument is wrong.
 
 mod code;
 mod compare;
@@ -13,6 +14,7 @@ mod memories;
 mod replay;
 mod scenario;
 mod serial;
+mod starts;
 mod states;
 mod tapes;
 
@@ -34,8 +36,8 @@ const COUNTED: u64 = 100_000;
 const RAREST: u64 = 10_000;
 
 const USAGE: &str =
-    "usage: differential run scenarios seed [threads] | serial | tapes number seed | replay seed index; \
-     counts from 1 up";
+    "usage: differential run scenarios seed [threads] | serial | starts scenarios seed | tapes number seed | \
+     replay seed index; counts from 1 up";
 
 fn main() -> ExitCode {
     let arguments: Vec<String> = std::env::args().skip(1).collect();
@@ -57,6 +59,7 @@ fn right(arguments: &[String]) -> Option<bool> {
         ("run", &[scenarios @ (1..), seed]) => Some(run(scenarios, seed, 1)),
         ("run", &[scenarios @ (1..), seed, threads @ (1..)]) => Some(run(scenarios, seed, threads)),
         ("serial", &[]) => Some(run_serial()),
+        ("starts", &[scenarios @ (1..), seed]) => Some(run_starts(scenarios, seed)),
         ("tapes", &[tapes @ (1..), seed]) => Some(run_tapes(tapes, seed)),
         ("replay", &[seed, index]) => Some(replay::replay(seed, index)),
         _ => None,
@@ -171,6 +174,19 @@ fn run_serial() -> bool {
         }
         Err(text) => {
             println!("serial channel: {text}");
+            false
+        }
+    }
+}
+
+fn run_starts(scenarios: u64, seed: u64) -> bool {
+    match starts::check_starts(seed, scenarios) {
+        Ok(runs) => {
+            println!("seed {seed}: {runs} runs from fresh, released on the first clock or never held: no difference");
+            runs > 0
+        }
+        Err(text) => {
+            println!("{text}");
             false
         }
     }

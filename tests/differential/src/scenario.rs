@@ -9,6 +9,7 @@ use crate::inputs::Inputs;
 use crate::memories::{page_zero, vectors, Backgrounds, LENGTH, UNDEFINED};
 use crate::random::Random;
 use crate::states::{settle_levels, shift_control, state, StateKind};
+use plain_clock::clock::RES_HIGH;
 use plain_clock::state::FLAG_I;
 use plain_clock::{fresh, State};
 
@@ -39,8 +40,10 @@ pub struct List {
 /// What a scenario is about; its parts are random all the same.
 #[derive(Clone, Copy, PartialEq, Eq, Debug)]
 pub enum Theme {
-    /// From fresh, through the reset entry.
+    /// From fresh, released, through the reset entry.
     Program,
+    /// From fresh, held by RES for long: long gaps.
+    Held,
     /// An evenly random state.
     Even,
     /// A state near events.
@@ -109,11 +112,18 @@ impl Scenario {
     pub fn state_kind(&self) -> StateKind {
         state_kind(self.theme)
     }
+
+    /// The place of the input that makes RES high on the first clock.
+    pub fn release(&self) -> Option<usize> {
+        let first = self.state.clock.checked_add(1)?;
+        let inputs = self.input_clocks.iter().zip(&self.input_codes);
+        inputs.take_while(|(&clock, _)| clock == first).position(|(_, &code)| code == RES_HIGH)
+    }
 }
 
 fn state_kind(theme: Theme) -> StateKind {
     match theme {
-        Theme::Program => StateKind::Fresh,
+        Theme::Program | Theme::Held => StateKind::Fresh,
         Theme::Even => StateKind::Even,
         _ => StateKind::NearEvents,
     }
@@ -131,7 +141,7 @@ impl Maker {
         scenario.theme = theme;
         scenario.byte_damage = None;
         scenario.state = start_state(random, theme);
-        if random.percent(4) && theme != Theme::LongGaps {
+        if random.percent(4) && !long(theme) {
             scenario.state.clock = u32::MAX - random.pick(&[0, 1, random.below(20), random.below(300)]);
         }
         let budget = budget(random, theme);
@@ -181,7 +191,7 @@ impl Maker {
             scenario.state.pc = random.pick(&[random.below(0x04), random.between(0x10, 0x1E), 0x17, anywhere]) as u16;
             // at 17h the second byte of an instruction is 18h, whose read clears IFR4
             scenario.state.ifr |= 0x10;
-        } else if theme != Theme::Program && random.percent(96) {
+        } else if scenario.state_kind() != StateKind::Fresh && random.percent(96) {
             scenario.state.pc = code;
         }
     }
@@ -192,6 +202,13 @@ impl Maker {
         let span = budget + 10;
         match theme {
             Theme::HugeCount => {}
+            Theme::Held => {
+                let edges = random.pick(&[0, 0, 2]);
+                self.inputs.edges(random, span, edges);
+                if random.flag() {
+                    self.inputs.release(random, span);
+                }
+            }
             Theme::Receiving => self.inputs.characters(random, state.sccr, state.latch_a, span),
             Theme::ShiftSending if state.sccr & 0x40 != 0 => {
                 self.inputs.characters(random, state.sccr, state.latch_a, span);
@@ -216,7 +233,10 @@ impl Maker {
             }
             _ => {}
         }
-        if !matches!(theme, Theme::HugeCount | Theme::LongGaps) {
+        if theme == Theme::Program {
+            self.inputs.release(random, span);
+        }
+        if theme != Theme::HugeCount && !long(theme) {
             let edges = if random.percent(1) { 150 } else { random.pick(&[0, 0, 1, 3, 8, 20]) };
             self.inputs.edges(random, span, edges);
             if random.percent(8) {
@@ -243,7 +263,8 @@ fn theme(random: &Random) -> Theme {
         780..=834 => Theme::Switching,
         835..=889 => Theme::Resets,
         890..=939 => Theme::InRegisters,
-        940..=988 => Theme::InPageZero,
+        940..=987 => Theme::InPageZero,
+        988 => Theme::Held,
         989 => Theme::LongGaps,
         _ => Theme::HugeCount,
     }
@@ -259,12 +280,17 @@ fn shifts(theme: Theme) -> bool {
     matches!(theme, Theme::ShiftSending | Theme::ShiftReceiving | Theme::Switching)
 }
 
+/// Whether a theme is about long gaps.
+fn long(theme: Theme) -> bool {
+    matches!(theme, Theme::Held | Theme::LongGaps)
+}
+
 /// About how many clocks the calls ask for.
 fn budget(random: &Random, theme: Theme) -> u32 {
     match theme {
         Theme::Sending | Theme::Receiving => random.pick(&[200, 300, 400, 600]),
         _ if shifts(theme) => random.pick(&[60, 120, 200, 300, 400]),
-        Theme::LongGaps => random.pick(&[10_000, 70_000, 140_000]),
+        _ if long(theme) => random.pick(&[10_000, 70_000, 140_000]),
         _ if random.percent(1) => random.between(1_000, 5_000),
         _ => random.pick(&[20, 50, 100, 100, 200, 200, 300]),
     }

@@ -110,9 +110,9 @@ fn receiver(sides: &mut Sides) -> Result<u64, String> {
     Ok(count)
 }
 
-/// An idle CPU, and counter A about to underflow.
+/// An idle CPU, and counter A about to underflow; RES is high.
 fn quick(latch_a: u16) -> State {
-    State { reset_due: false, counter_a: 0, latch_a, ..fresh() }
+    State { reset_due: false, counter_a: 0, latch_a, external: ALL_PINS, ..fresh() }
 }
 
 /// Both sides with the same memory, NOP alone.

@@ -2,6 +2,9 @@
 
 #include <stdio.h>
 
+const uint32_t release_clocks[1] = {1};
+const uint8_t release_codes[1] = {R6501Q_PIN_RES + R6501Q_HIGH};
+
 r6501q_state chip_start(const struct peer_registers *r)
 {
     r6501q_state state = r6501q_fresh();
@@ -17,6 +20,7 @@ r6501q_state chip_after(const struct peer_registers *registers, unsigned clocks,
     state.cpu.wait = wait;
     state.peripherals.countera.count -= clocks;
     state.peripherals.counterb.count -= clocks;
+    state.external.res = state.last.res = 1;
     state.clock += clocks;
     return state;
 }

@@ -18,9 +18,10 @@ static uint8_t ours[R6501Q_MEMORY_LENGTH], peers[R6501Q_MEMORY_LENGTH];
 /* Cases of JMP indirect with its pointer at a page's end that were compared. */
 static unsigned long page_ends;
 
+/* The first clock, which releases the chip. */
 static r6501q_call_result step(r6501q_state state)
 {
-    return r6501q_step(state, ours, sizeof ours, 0, 0, 0, 0, 0, 0, 0, 0, R6501Q_NO_HALT);
+    return r6501q_step(state, ours, sizeof ours, release_clocks, 1, release_codes, 1, 0, 0, 0, 0, R6501Q_NO_HALT);
 }
 
 static r6501q_call_result run(r6501q_state state, unsigned clocks)
@@ -51,9 +52,9 @@ static void print_difference(uint8_t opcode, const struct peer_registers *before
     print_memory_differences(peers, ours);
 }
 
-static int same_result(const r6501q_call_result *result, const r6501q_state *expected)
+static int same_result(const r6501q_call_result *result, const r6501q_state *expected, size_t read)
 {
-    return result->number == R6501Q_DONE && result->leaps == 1 && result->read == 0 && result->written == 0
+    return result->number == R6501Q_DONE && result->leaps == 1 && result->read == read && result->written == 0
         && same_state(&result->state, expected);
 }
 
@@ -75,7 +76,7 @@ static void compare_with(uint8_t opcode, const struct peer_registers *before, co
         right = memcmp(ours, peers, sizeof ours) == 0;
     }
     r6501q_call_result rest = run(first.state, record->clocks - 1);
-    if (!right || !same_result(&first, &started) || !same_result(&rest, &ended)
+    if (!right || !same_result(&first, &started, 1) || !same_result(&rest, &ended, 0)
         || memcmp(ours, peers, sizeof ours) != 0) {
         print_difference(opcode, before, after, record, &first, &rest);
         exit(1);

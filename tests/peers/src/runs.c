@@ -73,18 +73,18 @@ static unsigned leaps_of(const struct run *run)
 /* As many clocks of ours. */
 static void compare_run(const struct run *run)
 {
-    r6501q_call_result result
-        = r6501q_run(chip_start(&run->before), ours, sizeof ours, 0, 0, 0, 0, 0, 0, 0, 0, run->clocks, R6501Q_NO_HALT);
-    r6501q_state expected = chip_after(&run->after, run->clocks, 0);
+    r6501q_call_result result = r6501q_run(chip_start(&run->before), ours, sizeof ours, release_clocks, 1,
+        release_codes, 1, 0, 0, 0, 0, run->clocks, R6501Q_NO_HALT);
+    r6501q_state expected = run->clocks ? chip_after(&run->after, run->clocks, 0) : chip_start(&run->before);
     unsigned leaps = leaps_of(run);
-    if (result.number == R6501Q_DONE && result.leaps == leaps && result.read == 0 && result.written == 0
+    if (result.number == R6501Q_DONE && result.leaps == leaps && result.read == (run->clocks > 0) && result.written == 0
         && same_state(&result.state, &expected) && memcmp(ours, peers, sizeof ours) == 0)
         return;
     printf("difference: a run of %u instructions\n", run->instructions);
     print_registers("before", &run->before);
     printf("\n");
     print_registers("peer", &run->after);
-    printf(" wait 0, clock %u, number 0, leaps %u, read 0, written 0\n", run->clocks, leaps);
+    printf(" wait 0, clock %u, number 0, leaps %u, read %d, written 0\n", run->clocks, leaps, run->clocks > 0);
     print_result(&result);
     print_memory_differences(peers, ours);
     exit(1);

@@ -51,7 +51,8 @@ fn finish(program: &Executable, name: &str, limit: u32, go: impl Fn(&mut Chip) -
 
 impl Served {
     pub fn new(program: &Executable, name: &str) -> Served {
-        let chip = Chip::with(State::fresh(), program.memory());
+        let mut chip = Chip::with(State::fresh(), program.memory());
+        chip.release();
         Served { chip, services: Services::new(program.c_stack, name) }
     }
 

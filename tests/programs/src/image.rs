@@ -28,7 +28,7 @@ pub struct Image {
 }
 
 impl Image {
-    /// A fresh chip that has no reset due and starts at an address; the vectors are the image's own.
+    /// A fresh chip, released, that has no reset due and starts at an address; the vectors are the image's own.
     pub fn new(file: &[u8], load: u16, start: u16) -> Result<Image, String> {
         let mut memory = vec![0; 0x10000];
         let load = usize::from(load);
@@ -36,7 +36,9 @@ impl Image {
         let mut state = State::fresh();
         state.due.reset = 0;
         state.cpu.pc = start;
-        Ok(Image { chip: Chip::with(state, memory) })
+        let mut chip = Chip::with(state, memory);
+        chip.release();
+        Ok(Image { chip })
     }
 
     /// Runs for so many clocks, `MOST` or fewer. After each piece it looks whether the next instruction goes to itself,

@@ -49,6 +49,7 @@ impl Case {
     fn write(&self, folder: &Path) -> Result<(), Box<dyn Error>> {
         let mut chip = Chip::new();
         firmware::put_sender(&mut chip.memory, TRANSMITTER | self.frame.sccr(), self.latch, Next::AtOnce);
+        chip.release();
         chip.run(firmware::BEFORE + 257 * self.clocks_per_frame())?;
         let path = |kind: &str| folder.join(format!("{}.{kind}", self.name()));
         std::fs::write(path("vcd"), vcd::of(&[Pin::PA6], &chip.take_records(), chip.state.clock))?;

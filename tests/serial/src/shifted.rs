@@ -54,6 +54,7 @@ impl Case {
     fn write(&self, folder: &Path) -> Result<(), Box<dyn Error>> {
         let mut chip = Chip::new();
         firmware::put_sender(&mut chip.memory, self.sccr, self.latch, self.next);
+        chip.release();
         chip.run(firmware::BEFORE + 256 * self.clocks_per_byte())?;
         let records = chip.take_records();
         let path = |kind: &str| folder.join(format!("{}.{kind}", self.name()));
@@ -85,6 +86,7 @@ fn received(records: &[Record], clocks: u32) -> Result<&'static str, Box<dyn Err
         }
         last = levels;
     }
+    chip.release();
     chip.run(firmware::BEFORE + clocks)?;
     let bytes = &chip.memory[firmware::RECEIVED..firmware::RECEIVED + 256];
     Ok(if bytes.iter().copied().eq(0..=255) { "same" } else { "others" })
