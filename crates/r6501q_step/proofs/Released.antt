@@ -13,6 +13,7 @@ use Rattle.bits.proofs.Cond.{and-left, and-right}
 use Rattle.pin_lists.specs.PinLists.{pinOf, highOf, dueCount}
 use Rattle.pin_lists.proofs.PinLists.{due-within}
 use Rattle.refusals.specs.Refusals.{refusalOf}
+use Rattle.cpu_access.specs.Waiting.{byteWaits}
 use Rattle.r6501q_state.specs.declared.state.Levels.{Levels}
 use Rattle.r6501q_state.specs.declared.state.State.{State}
 use Rattle.r6501q_state.specs.State.{freshCpu, freshDue, freshPeripherals, freshLevels, highLevels, fresh, wellFormed}
@@ -30,7 +31,7 @@ use Rattle.r6501q_state.specs.Pins.{driveA, driveD, drivenWord, levelsOf, rose,
 use Rattle.r6501q_clock.specs.Clock.{withInputs, countA, countB, sentBy, heardBy, worked, workedState, readyOf, finished, recorded, clockOf}
 use Rattle.r6501q_clock.specs.Copies.{withExternal}
 use Rattle.r6501q_clock.specs.declared.Clocked.{Clocked}
-use Rattle.r6501q_gaps.specs.Events.{hasInput, sameLevels, levelsChange, underflowsA, underflowsB, resetChanges, cpuStarts, eventOf}
+use Rattle.r6501q_gaps.specs.Events.{hasInput, sameLevels, levelsChange, underflowsA, underflowsB, resetChanges, cpuStarts, putsByte, eventOf}
 use Rattle.leaps.specs.Chip.{ClockOutcome, stopped, ended}
 use Rattle.leaps.specs.World.{after, outcomeIn, plainOf, isDone, doneIn, eventIn}
 use Rattle.leaps.specs.Calls.{callStart, refusalIn}
@@ -111,7 +112,7 @@ firstClock l memory free =
     recorded (drivenWord freshPeripherals) free (processorOf (workedState (highLevels .ports) (sensed (withExternal released 1 l))) memory)
 
 first-fresh : (codes memory : List ℕ) (free : Bool) → clockOf fresh codes memory free ≡ firstClock (withInputs freshLevels codes) memory free
-unfolding clockOf readyOf fresh sensed sensedAt withEdges resetOf levelsOf
+unfolding clockOf readyOf fresh sensed sensedAt withEdges resetOf levelsOf byteWaits
 first-fresh codes memory free = refl
 
 first-old : (codes memory : List ℕ) (free : Bool) → clockOf released codes memory free ≡ firstClock (withInputs highLevels codes) memory free
@@ -126,7 +127,7 @@ clock-same codes codes' memory free e =
 -- it is done: the reset entry starts, or RES is low again, and no drive changes
 done-at : (halt : Halt) (ports : ℕ) (nmi res : Bool) (memory : List ℕ) (free : Bool)
     → isDone (clockOutcome halt memory (firstClock (levelsAt ports nmi res) memory free)) ≡ true
-unfolding sensed sensedAt levelsOf withEdges resetOf worked countA countB sentBy heardBy processorOf startOf resetStart resetAccesses performed peripheralsRead drivenWord driveA driveD finished clockA countsA downA clockB downB setWhere flipWhere modeA modeB inForce holdsA transmitterClock receiverClock ticksOf transmitterAsynchronous receiverAsynchronous receiverShifting
+unfolding sensed sensedAt levelsOf withEdges resetOf worked countA countB sentBy heardBy processorOf startOf resetStart resetAccesses performed peripheralsRead drivenWord driveA driveD finished clockA countsA downA clockB downB setWhere flipWhere modeA modeB inForce holdsA transmitterClock receiverClock ticksOf transmitterAsynchronous receiverAsynchronous receiverShifting byteWaits
 done-at halt ports nmi true memory free = refl
 done-at halt ports nmi false memory free = refl
 
@@ -137,7 +138,7 @@ first-done halt codes memory free =
 
 -- and is an event clock: it has an input, or the CPU starts
 event-old : (codes : List ℕ) → eventOf released codes ≡ true
-unfolding eventOf hasInput withInputs levelsChange sameLevels levelsOf drivenWord driveA driveD sensed sensedAt withEdges edges setWhere rose fell underflowsA underflowsB resetChanges cpuStarts clockA countsA downA clockB downB modeA modeB inForce holdsA receiverAsynchronous
+unfolding eventOf hasInput withInputs levelsChange sameLevels levelsOf drivenWord driveA driveD sensed sensedAt withEdges edges setWhere rose fell underflowsA underflowsB resetChanges cpuStarts putsByte clockA countsA downA clockB downB modeA modeB inForce holdsA receiverAsynchronous byteWaits
 event-old [] = refl
 event-old (code ∷ codes) = refl
 
