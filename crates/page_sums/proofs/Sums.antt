@@ -136,6 +136,11 @@ sums-twice address sums a b c =
     ∙ ap (λ s. changedBy s (partSum p address b) (partSum p address c)) (sum-after address sums a b p h)
     ∙ changed-twice (sumAt sums p) (partSum p address a) (partSum p address b) (partSum p address c))
 
+-- a change behind another
+pub sums-then : (address : ℕ) (sums a b c : List ℕ) {between last : List ℕ} → between ≡ sumsAfterPart address sums a b
+    → last ≡ sumsAfterPart address between b c → last ≡ sumsAfterPart address sums a c
+sums-then address sums a b c e f = f ∙ ap (λ l. sumsAfterPart address l b c) e ∙ sums-twice address sums a b c
+
 -- a part that changes alone
 pub sums-beside : (sums front x y : List ℕ) → sumsAfter sums (front ++ x) (front ++ y) ≡ sumsAfterPart (length front) sums x y
 sums-beside sums front x y =

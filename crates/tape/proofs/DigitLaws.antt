@@ -11,7 +11,8 @@ use lib.ListN.{length, drop, getD, drop-of-length-le, length-drop}
 use lib.Seq.{drop-cons}
 use Rattle.bits.specs.Lists.{allOf}
 use Rattle.bits.proofs.Cond.{cond-both}
-use Rattle.tape.specs.Digits.{isDecimal, isLetter, isDigit, valueOf, numberFrom, numberOf, byteOf, bytesOf, totalOf}
+use Rattle.page_sums.specs.PageSums.{totalOf}
+use Rattle.tape.specs.Digits.{isDecimal, isLetter, isDigit, valueOf, numberFrom, numberOf, byteOf, bytesOf}
 
 pub and-true : (a b : Bool) → a && b ≡ true → (a ≡ true) × (b ≡ true)
 and-true true b e = (refl, e)

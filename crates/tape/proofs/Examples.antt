@@ -5,7 +5,8 @@ use Prim.Native.Nat.{ℕ}
 use Prim.Native.Char.{code}
 use Prim.Native.String.{String, [], _∷_}
 use lib.ListN.{length, set}
-use Rattle.tape.specs.Digits.{isDigit, valueOf, numberFrom, byteOf, bytesOf, totalOf}
+use Rattle.page_sums.specs.PageSums.{totalOf}
+use Rattle.tape.specs.Digits.{isDigit, valueOf, numberFrom, byteOf, bytesOf}
 use Rattle.tape.specs.Records.{byteCountOf, addressOf, sumOf, checkSumOf, areDigits, malformed, faultOf, dataOf}
 use Rattle.memory.specs.Memory.{memorySpan}
 use Rattle.tape.specs.Tapes.{loadResult, endedBy, recordBy, checkFrom, checkOf, putFrom, landed, storeFrom, loaded, loadOf}

@@ -3,4 +3,5 @@ pub mod MemoryLaws
 pub mod RecordLaws
 pub mod TapeLaws
 pub mod Laws
+pub mod Summed
 pub mod Examples

@@ -2,14 +2,16 @@
 use mathlib.Core.Path.{_≡_, refl, ap, sym, _∙_}
 use mathlib.Core.Bool.{Bool, true, false, cond}
 use mathlib.Core.List.{List, [], _∷_, _++_, append-nil}
-use Prim.Native.Nat.{ℕ, _+_, _-_, _*_, _/_, _≤_, _<_}
+use Prim.Native.Nat.{ℕ, zero, suc, _+_, _-_, _*_, _/_, _≤_, _<_}
 use native.Mathlib.Omega.{arith}
-use native.Mathlib.Nat.{add-zero}
+use native.Mathlib.Nat.{add-zero, zero-add}
 use borrow.Author.Tests.{lt-ltb, le-ltb, ltb-true, ltb-false}
 use lib.Dec.{ltb}
 use lib.ListN.{length, take, drop, getD, set, length-set, length-drop, take-append-drop, drop-of-length-le}
 use lib.Seq.{take-set-le, drop-set-add, take-at, drop-at, take-all, length-take-le}
 use Rattle.bits.proofs.Cond.{cond-both}
+use Rattle.page_sums.specs.PageSums.{sumsAfterPart, sumsAfter}
+use Rattle.page_sums.proofs.Sums.{sums-beside}
 use Rattle.tape.specs.Digits.{byteOf, bytesOf}
 use Rattle.tape.specs.Tapes.{putFrom}
 use Rattle.tape.proofs.DigitLaws.{bytes-next, bytes-end}
@@ -41,16 +43,41 @@ take-puts low address [] memory = refl
 take-puts low address (b ∷ bytes) memory =
     take-puts low (address + 1) bytes (putAt low address b memory) ∙ take-put low address b memory
 
--- one step of the byte writer, and its end
-module _ (low k : ℕ) (digits part : List ℕ) where
-  pub put-next : k < length digits / 2 → putFrom low k (bytesOf (drop (2 * k) digits)) part
-      ≡ putFrom low (k + 1) (bytesOf (drop (2 * (k + 1)) digits)) (putAt low k (byteOf (getD digits (2 * k) 0) (getD digits (2 * k + 1) 0)) part)
-  unfolding putFrom
-  put-next h = rw (bytes-next digits k h)
+-- the byte writer, at byte k of the digits: a byte that is put, one that is dropped, and the end
+module _ (low : ℕ) (digits : List ℕ) where
+  abbrev writtenFrom : ℕ → List ℕ → List ℕ
+  writtenFrom k part = putFrom low k (bytesOf (drop (2 * k) digits)) part
 
-  pub put-end : length digits / 2 ≤ k → putFrom low k (bytesOf (drop (2 * k) digits)) part ≡ part
+  put-next : (k : ℕ) (part : List ℕ) → k < length digits / 2 → writtenFrom k part
+      ≡ writtenFrom (k + 1) (putAt low k (byteOf (getD digits (2 * k) 0) (getD digits (2 * k + 1) 0)) part)
   unfolding putFrom
-  put-end h = rw (bytes-end digits k h)
+  put-next k part h = rw (bytes-next digits k h)
+
+  pub put-end : (k : ℕ) (part : List ℕ) → length digits / 2 ≤ k → writtenFrom k part ≡ part
+  unfolding putFrom
+  put-end k part h = rw (bytes-end digits k h)
+
+  pub put-on : (k : ℕ) (part : List ℕ) → low ≤ k → k < length digits / 2 → writtenFrom k part
+      ≡ writtenFrom (k + 1) (set part k (byteOf (getD digits (2 * k) 0) (getD digits (2 * k + 1) 0)))
+  put-on k part l h = put-next k part h ∙ rw (le-ltb k low l)
+
+  put-dropped : (k : ℕ) (part : List ℕ) → k < low → writtenFrom k part ≡ writtenFrom (k + 1) part
+  put-dropped k part l = by-end (ltb k (length digits / 2)) refl
+    where
+      by-end : (t : Bool) → ltb k (length digits / 2) ≡ t → writtenFrom k part ≡ writtenFrom (k + 1) part
+      by-end true e = put-next k part (ltb-true k (length digits / 2) e) ∙ rw (lt-ltb k low l)
+      by-end false e = let u = ltb-false k (length digits / 2) e in put-end k part u ∙ sym (put-end (k + 1) part (omega arith))
+
+  -- n bytes that are dropped
+  put-past : (n k : ℕ) (part : List ℕ) → k + n ≤ low → writtenFrom k part ≡ writtenFrom (k + n) part
+  put-past zero k part h = rw add-zero
+  put-past (suc n) k part h =
+      let e : k + 1 + n ≡ k + suc n = omega arith in
+      put-dropped k part (omega arith) ∙ put-past n (k + 1) part (omega arith) ∙ ap (λ i. writtenFrom i part) e
+
+  -- the bytes below `low` come first
+  pub put-first : (part : List ℕ) → writtenFrom low part ≡ putFrom low 0 (bytesOf digits) part
+  put-first part = ap (λ i. writtenFrom i part) (sym (zero-add low)) ∙ sym (put-past low 0 part (omega arith))
 
 -- a byte of the part that starts at an address is that byte of the whole memory
 module _ (low a : ℕ) where
@@ -87,10 +114,31 @@ module _ (low a : ℕ) where
       rw (← t, ← r, ← s) (puts-part (k + 1) bytes m′ h′)
 
 -- the part from an address to the end, lent and come back as `y`
-pub put-back : (low a d : ℕ) (bytes m y : List ℕ) → a ≤ length m → d ≡ low - a → y ≡ putFrom d 0 bytes (take (length m - a) (drop a m))
-    → take a m ++ (y ++ drop (length m - a) (drop a m)) ≡ putFrom low a bytes m
-put-back low a d bytes m y h ed ey =
-    let n : length (drop a m) ≤ length m - a = omega (arith, length-drop a m) in
-    let p : take (length m - a) (drop a m) ≡ drop a m = take-all (length m - a) (drop a m) n in
-    let y′ : y ≡ putFrom (low - a) 0 bytes (drop a m) = rw (p, ed) at ey in
-    rw (drop-of-length-le (drop a m) n, append-nil y, y′) (puts-part low a 0 bytes m h ∙ rw add-zero)
+module _ (a : ℕ) (m y : List ℕ) (h : a ≤ length m) where
+  abbrev lent : List ℕ
+  lent = take (length m - a) (drop a m)
+
+  abbrev back : List ℕ
+  back = take a m ++ (y ++ drop (length m - a) (drop a m))
+
+  lent-all : lent ≡ drop a m
+  lent-all = take-all (length m - a) (drop a m) (omega (arith, length-drop a m))
+
+  back-all : back ≡ take a m ++ y
+  back-all =
+      let n : length (drop a m) ≤ length m - a = omega (arith, length-drop a m) in
+      rw (drop-of-length-le (drop a m) n, append-nil y)
+
+  pub put-back : (low : ℕ) (bytes : List ℕ) → y ≡ putFrom (low - a) 0 bytes lent → back ≡ putFrom low a bytes m
+  put-back low bytes e =
+      let y′ : y ≡ putFrom (low - a) 0 bytes (drop a m) = e ∙ ap (putFrom (low - a) 0 bytes) lent-all in
+      back-all ∙ ap (λ x. take a m ++ x) y′ ∙ puts-part low a 0 bytes m h ∙ rw add-zero
+
+  pub sums-back : (sums later : List ℕ) → later ≡ sumsAfterPart a sums lent y → later ≡ sumsAfter sums m back
+  sums-back sums later e =
+      let n : length (take a m) ≡ a = length-take-le a m h in
+      e
+      ∙ ap (λ x. sumsAfterPart a sums x y) lent-all
+      ∙ ap (λ k. sumsAfterPart k sums (drop a m) y) (sym n)
+      ∙ sym (sums-beside sums (take a m) (drop a m) y)
+      ∙ rw (take-append-drop a m, back-all)

@@ -38,8 +38,3 @@ unfoldable pub bytesOf : List ℕ → List ℕ
 bytesOf [] = []
 bytesOf (c ∷ []) = []
 bytesOf (high ∷ (low ∷ digits)) = byteOf high low ∷ bytesOf digits
-
--- the sum of bytes
-unfoldable pub totalOf : List ℕ → ℕ
-totalOf [] = 0
-totalOf (b ∷ bytes) = b + totalOf bytes

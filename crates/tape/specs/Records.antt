@@ -7,7 +7,8 @@ use lib.Dec.{ltb, leb, eqb}
 use lib.ListN.{length, getD, take, drop}
 use Rattle.bits.specs.Lists.{allOf}
 use Rattle.memory.specs.Memory.{memorySpan}
-use Rattle.tape.specs.Digits.{isDigit, numberOf, bytesOf, totalOf}
+use Rattle.page_sums.specs.PageSums.{totalOf}
+use Rattle.tape.specs.Digits.{isDigit, numberOf, bytesOf}
 
 -- `;`
 abbrev pub mark : ℕ

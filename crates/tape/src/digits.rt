@@ -3,7 +3,8 @@ ghost use mathlib.Core.Path.{_≡_};
 ghost use Prim.Native.Nat.{_≤_};
 ghost use lib.ListN.{length};
 ghost use Rattle.bits.specs.Lists.{allOf};
-ghost use Rattle.tape.specs.Digits.{isDigit, valueOf, numberOf, byteOf, bytesOf, totalOf};
+ghost use Rattle.page_sums.specs.PageSums.{totalOf};
+ghost use Rattle.tape.specs.Digits.{isDigit, valueOf, numberOf, byteOf, bytesOf};
 
 // Whether a character is of `0` to `9`, `A` to `F`.
 pub fn is_digit(c: u8) -> bool

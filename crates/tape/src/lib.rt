@@ -5,6 +5,8 @@ mod record;
 
 use landing::land;
 use memory::MEMORY_SPAN;
+use page_sums::PAGE_COUNT;
+use page_sums::WRONG_PAGE_LIST;
 use record::address;
 use record::count;
 use record::data_digits;
@@ -14,7 +16,8 @@ ghost use Prim.Native.Nat.{_+_, _<_, _^_};
 ghost use lib.ListN.{length};
 ghost use Rattle.tape.specs.Records.{dataAt};
 ghost use Rattle.memory.specs.Memory.{memorySpan};
-ghost use Rattle.tape.specs.Tapes.{endedBy, checkOf, storeFrom, loaded, loadOf};
+ghost use Rattle.page_sums.specs.PageSums.{sumsAfter};
+ghost use Rattle.tape.specs.Tapes.{endedBy, checkOf, storeFrom, loaded, loadOf, loadWithSumsOf};
 
 // Begins a record.
 const MARK: u8 = b';';
@@ -78,10 +81,11 @@ fn check(tape: &[u8]) -> LoadResult
     LoadResult { number: 10, place }
 }
 
-// The bytes of an accepted tape into memory, up to its last record.
-fn store(tape: &[u8], memory: &mut [u8])
+// The bytes of an accepted tape into memory and its page sums, up to its last record.
+fn store(tape: &[u8], memory: &mut [u8], sums: &mut [u16])
     requires { ⌜ length (now memory) ≡ memorySpan ⌝ }
     ensures { λ _. ⌜ now (memory .exit) ≡ storeFrom (now (tape .entry)) (now (memory .entry)) ⌝ }
+    ensures { λ _. ⌜ now (sums .exit) ≡ sumsAfter (now (sums .entry)) (now (memory .entry)) (now (memory .exit)) ⌝ }
 {
     let mut place = 0;
     while place < tape.len() {
@@ -92,15 +96,16 @@ fn store(tape: &[u8], memory: &mut [u8])
                 return;
             }
             let a = address(text);
-            land(memory, a, record_data(tape, place));
+            land(memory, sums, a, record_data(tape, place));
         }
         place += 1;
     }
 }
 
-// A tape into memory: the whole tape is checked first, so that a refused one writes nothing.
-pub fn load(tape: &[u8], memory: &mut [u8]) -> LoadResult
+// A tape into memory and its page sums: the whole tape is checked first, so that a refused one writes nothing.
+fn load_into(tape: &[u8], memory: &mut [u8], sums: &mut [u16]) -> LoadResult
     ensures { λ r. ⌜ loaded r (now (memory .exit)) ≡ loadOf (now (tape .entry)) (now (memory .entry)) ⌝ }
+    ensures { λ _. ⌜ now (sums .exit) ≡ sumsAfter (now (sums .entry)) (now (memory .entry)) (now (memory .exit)) ⌝ }
 {
     if memory.len() != MEMORY_SPAN {
         return LoadResult {
@@ -112,6 +117,30 @@ pub fn load(tape: &[u8], memory: &mut [u8]) -> LoadResult
     if checked.number != 0 {
         return checked;
     }
-    store(tape, memory);
+    store(tape, memory, sums);
     checked
+}
+
+// A tape into memory.
+pub fn load(tape: &[u8], memory: &mut [u8]) -> LoadResult
+    ensures { λ r. ⌜ loaded r (now (memory .exit)) ≡ loadOf (now (tape .entry)) (now (memory .entry)) ⌝ }
+{
+    let mut none: [u16; 0] = [];
+    load_into(tape, memory, &mut none)
+}
+
+// A tape into memory and its 256 page sums; the list of sums is looked at behind the memory and before any record.
+pub fn load_with_sums(tape: &[u8], memory: &mut [u8], sums: &mut [u16]) -> LoadResult
+    ensures { λ r. ⌜ loaded r (now (memory .exit))
+        ≡ loadWithSumsOf (now (tape .entry)) (now (memory .entry)) (now (sums .entry)) ⌝ }
+    ensures { λ _. ⌜ now (sums .exit) ≡ sumsAfter (now (sums .entry)) (now (memory .entry)) (now (memory .exit)) ⌝ }
+{
+    let wrong = (memory.len() == MEMORY_SPAN) & (sums.len() != PAGE_COUNT);
+    if wrong {
+        return LoadResult {
+            number: WRONG_PAGE_LIST,
+            place: 0,
+        };
+    }
+    load_into(tape, memory, sums)
 }

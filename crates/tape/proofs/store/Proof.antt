@@ -1,23 +1,29 @@
 use Rattle.tape.proofs.TapeLaws.{store-end, store-skip, store-last, store-on, data-fits}
 use Rattle.tape.specs.Tapes.{storeFrom}
+use Rattle.page_sums.specs.PageSums.{sumsAfter}
+use Rattle.page_sums.proofs.Sums.{Words, sums-length, sums-kept, sums-then}
 use denote.Ref.{now}
 use lib.ListN.{length, drop}
 use Prim.Native.Nat.{_-_}
 use mathlib.Core.Logic.{⊎-elim}
-use mathlib.Core.Path.{_≡_, refl, sym, _∙_}
+use mathlib.Core.Path.{_≡_, refl, sym, ap, _∙_}
 use borrow.Author.Needs.{needs}
 use native.Mathlib.Omega.{arith}
 use Rattle.tape.proofs.store.Statement.{statement}
 use Rattle.tape.proofs.store.Tie as tie
 
 abbrev Inv-loop : tie.InvT-loop
-Inv-loop tape memory₀ place₀ memory place = (length memory ≡ length memory₀) × (storeFrom (drop place tape) memory ≡ storeFrom tape memory₀)
+Inv-loop tape memory₀ sums₀ place₀ memory sums place =
+    (length memory ≡ length memory₀) × (storeFrom (drop place tape) memory ≡ storeFrom tape memory₀) × (sums ≡ sumsAfter sums₀ memory₀ memory)
 
 abbrev μ-loop : tie.MeasureT-loop
-μ-loop tape memory₀ place₀ memory place = length tape - place
+μ-loop tape memory₀ sums₀ place₀ memory sums place = length tape - place
 
 loop-holds : tie.Need-loop-holds Inv-loop μ-loop
-loop-holds c = (refl, refl)
+loop-holds c =
+    let at = c .before .before .before .args in
+    let words : Words (now (at .sums)) = λ p. omega (arith, c .slice-known2 .given p) in
+    (refl, refl, sums-kept 0 (now (at .sums)) (now (at .memory)) words)
 
 shared-slice-read-if1 : tie.Need-shared-slice-read-if1 Inv-loop μ-loop
 shared-slice-read-if1 c = omega arith
@@ -40,8 +46,19 @@ count-requires c κs = search needs
 same-length : tie.Need-same-length Inv-loop μ-loop
 same-length c = c .before .before .before .before .before .before .loop .inv .0
 
+same-length-2 : tie.Need-same-length-2 Inv-loop μ-loop
+same-length-2 c =
+    let at = c .before .before .before .before .before .before .before .before .before .before .args in
+    let loop = c .before .before .before .before .before .before .loop in
+    ap length (loop .inv .2) ∙ sums-length 0 (now (at .sums)) (now (at .memory)) (loop .memory)
+
 returns : tie.Need-returns Inv-loop μ-loop
-returns c = sym (store-last (now (c .before .before .before .before .before .before .before .before .before .args .tape)) (c .before .before .before .before .before .before .loop .place) (c .before .before .before .before .before .loop-test .taken) (c .before .before .before .if1 .taken) (c .before .count .result) (c .before .count .ensures) (c .before .before .before .before .before .before .loop .memory) (c .if2 .taken)) ∙ c .before .before .before .before .before .before .loop .inv .1
+returns c =
+    let at = c .before .before .before .before .before .before .before .before .before .before .args in
+    let loop = c .before .before .before .before .before .before .loop in
+    let test = c .before .before .before .before .before .loop-test .taken in
+    let count = c .before .count in
+    (sym (store-last (now (at .tape)) (loop .place) test (c .before .before .before .if1 .taken) (count .result) (count .ensures) (loop .memory) (c .if2 .taken)) ∙ loop .inv .1, loop .inv .2)
 
 address-requires : tie.Need-address-requires Inv-loop μ-loop
 address-requires c κs = search needs
@@ -50,7 +67,12 @@ record-data-requires : tie.Need-record-data-requires Inv-loop μ-loop
 record-data-requires c κs = search needs
 
 land-requires : tie.Need-land-requires Inv-loop μ-loop
-land-requires c κs = let f = data-fits (now (c .before .before .before .before .before .before .before .before .before .before .before .before .args .tape)) (c .before .before .before .before .before .before .before .before .before .loop .place) (c .before .before .address .result) (now (c .record-data .result)) (c .before .before .address .ensures) (c .record-data .ensures) in (omega (arith, f, c .before .before .before .before .before .before .before .before .before .loop .inv .0, c .before .before .before .before .before .before .before .before .before .before .before .before .pre), omega (arith, f, c .before .before .before .before .before .before .before .before .before .loop .inv .0, c .before .before .before .before .before .before .before .before .before .before .before .before .pre))
+land-requires c κs =
+    let start = c .before .before .before .before .before .before .before .before .before .before .before .before .before .before in
+    let loop = c .before .before .before .before .before .before .before .before .before .before .loop in
+    let address = c .before .before .before .address in
+    let f = data-fits (now (start .args .tape)) (loop .place) (address .result) (now (c .record-data .result)) (address .ensures) (c .record-data .ensures) in
+    (omega (arith, f, loop .inv .0, start .pre), omega (arith, f, loop .inv .0, start .pre))
 
 add-place : tie.Need-add-place Inv-loop μ-loop
 add-place c = omega arith
@@ -59,13 +81,38 @@ loop-less : tie.Need-loop-less Inv-loop μ-loop
 loop-less c = omega arith
 
 loop-again : tie.Need-loop-again Inv-loop μ-loop
-loop-again c = ⊎-elim (λ w. (rw (w .10) (w .7 .kept .0 ∙ c .before .before .before .loop .inv .0), rw (w .10) (sym (store-on (now (c .before .before .before .before .before .before .args .tape)) (c .before .before .before .loop .place) (c .before .before .loop-test .taken) (w .0 .taken) (w .2 .result) (w .2 .ensures) (c .before .before .before .loop .memory) (w .4 .result) (now (w .6 .result)) (w .7 .last .0) (w .3 .left) (w .4 .ensures) (w .6 .ensures) (w .7 .ensures)) ∙ c .before .before .before .loop .inv .1))) (λ w. (rw (w .1) (c .before .before .before .loop .inv .0), rw (w .1) (sym (store-skip (now (c .before .before .before .before .before .before .args .tape)) (c .before .before .before .loop .place) (c .before .before .loop-test .taken) (w .0 .left) (c .before .before .before .loop .memory)) ∙ c .before .before .before .loop .inv .1))) (c .if1 .came)
+loop-again c =
+    let at = c .before .before .before .before .before .before .before .args in
+    let loop = c .before .before .before .loop in
+    let test = c .before .before .loop-test .taken in
+    ⊎-elim
+    (λ w. (
+      rw (w .13) (w .8 .kept .0 ∙ loop .inv .0),
+      rw (w .13)
+          (sym (store-on (now (at .tape)) (loop .place) test (w .0 .taken) (w .2 .result) (w .2 .ensures) (loop .memory) (w .4 .result) (now (w .7 .result)) (w .8 .last .0) (w .3 .left) (w .4 .ensures) (w .7 .ensures) (w .8 .ensures .0))
+          ∙ loop .inv .1),
+      rw (w .13, w .14) (sums-then 0 (now (at .sums)) (now (at .memory)) (loop .memory) (w .8 .last .0) (loop .inv .2) (w .8 .ensures .1)),
+    ))
+    (λ w. (
+      rw (w .1) (loop .inv .0),
+      rw (w .1) (sym (store-skip (now (at .tape)) (loop .place) test (w .0 .left) (loop .memory)) ∙ loop .inv .1),
+      rw (w .1, w .2) (loop .inv .2),
+    ))
+    (c .if1 .came)
 
-same-length-2 : tie.Need-same-length-2 Inv-loop μ-loop
-same-length-2 c = c .before .loop .inv .0
+same-length-3 : tie.Need-same-length-3 Inv-loop μ-loop
+same-length-3 c = c .before .loop .inv .0
+
+same-length-4 : tie.Need-same-length-4 Inv-loop μ-loop
+same-length-4 c =
+    let at = c .before .before .before .before .before .args in
+    ap length (c .before .loop .inv .2) ∙ sums-length 0 (now (at .sums)) (now (at .memory)) (c .before .loop .memory)
 
 returns-2 : tie.Need-returns-2 Inv-loop μ-loop
-returns-2 c = sym (store-end (now (c .before .before .before .before .args .tape)) (c .before .loop .place) (c .before .loop .memory) (c .loop-test .left)) ∙ c .before .loop .inv .1
+returns-2 c =
+    let at = c .before .before .before .before .before .args in
+    let loop = c .before .loop in
+    (sym (store-end (now (at .tape)) (loop .place) (loop .memory) (c .loop-test .left)) ∙ loop .inv .1, loop .inv .2)
 
 pub store-spec : {M : Type 1} → statement M
 store-spec =
@@ -81,6 +128,7 @@ store-spec =
     part-text-end
     count-requires
     same-length
+    same-length-2
     returns
     address-requires
     record-data-requires
@@ -88,5 +136,6 @@ store-spec =
     add-place
     loop-less
     loop-again
-    same-length-2
+    same-length-3
+    same-length-4
     returns-2)

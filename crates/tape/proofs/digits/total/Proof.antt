@@ -1,5 +1,6 @@
 use Rattle.tape.proofs.DigitLaws.{byte-most, total-next, total-end}
-use Rattle.tape.specs.Digits.{bytesOf, totalOf}
+use Rattle.page_sums.specs.PageSums.{totalOf}
+use Rattle.tape.specs.Digits.{bytesOf}
 use denote.Ref.{now}
 use lib.ListN.{length, drop, getD}
 use Prim.Native.Nat.{_+_, _*_, _/_, _-_, _≤_}

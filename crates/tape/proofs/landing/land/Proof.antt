@@ -1,5 +1,6 @@
+use Rattle.tape.proofs.MemoryLaws.{put-back, sums-back}
 use Rattle.tape.specs.Digits.{bytesOf}
-use Rattle.tape.proofs.MemoryLaws.{put-back}
+use Rattle.memory.specs.Memory.{registerEnd}
 use denote.Ref.{now}
 use borrow.Author.Needs.{needs}
 use Rattle.tape.proofs.landing.land.Statement.{statement}
@@ -14,17 +15,22 @@ part-put-bytes-start c = search needs
 part-put-bytes-end : tie.Need-part-put-bytes-end
 part-put-bytes-end c = search needs
 
-dropped-requires : tie.Need-dropped-requires
-dropped-requires c κs = search needs
-
 put-bytes-requires : tie.Need-put-bytes-requires
 put-bytes-requires c κs = search needs
 
 same-length : tie.Need-same-length
 same-length c = search needs
 
+same-length-2 : tie.Need-same-length-2
+same-length-2 c = search needs
+
 returns : tie.Need-returns
-returns c = put-back 64 (c .before .before .before .before .before .before .before .args .address) (c .before .before .before .dropped .result) (bytesOf (now (c .before .before .before .before .before .before .before .args .digits))) (now (c .before .before .before .before .before .before .before .args .memory)) (c .before .before .put-bytes .last .0) (c .before .before .before .before .before .before .before .pre .0) (c .before .before .before .dropped .ensures) (c .before .before .put-bytes .ensures)
+returns c =
+    let start = c .before .before .before .before .before .before .before .before .before .before in
+    let at = start .args in
+    let put = c .before .before .before .before .put-bytes in
+    let back = put-back (at .address) (now (at .memory)) (put .last .0) (start .pre .0) registerEnd (bytesOf (now (at .digits))) (put .ensures .0) in
+    (back, sums-back (at .address) (now (at .memory)) (put .last .0) (start .pre .0) (now (at .sums)) (put .last .1 .1 .0) (put .ensures .1))
 
 pub land-spec : {M : Type 1} → statement M
 land-spec =
@@ -33,7 +39,7 @@ land-spec =
     sub-put-bytes
     part-put-bytes-start
     part-put-bytes-end
-    dropped-requires
     put-bytes-requires
     same-length
+    same-length-2
     returns)

@@ -1,23 +1,37 @@
-use Rattle.tape.proofs.MemoryLaws.{put-next, put-end}
+use Rattle.tape.proofs.MemoryLaws.{put-first, put-on, put-end}
 use Rattle.tape.specs.Tapes.{putFrom}
 use Rattle.tape.specs.Digits.{bytesOf}
+use Rattle.memory.specs.Memory.{registerEnd}
+use Rattle.page_sums.specs.PageSums.{sumsAfterPart}
+use Rattle.page_sums.proofs.Sums.{Words, sums-length, sums-kept, sums-then}
 use denote.Ref.{now}
 use lib.ListN.{length, drop}
-use Prim.Native.Nat.{_*_, _/_, _-_}
-use mathlib.Core.Path.{_≡_, refl, sym, _∙_}
+use Prim.Native.Nat.{_*_, _/_, _-_, _≤_, _<_}
+use mathlib.Core.Path.{_≡_, refl, sym, ap, _∙_}
 use borrow.Author.Needs.{needs}
 use native.Mathlib.Omega.{arith}
 use Rattle.tape.proofs.landing.put_bytes.Statement.{statement}
 use Rattle.tape.proofs.landing.put_bytes.Tie as tie
 
 abbrev Inv-loop : tie.InvT-loop
-Inv-loop part₀ low digits k₀ part k = (length part ≡ length part₀) × (putFrom low k (bytesOf (drop (2 * k) digits)) part ≡ putFrom low 0 (bytesOf digits) part₀)
+Inv-loop part₀ address sums₀ digits k₀ part sums k =
+    (length part ≡ length part₀)
+    × (registerEnd - address ≤ k)
+    × (putFrom (registerEnd - address) k (bytesOf (drop (2 * k) digits)) part ≡ putFrom (registerEnd - address) 0 (bytesOf digits) part₀)
+    × (sums ≡ sumsAfterPart address sums₀ part₀ part)
 
 abbrev μ-loop : tie.MeasureT-loop
-μ-loop part₀ low digits k₀ part k = length digits / 2 - k
+μ-loop part₀ address sums₀ digits k₀ part sums k = length digits / 2 - k
+
+dropped-requires : tie.Need-dropped-requires Inv-loop μ-loop
+dropped-requires c κs = search needs
 
 loop-holds : tie.Need-loop-holds Inv-loop μ-loop
-loop-holds c = (refl, refl)
+loop-holds c =
+    let at = c .before .before .before .before .args in
+    let low = c .dropped .ensures in
+    let words : Words (now (at .sums)) = λ p. omega (arith, c .before .before .slice-known2 .given p) in
+    (refl, omega (arith, low), rw low (put-first (registerEnd - at .address) (now (at .digits)) (now (at .part))), sums-kept (at .address) (now (at .sums)) (now (at .part)) words)
 
 mul-byte : tie.Need-mul-byte Inv-loop μ-loop
 mul-byte c = omega arith
@@ -37,23 +51,47 @@ shared-slice-read-byte-2 c = omega arith
 byte-requires : tie.Need-byte-requires Inv-loop μ-loop
 byte-requires c κs = search needs
 
-put-requires : tie.Need-put-requires Inv-loop μ-loop
-put-requires c κs = omega (arith, c .before .before .before .before .before .loop .inv .0, c .before .before .before .before .before .before .before .before .pre, c .before .before .before .before .loop-test .taken)
+put-byte-requires : tie.Need-put-byte-requires Inv-loop μ-loop
+put-byte-requires c κs =
+    let start = c .before .before .before .before .before .before .before .before .before .before .before in
+    let loop = c .before .before .before .before .before .before .loop in
+    let test = c .before .before .before .before .before .loop-test .taken in
+    let inside : loop .k < length (loop .part) = omega (arith, loop .inv .0, start .pre .0, test) in
+    (inside, omega (arith, loop .inv .0, start .pre .1, inside))
 
 add-k : tie.Need-add-k Inv-loop μ-loop
-add-k c = omega (arith, c .before .before .before .before .before .before .before .loop-test .taken)
+add-k c = omega (arith, c .before .before .before .before .before .before .before .before .before .before .loop-test .taken)
 
 loop-less : tie.Need-loop-less Inv-loop μ-loop
-loop-less c = omega (arith, c .before .before .before .before .before .before .before .loop-test .taken)
+loop-less c = omega (arith, c .before .before .before .before .before .before .before .before .before .before .loop-test .taken)
 
 loop-again : tie.Need-loop-again Inv-loop μ-loop
-loop-again c = (c .before .before .put .kept .0 ∙ c .before .before .before .before .before .before .before .before .loop .inv .0, rw (c .before .before .put .ensures, c .before .before .before .byte .ensures) (sym (put-next (c .before .before .before .before .before .before .before .before .before .before .before .args .low) (c .before .before .before .before .before .before .before .before .loop .k) (now (c .before .before .before .before .before .before .before .before .before .before .before .args .digits)) (c .before .before .before .before .before .before .before .before .loop .part) (c .before .before .before .before .before .before .before .loop-test .taken)) ∙ c .before .before .before .before .before .before .before .before .loop .inv .1))
+loop-again c =
+    let at = c .before .before .before .before .before .before .before .before .before .before .before .before .before .before .before .before .args in
+    let loop = c .before .before .before .before .before .before .before .before .before .before .before .loop in
+    let test = c .before .before .before .before .before .before .before .before .before .before .loop-test .taken in
+    let put = c .before .before .before .before .put-byte in
+    let low = registerEnd - at .address in (
+      put .kept .0 ∙ loop .inv .0,
+      omega (arith, loop .inv .1),
+      rw (put .ensures .0, c .before .before .before .before .before .byte .ensures)
+          (sym (put-on low (now (at .digits)) (loop .k) (loop .part) (loop .inv .1) test) ∙ loop .inv .2),
+      sums-then (at .address) (now (at .sums)) (now (at .part)) (loop .part) (put .last .0) (loop .inv .3) (put .ensures .1),
+    )
 
 same-length : tie.Need-same-length Inv-loop μ-loop
 same-length c = c .before .loop .inv .0
 
+same-length-2 : tie.Need-same-length-2 Inv-loop μ-loop
+same-length-2 c =
+    let at = c .before .before .before .before .before .before .args in
+    ap length (c .before .loop .inv .3) ∙ sums-length (at .address) (now (at .sums)) (now (at .part)) (c .before .loop .part)
+
 returns : tie.Need-returns Inv-loop μ-loop
-returns c = sym (put-end (c .before .before .before .before .args .low) (c .before .loop .k) (now (c .before .before .before .before .args .digits)) (c .before .loop .part) (c .loop-test .left)) ∙ c .before .loop .inv .1
+returns c =
+    let at = c .before .before .before .before .before .before .args in
+    let loop = c .before .loop in
+    (sym (put-end (registerEnd - at .address) (now (at .digits)) (loop .k) (loop .part) (c .loop-test .left)) ∙ loop .inv .2, loop .inv .3)
 
 pub put-bytes-spec : {M : Type 1} → statement M
 put-bytes-spec =
@@ -61,6 +99,7 @@ put-bytes-spec =
     (tie.spec
     Inv-loop
     μ-loop
+    dropped-requires
     loop-holds
     mul-byte
     shared-slice-read-byte
@@ -68,9 +107,10 @@ put-bytes-spec =
     add-byte
     shared-slice-read-byte-2
     byte-requires
-    put-requires
+    put-byte-requires
     add-k
     loop-less
     loop-again
     same-length
+    same-length-2
     returns)

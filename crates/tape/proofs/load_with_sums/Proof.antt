@@ -1,0 +1,39 @@
+use mathlib.Core.Path.{sym, _∙_}
+use denote.Ref.{now}
+use native.Mathlib.Omega.{arith}
+use Rattle.bits.proofs.Cond.{cond-yes, cond-no}
+use Rattle.page_sums.proofs.Sums.{Words, sums-kept}
+use Rattle.tape.specs.Tapes.{loadResult, loaded, loadOf, loadWithSumsOf}
+use borrow.Author.Needs.{needs}
+use Rattle.tape.proofs.load_with_sums.Statement.{statement}
+use Rattle.tape.proofs.load_with_sums.Tie as tie
+
+returns : tie.Need-returns
+unfolding loadWithSumsOf
+returns c =
+    let at = c .before .before .before .before .args in
+    let words : Words (now (at .sums)) = λ p. omega (arith, c .before .slice-known2 .given p) in
+    (sym (cond-yes _ (loaded (loadResult 13 0) (now (at .memory))) (loadOf (now (at .tape)) (now (at .memory))) (c .if1 .taken)), sums-kept 0 (now (at .sums)) (now (at .memory)) words)
+
+load-into-requires : tie.Need-load-into-requires
+load-into-requires c κs = search needs
+
+same-length : tie.Need-same-length
+same-length c = search needs
+
+same-length-2 : tie.Need-same-length-2
+same-length-2 c = search needs
+
+returns-2 : tie.Need-returns-2
+unfolding loadWithSumsOf
+returns-2 c =
+    let at = c .before .before .before .before .before .before .before .before .before .before .before .args in
+    let load = c .before .before .before .before .load-into in (
+      load .ensures .0
+          ∙ sym (cond-no _ (loaded (loadResult 13 0) (now (at .memory))) (loadOf (now (at .tape)) (now (at .memory))) (c .before .before .before .before .before .before .before .if1 .left)),
+      load .ensures .1,
+    )
+
+pub load-with-sums-spec : {M : Type 1} → statement M
+load-with-sums-spec =
+    tie.close (tie.spec returns load-into-requires same-length same-length-2 returns-2)
