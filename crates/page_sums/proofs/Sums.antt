@@ -2,21 +2,29 @@
 use mathlib.Core.Path.{_≡_, refl, ap, sym, _∙_}
 use mathlib.Core.Bool.{Bool, true, false, cond}
 use mathlib.Core.List.{List, [], _∷_, _++_}
-use Prim.Native.Nat.{ℕ, zero, suc, _+_, _-_, _*_, _/_, _%_, _≤_, _<_}
+use Prim.Native.Nat.{ℕ, zero, suc, _+_, _-_, _%_, _≤_, _<_}
 use native.Mathlib.Nat.{add-zero, zero-add}
-use native.Mathlib.Numerals.{add-one}
 use native.Mathlib.Omega.{arith}
 use borrow.Author.Tests.{eq-eqb, ne-eqb, eqb-true, eqb-false}
 use lib.Dec.{eqb}
 use lib.ListN.{length, getD, set, replicate, length-set, length-replicate, getD-replicate}
 use lib.Seq.{ext-getD, getD-set-same, getD-set-other}
-use Rattle.bits.specs.Lists.{tabulate}
 use Rattle.bits.proofs.Tables.{getD-tabulate, length-tabulate}
 use Rattle.page_sums.specs.PageSums.{sumSpan, pageOf, partSum, pageSum, changedBy, sumAt, sumAfter, sumsAfterPart, sumsAfter, Right}
 
 -- ---- one sum
 
 module _ (sum : ℕ) where
+  -- modulo 65,536 the new sum with what was there before is the old one with what is there after; no other below 65,536
+  -- is
+  pub changed-exactly : (before after : ℕ) → (changedBy sum before after + before) % sumSpan ≡ (sum + after) % sumSpan
+  unfolding changedBy
+  changed-exactly before after = omega arith
+
+  pub changed-alone : (before after x : ℕ) → x < sumSpan → (x + before) % sumSpan ≡ (sum + after) % sumSpan → x ≡ changedBy sum before after
+  unfolding changedBy
+  changed-alone before after x h e = omega arith
+
   pub changed-below : (before after : ℕ) → changedBy sum before after < sumSpan
   unfolding changedBy
   changed-below before after = omega arith
@@ -45,16 +53,6 @@ module _ (sum : ℕ) where
   pub changed-beside : (rest before after : ℕ) → changedBy sum (rest + before) (rest + after) ≡ changedBy sum before after
   unfolding changedBy
   changed-beside rest before after = omega arith
-
-  -- "by exactly what its page's bytes change, modulo 65,536": the sum and what was there before go as the old sum and
-  -- what is there after, and no other sum below 65,536 does
-  pub changed-exactly : (before after : ℕ) → (changedBy sum before after + before) % sumSpan ≡ (sum + after) % sumSpan
-  unfolding changedBy
-  changed-exactly before after = omega arith
-
-  pub changed-alone : (before after x : ℕ) → x < sumSpan → (x + before) % sumSpan ≡ (sum + after) % sumSpan → x ≡ changedBy sum before after
-  unfolding changedBy
-  changed-alone before after x h e = omega arith
 
 -- a right sum is right afterwards
 pub changed-right : (before after : ℕ) → changedBy (before % sumSpan) before after ≡ after % sumSpan
@@ -182,6 +180,14 @@ pub exactly-changed : (sums memory later : List ℕ) (p : ℕ) → p < length su
 exactly-changed sums memory later p h =
     let e = sum-after 0 sums memory later p h in
     (rw e (changed-below (sumAt sums p) (pageSum p memory) (pageSum p later)), rw e (changed-exactly (sumAt sums p) (pageSum p memory) (pageSum p later)))
+
+-- and no other list of as many sums below 65,536 does
+pub alone-changed : (sums memory later l : List ℕ) → length l ≡ length sums
+    → ((p : ℕ) → p < length sums → (sumAt l p < sumSpan) × ((sumAt l p + pageSum p memory) % sumSpan ≡ (sumAt sums p + pageSum p later) % sumSpan))
+    → l ≡ sumsAfter sums memory later
+alone-changed sums memory later l n h =
+    sums-are 0 sums memory later l n
+    (λ p i. changed-alone (sumAt sums p) (pageSum p memory) (pageSum p later) (sumAt l p) (h p i .0) (h p i .1))
 
 -- right before, right after
 pub right-after : (sums memory later : List ℕ) → Right sums memory → Right (sumsAfter sums memory later) later
