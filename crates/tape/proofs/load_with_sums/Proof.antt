@@ -1,7 +1,12 @@
-use mathlib.Core.Path.{sym, _∙_}
+use mathlib.Core.Path.{_≡_, sym, _∙_}
+use mathlib.Core.Bool.{true, _&&_, not}
+use lib.Dec.{eqb}
+use lib.ListN.{length}
 use denote.Ref.{now}
 use native.Mathlib.Omega.{arith}
 use Rattle.bits.proofs.Cond.{cond-yes, cond-no}
+use Rattle.memory.specs.Memory.{memorySpan}
+use Rattle.page_sums.specs.PageSums.{pageCount}
 use Rattle.page_sums.proofs.Sums.{Words, sums-kept}
 use Rattle.tape.specs.Tapes.{loadResult, loaded, loadOf, loadWithSumsOf}
 use borrow.Author.Needs.{needs}
@@ -12,8 +17,11 @@ returns : tie.Need-returns
 unfolding loadWithSumsOf
 returns c =
     let at = c .before .before .before .before .args in
-    let words : Words (now (at .sums)) = λ p. omega (arith, c .before .slice-known2 .given p) in
-    (sym (cond-yes _ (loaded (loadResult 13 0) (now (at .memory))) (loadOf (now (at .tape)) (now (at .memory))) (c .if1 .taken)), sums-kept 0 (now (at .sums)) (now (at .memory)) words)
+    let memory = now (at .memory) in
+    let sums = now (at .sums) in
+    let wrong : (eqb (length memory) memorySpan && not (eqb (length sums) pageCount)) ≡ true = c .if1 .taken in
+    let words : Words sums = λ p. omega (arith, c .before .slice-known2 .given p) in
+    (sym (cond-yes _ (loaded (loadResult 13 0) memory) (loadOf (now (at .tape)) memory) wrong), sums-kept 0 sums memory words)
 
 load-into-requires : tie.Need-load-into-requires
 load-into-requires c κs = search needs
