@@ -1,11 +1,12 @@
 -- Document 02, U7: page sums beside the memory.
-use mathlib.Core.Bool.{cond}
+use mathlib.Core.Bool.{Bool, _&&_, not, cond}
 use mathlib.Core.List.{List, [], _∷_, map}
 use Prim.Native.Nat.{ℕ, _+_, _*_, _/_, _%_, _<_}
 use mathlib.Core.Path.{_≡_}
 use lib.Dec.{eqb}
 use lib.ListN.{length, getD}
 use Rattle.bits.specs.Lists.{tabulate}
+use Rattle.memory.specs.Memory.{memorySpan}
 use Rattle.page_sums.specs.declared.TotalResult.{TotalResult}
 
 -- the sum of numbers
@@ -66,9 +67,14 @@ Right sums memory = (p : ℕ) → p < length sums → sumAt sums p ≡ pageSum p
 abbrev pub totalAlong : List ℕ → List ℕ → ℕ
 totalAlong order sums = totalOf (map (sumAt sums) order) % sumSpan
 
+-- "13: a page list not of 256 sums, like 1 and directly after it": of a call that is lent a memory of so many bytes and
+-- so many sums. A memory of another length is 1, which comes before.
+unfoldable pub pageListRefused : ℕ → ℕ → Bool
+pageListRefused memory sums = eqb memory memorySpan && not (eqb sums pageCount)
+
 abbrev pub totalResult : ℕ → ℕ → TotalResult
 totalResult n t = record { number = n; total = t }
 
--- "13: a page list not of 256 sums"
+-- the call for the total: "a page list not of 256 sums" is 13
 unfoldable pub totalCall : List ℕ → TotalResult
 totalCall sums = cond (eqb (length sums) pageCount) (totalResult 0 (totalOf sums % sumSpan)) (totalResult 13 0)

@@ -1,11 +1,12 @@
 // Page sums beside a memory: one commit of a byte to both, and the total (document 02, U7).
+use memory::MEMORY_SPAN;
 ghost use mathlib.Core.Path.{_≡_};
 ghost use Prim.Native.Nat.{_+_, _<_, _^_};
 ghost use lib.ListN.{length, set};
-ghost use Rattle.page_sums.specs.PageSums.{changedBy, sumAt, sumsAfterPart, totalCall};
+ghost use Rattle.page_sums.specs.PageSums.{changedBy, sumAt, sumsAfterPart, pageListRefused, totalCall};
 
 // The sums of a page list.
-pub const PAGE_COUNT: usize = 256;
+const PAGE_COUNT: usize = 256;
 
 // The bytes of a page.
 const PAGE_LENGTH: usize = 256;
@@ -39,6 +40,14 @@ pub fn put_byte(part: &mut [u8], address: usize, sums: &mut [u16], k: usize, val
 {
     change_sum(sums, (address + k) / PAGE_LENGTH, part[k], value);
     part[k] = value;
+}
+
+// Whether 13 refuses a call that is lent a memory of so many bytes and so many sums: 1 does not, which comes before,
+// and there are not 256 sums.
+pub fn page_list_refused(memory: usize, sums: usize) -> bool
+    ensures { λ r. ⌜ r ≡ pageListRefused memory sums ⌝ }
+{
+    (memory == MEMORY_SPAN) & (sums != PAGE_COUNT)
 }
 
 // The total of 256 page sums, modulo 65,536.

@@ -1,12 +1,12 @@
 -- A tape checked, and its bytes in memory (document 01, "Tape" and "What is handed back").
-use mathlib.Core.Bool.{_&&_, not, cond}
+use mathlib.Core.Bool.{_&&_, cond}
 use mathlib.Core.List.{List, [], _∷_}
 use Prim.Native.Nat.{ℕ, _+_}
 use lib.Dec.{ltb, eqb}
 use lib.ListN.{length, set}
 use Rattle.bits.specs.Bits.{digit}
 use Rattle.memory.specs.Memory.{memorySpan, registerEnd}
-use Rattle.page_sums.specs.PageSums.{pageCount}
+use Rattle.page_sums.specs.PageSums.{pageListRefused}
 use Rattle.tape.specs.declared.LoadResult.{LoadResult}
 use Rattle.tape.specs.Digits.{bytesOf}
 use Rattle.tape.specs.Records.{mark, byteCountOf, addressOf, faultOf, dataOf}
@@ -75,9 +75,8 @@ loadOf tape memory =
     (loaded (checkOf tape) (cond (eqb (checkOf tape .number) 0) (storeFrom tape memory) memory))
     (loaded (loadResult 1 0) memory)
 
--- 02, U7: a load with page sums. "13: a page list not of 256 sums, like 1 and directly after it": behind 1, before any
--- record, with place 0. Unless 13 refuses it, it is a load. (The sums go by `sumsAfter` of the memory.)
+-- 02, U7: a load with page sums. 13 comes behind 1 and before any record, with place 0; unless it refuses, it is a load.
+-- (The sums go by the memory: `sumsAfter`.)
 unfoldable pub loadWithSumsOf : List ℕ → List ℕ → List ℕ → Loaded
 loadWithSumsOf tape memory sums =
-    cond (eqb (length memory) memorySpan && not (eqb (length sums) pageCount)) (loaded (loadResult 13 0) memory)
-    (loadOf tape memory)
+    cond (pageListRefused (length memory) (length sums)) (loaded (loadResult 13 0) memory) (loadOf tape memory)

@@ -5,8 +5,8 @@ mod record;
 
 use landing::land;
 use memory::MEMORY_SPAN;
-use page_sums::PAGE_COUNT;
 use page_sums::WRONG_PAGE_LIST;
+use page_sums::page_list_refused;
 use record::address;
 use record::count;
 use record::data_digits;
@@ -135,8 +135,7 @@ pub fn load_with_sums(tape: &[u8], memory: &mut [u8], sums: &mut [u16]) -> LoadR
         ≡ loadWithSumsOf (now (tape .entry)) (now (memory .entry)) (now (sums .entry)) ⌝ }
     ensures { λ _. ⌜ now (sums .exit) ≡ sumsAfter (now (sums .entry)) (now (memory .entry)) (now (memory .exit)) ⌝ }
 {
-    let wrong = (memory.len() == MEMORY_SPAN) & (sums.len() != PAGE_COUNT);
-    if wrong {
+    if page_list_refused(memory.len(), sums.len()) {
         return LoadResult {
             number: WRONG_PAGE_LIST,
             place: 0,

@@ -1,4 +1,4 @@
-use mathlib.Core.Path.{ap, sym}
+use mathlib.Core.Path.{_≡_, ap, sym}
 use lib.Dec.{eqb}
 use denote.Ref.{now}
 use native.Mathlib.Omega.{arith}
@@ -25,9 +25,10 @@ unfolding loadOf
 returns-2 c =
     let at = c .before .before .before .before .before .before .before .args in
     let checked = c .before .before .check .result in
+    let refused : checked .number ≡ 0 → ⊥ = c .if2 .taken in
     let words : Words (now (at .sums)) = λ p. omega (arith, c .before .before .before .before .slice-known2 .given p) in (
       rw (← c .before .before .check .ensures, eq-eqb _ _ (c .before .before .before .if1 .left))
-          (ap (loaded checked) (sym (cond-no (eqb (checked .number) 0) (storeFrom (now (at .tape)) (now (at .memory))) (now (at .memory)) (ne-eqb (checked .number) 0 (c .if2 .taken))))),
+          (ap (loaded checked) (sym (cond-no (eqb (checked .number) 0) (storeFrom (now (at .tape)) (now (at .memory))) (now (at .memory)) (ne-eqb (checked .number) 0 refused)))),
       sums-kept 0 (now (at .sums)) (now (at .memory)) words,
     )
 

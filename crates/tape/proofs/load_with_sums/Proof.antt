@@ -1,26 +1,28 @@
 use mathlib.Core.Path.{_≡_, sym, _∙_}
-use mathlib.Core.Bool.{true, _&&_, not}
-use lib.Dec.{eqb}
+use mathlib.Core.Bool.{true, false}
 use lib.ListN.{length}
 use denote.Ref.{now}
 use native.Mathlib.Omega.{arith}
 use Rattle.bits.proofs.Cond.{cond-yes, cond-no}
-use Rattle.memory.specs.Memory.{memorySpan}
-use Rattle.page_sums.specs.PageSums.{pageCount}
+use Rattle.page_sums.specs.PageSums.{pageListRefused}
 use Rattle.page_sums.proofs.Sums.{Words, sums-kept}
 use Rattle.tape.specs.Tapes.{loadResult, loaded, loadOf, loadWithSumsOf}
 use borrow.Author.Needs.{needs}
 use Rattle.tape.proofs.load_with_sums.Statement.{statement}
 use Rattle.tape.proofs.load_with_sums.Tie as tie
 
+page-list-refused-requires : tie.Need-page-list-refused-requires
+page-list-refused-requires c κs = search needs
+
 returns : tie.Need-returns
 unfolding loadWithSumsOf
 returns c =
-    let at = c .before .before .before .before .args in
+    let at = c .before .before .before .before .before .args in
     let memory = now (at .memory) in
     let sums = now (at .sums) in
-    let wrong : (eqb (length memory) memorySpan && not (eqb (length sums) pageCount)) ≡ true = c .if1 .taken in
-    let words : Words sums = λ p. omega (arith, c .before .slice-known2 .given p) in
+    let told : c .before .page-list-refused .result ≡ pageListRefused (length memory) (length sums) = c .before .page-list-refused .ensures in
+    let wrong : pageListRefused (length memory) (length sums) ≡ true = sym told ∙ c .if1 .taken in
+    let words : Words sums = λ p. omega (arith, c .before .before .slice-known2 .given p) in
     (sym (cond-yes _ (loaded (loadResult 13 0) memory) (loadOf (now (at .tape)) memory) wrong), sums-kept 0 sums memory words)
 
 load-into-requires : tie.Need-load-into-requires
@@ -35,13 +37,15 @@ same-length-2 c = search needs
 returns-2 : tie.Need-returns-2
 unfolding loadWithSumsOf
 returns-2 c =
-    let at = c .before .before .before .before .before .before .before .before .before .before .before .args in
-    let load = c .before .before .before .before .load-into in (
-      load .ensures .0
-          ∙ sym (cond-no _ (loaded (loadResult 13 0) (now (at .memory))) (loadOf (now (at .tape)) (now (at .memory))) (c .before .before .before .before .before .before .before .if1 .left)),
-      load .ensures .1,
-    )
+    let at = c .before .before .before .before .before .before .before .before .before .before .before .before .args in
+    let memory = now (at .memory) in
+    let sums = now (at .sums) in
+    let load = c .before .before .before .before .load-into in
+    let told : c .before .before .before .before .before .before .before .before .page-list-refused .result ≡ pageListRefused (length memory) (length sums) = c .before .before .before .before .before .before .before .before .page-list-refused .ensures in
+    let right : pageListRefused (length memory) (length sums) ≡ false = sym told ∙ c .before .before .before .before .before .before .before .if1 .left in
+    (load .ensures .0 ∙ sym (cond-no _ (loaded (loadResult 13 0) memory) (loadOf (now (at .tape)) memory) right), load .ensures .1)
 
 pub load-with-sums-spec : {M : Type 1} → statement M
 load-with-sums-spec =
-    tie.close (tie.spec returns load-into-requires same-length same-length-2 returns-2)
+    tie.close
+    (tie.spec page-list-refused-requires returns load-into-requires same-length same-length-2 returns-2)
