@@ -1,8 +1,8 @@
 -- Document 02, U7: page sums beside the memory.
+use mathlib.Core.Path.{_≡_}
 use mathlib.Core.Bool.{Bool, _&&_, not, cond}
 use mathlib.Core.List.{List, [], _∷_, map}
 use Prim.Native.Nat.{ℕ, _+_, _*_, _/_, _%_, _<_}
-use mathlib.Core.Path.{_≡_}
 use lib.Dec.{eqb}
 use lib.ListN.{length, getD}
 use Rattle.bits.specs.Lists.{tabulate}
@@ -39,7 +39,8 @@ abbrev pub pageSum : ℕ → List ℕ → ℕ
 pageSum p memory = partSum p 0 memory
 
 -- "changes each sum, right or wrong before, by exactly what its page's bytes change, modulo 65,536": a sum, where its
--- page's bytes summed to `before` and then to `after`. To take `before` off, 65,535 times it is added.
+-- page's bytes summed to `before` and then to `after`. Numbers have no sign: modulo 65,536 to add 65,535 times `before`
+-- is to take it off.
 unfoldable pub changedBy : ℕ → ℕ → ℕ → ℕ
 changedBy sum before after = (sum + after + 65535 * before) % sumSpan
 
