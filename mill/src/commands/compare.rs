@@ -1,0 +1,89 @@
+//! `mill compare`: two runs, step by step.
+use super::{axis, opened, Command};
+use crate::arguments::{Arguments, Form};
+use crate::compare::{compared, Comparison};
+use crate::failure::{Failure, Verdict};
+use crate::folder::Folder;
+use crate::steps::{Axis, Step};
+use crate::units::{grouped, seconds};
+
+pub const COMMAND: Command = Command {
+    name: "compare",
+    usage: "mill compare DIR DIR [--clocks N] [--step PIN:rise|fall] [--direction PIN[:high|low]]
+  Compares the steps of two runs: the first that differs, steps too many or missing, the worst deviation in time and
+  place. Exit code 1 where they differ.
+  --clocks N            clocks that two steps may be apart (0)
+  --step, --direction   as for mill path",
+    form: Form { valued: &["--clocks", "--step", "--direction"], flags: &[], others: (2, 2) },
+    act,
+};
+
+fn act(arguments: &Arguments) -> Result<Verdict, Failure> {
+    let axis = axis(arguments)?;
+    let number = |text: &str| text.parse().map_err(|_| format!("`{text}` is no number of clocks"));
+    let clocks = arguments.read("--clocks", number)?.unwrap_or(0);
+    let first = Side::read(&arguments.others()[0], axis)?;
+    let second = Side::read(&arguments.others()[1], axis)?;
+    if first.folder.rate != second.folder.rate {
+        let rates = [&first, &second].map(|side| grouped(side.folder.rate));
+        return Err(Failure::Usage(format!("the runs have {} and {} clocks a second", rates[0], rates[1])));
+    }
+    let comparison = compared(&first.steps, &second.steps, clocks);
+    print!("{}", report(&first, &second, &comparison));
+    Ok(if comparison.first.is_none() { Verdict::Done } else { Verdict::Differs })
+}
+
+struct Side {
+    folder: Folder,
+    steps: Vec<Step>,
+}
+
+impl Side {
+    fn read(name: &str, axis: Axis) -> Result<Side, Failure> {
+        let folder = opened(name)?;
+        let steps = axis.steps(folder.records()?).collect::<Result<_, _>>()?;
+        Ok(Side { folder, steps })
+    }
+
+    fn line(&self) -> String {
+        let end = self.steps.last().map_or(0, |step| step.position);
+        format!("{}: {} steps, end position {end}\n", self.folder.name(), grouped(self.steps.len() as u64))
+    }
+
+    /// Clock and time.
+    fn at(&self, clock: u64) -> String {
+        format!("clock {} ({} s)", grouped(clock), seconds(clock, self.folder.rate))
+    }
+
+    /// A step of this side in words.
+    fn step(&self, index: usize) -> String {
+        match self.steps.get(index) {
+            Some(step) => format!("{} to position {} on {}", self.folder.name(), step.position, self.at(step.clock)),
+            None => format!("{} has no such step", self.folder.name()),
+        }
+    }
+}
+
+fn report(first: &Side, second: &Side, comparison: &Comparison) -> String {
+    let mut text = first.line() + &second.line();
+    match comparison.first {
+        None => text += "alike\n",
+        Some(index) => {
+            let number = grouped(index as u64 + 1);
+            text +=
+                &format!("step {number} is the first that differs: {}; {}\n", first.step(index), second.step(index));
+        }
+    }
+    let counts = (first.steps.len() as u64, second.steps.len() as u64);
+    if counts.0 != counts.1 {
+        let what = if counts.1 > counts.0 { "too many" } else { "missing" };
+        text += &format!("{}: {} steps {what}\n", second.folder.name(), grouped(counts.0.abs_diff(counts.1)));
+    }
+    if let Some((clocks, index)) = comparison.worst_clocks {
+        text += &format!("worst in time: {} clocks, step {}\n", grouped(clocks), grouped(index as u64 + 1));
+    }
+    if let Some((steps, clock)) = comparison.worst_place {
+        text += &format!("worst in place: {} steps apart, first on {}\n", grouped(steps), first.at(clock));
+    }
+    text
+}

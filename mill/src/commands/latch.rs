@@ -1,0 +1,81 @@
+//! `mill latch`: counter A's latch for a bit rate (document 02, U2 and U9).
+use super::Command;
+use crate::arguments::{Arguments, Form};
+use crate::failure::{Failure, Verdict};
+use crate::units::{bit_rate, hundredths, rate, tolerance};
+use r6501q::{latch, Latch, Number};
+
+pub const COMMAND: Command = Command {
+    name: "latch",
+    usage: "mill latch --clock RATE --baud RATE [--tolerance PERCENT]
+  The smallest value of counter A's latch that makes the bit rate, or that there is none (exit code 1).
+  --clock RATE         clocks a second, as 1MHz
+  --baud RATE          bits a second
+  --tolerance PERCENT  how far the rate made may be off, as 2% (1.5%)",
+    form: Form { valued: &["--clock", "--baud", "--tolerance"], flags: &[], others: (0, 0) },
+    act,
+};
+
+/// The error that source document 001, 6.1.5, calls acceptable: 1.5%.
+const ACCEPTABLE: u32 = 15;
+
+fn act(arguments: &Arguments) -> Result<Verdict, Failure> {
+    let clock = arguments.required("--clock", rate)?;
+    let baud = arguments.required("--baud", bit_rate)?;
+    let tolerance = arguments.read("--tolerance", tolerance)?.unwrap_or(ACCEPTABLE);
+    match latch(clock, baud, tolerance) {
+        Latch::Fits(value) => {
+            println!("{}", described(clock, baud, value));
+            Ok(Verdict::Done)
+        }
+        Latch::Nothing => {
+            println!("no latch value fits; the nearest are:");
+            nearest(clock, baud).into_iter().for_each(|value| println!("  {}", described(clock, baud, value)));
+            Ok(Verdict::Differs)
+        }
+        Latch::Refused => Err(Failure::Usage(Number::RateOutOfLimits.to_string())),
+    }
+}
+
+/// The values around the exact one, clock / (16 × baud) - 1.
+fn nearest(clock: u32, baud: u32) -> Vec<u16> {
+    let ticks = u64::from(clock) / (16 * u64::from(baud));
+    let values = [ticks.saturating_sub(1), ticks].map(|value| u16::try_from(value).unwrap_or(u16::MAX));
+    if values[0] == values[1] {
+        vec![values[0]]
+    } else {
+        values.to_vec()
+    }
+}
+
+/// A value, the bit and the rate that it makes, and how far that is off.
+fn described(clock: u32, baud: u32, value: u16) -> String {
+    let bit = 16 * (u128::from(value) + 1);
+    let (clock, wanted) = (u128::from(clock), bit * u128::from(baud));
+    let made = hundredths(clock, bit);
+    let off = hundredths(100 * clock.abs_diff(wanted), wanted);
+    let side = if clock >= wanted { "+" } else { "-" };
+    format!("latch {value} ({value:04X}h): a bit is {bit} clocks, {made} bits a second, {side}{off}%")
+}
+
+#[cfg(test)]
+mod tests {
+    use super::*;
+
+    #[test]
+    fn values_are_described_by_what_they_make() {
+        let twelve = "latch 12 (000Ch): a bit is 208 clocks, 4807.69 bits a second, +0.16%";
+        assert_eq!(described(1_000_000, 4_800, 12), twelve);
+        assert_eq!(
+            described(1_000_000, 9_600, 6),
+            "latch 6 (0006h): a bit is 112 clocks, 8928.57 bits a second, -6.99%"
+        );
+    }
+
+    #[test]
+    fn the_nearest_values_are_around_the_exact_one() {
+        assert_eq!(nearest(1_000_000, 9_600), [5, 6]);
+        assert_eq!(nearest(1_000_000, 10_000_000), [0]);
+        assert_eq!(nearest(10_000_000, 1), [65_535]);
+    }
+}

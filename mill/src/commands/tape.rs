@@ -1,0 +1,57 @@
+//! `mill tape`: images of memory as a paper tape, and a tape checked.
+use super::Command;
+use crate::arguments::{Arguments, Form};
+use crate::failure::{Failure, Verdict};
+use crate::files::{bytes, output};
+use crate::image::Images;
+use crate::tape::{loaded, written};
+use crate::units::grouped;
+use std::path::Path;
+
+pub const COMMAND: Command = Command {
+    name: "tape",
+    usage: "mill tape IMAGE@ADDRESS.. [HEXFILE..] [-o TAPE]
+       mill tape --check TAPE
+  Makes a paper tape of binary images, each with the hexadecimal address where it lies, and of Intel hex files; or
+  checks a tape, and names the line, the record, what is found and what is expected.
+  -o TAPE        the file to write (else standard output)",
+    form: Form { valued: &["-o"], flags: &["--check"], others: (1, usize::MAX) },
+    act,
+};
+
+fn act(arguments: &Arguments) -> Result<Verdict, Failure> {
+    if arguments.flag("--check") {
+        return check(arguments);
+    }
+    let mut images = Images::none();
+    arguments.others().iter().try_for_each(|word| images.add(word))?;
+    let tape = written(&images.memory());
+    notes(&images);
+    output(arguments.value("-o"), |out| Ok(out.write_all(tape.as_bytes())?))?;
+    Ok(Verdict::Done)
+}
+
+/// What a tape may lack, on standard error.
+fn notes(images: &Images) {
+    if images.at(0xFFFC).is_none() || images.at(0xFFFD).is_none() {
+        eprintln!("mill: note: no image has the reset vector, FFFCh and FFFDh");
+    }
+    if images.has_registers() {
+        eprintln!("mill: note: bytes for 0000h to 003Fh, the registers' addresses, are dropped when a tape is loaded");
+    }
+}
+
+fn check(arguments: &Arguments) -> Result<Verdict, Failure> {
+    let [name] = arguments.others() else {
+        return Err(Failure::Usage("--check takes one tape".to_string()));
+    };
+    if arguments.value("-o").is_some() {
+        return Err(Failure::Usage("--check writes no tape".to_string()));
+    }
+    let tape = bytes(Path::new(name))?;
+    let memory = loaded(name, &tape)?;
+    let bytes = memory.iter().filter(|byte| **byte != 0).count() as u64;
+    let vector = u16::from_le_bytes([memory[0xFFFC], memory[0xFFFD]]);
+    println!("{name}: right, {} bytes that are not zero, reset vector {vector:04X}h", grouped(bytes));
+    Ok(Verdict::Done)
+}

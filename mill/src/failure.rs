@@ -1,0 +1,69 @@
+//! Why a command ends without its work done, and the exit code of each cause.
+use std::fmt;
+
+/// A cause with its words: place first, then what was found.
+#[derive(Clone, PartialEq, Eq, Debug)]
+pub enum Failure {
+    /// A wrong command line.
+    Usage(String),
+    /// A file that cannot be read or written, or that holds something else than it should.
+    File(String),
+    /// A tape that the loader refuses: 8, 9 or 10.
+    Tape(String),
+    /// An input list that breaks its rule: 5.
+    Inputs(String),
+    /// A run that an undefined opcode stopped: 6.
+    Opcode(String),
+    /// The line and the chip's receiver do not fit together, under `--strict`.
+    Line(String),
+    /// A signal ended the run; what was done is there.
+    Interrupted(String),
+}
+
+impl Failure {
+    /// The exit code: 0 is done or alike, 1 differs.
+    pub fn code(&self) -> u8 {
+        match self {
+            Failure::Usage(_) => 2,
+            Failure::File(_) => 3,
+            Failure::Tape(_) => 4,
+            Failure::Inputs(_) => 5,
+            Failure::Opcode(_) => 6,
+            Failure::Line(_) => 7,
+            Failure::Interrupted(_) => 130,
+        }
+    }
+}
+
+impl fmt::Display for Failure {
+    fn fmt(&self, f: &mut fmt::Formatter<'_>) -> fmt::Result {
+        match self {
+            Failure::Usage(words)
+            | Failure::File(words)
+            | Failure::Tape(words)
+            | Failure::Inputs(words)
+            | Failure::Opcode(words)
+            | Failure::Line(words)
+            | Failure::Interrupted(words) => f.write_str(words),
+        }
+    }
+}
+
+/// How a command that did its work ends.
+#[derive(Clone, Copy, PartialEq, Eq, Debug)]
+pub enum Verdict {
+    /// Done, or alike.
+    Done,
+    /// What was compared differs, or nothing fits what was asked for.
+    Differs,
+}
+
+impl Verdict {
+    /// The exit code.
+    pub fn code(self) -> u8 {
+        match self {
+            Verdict::Done => 0,
+            Verdict::Differs => 1,
+        }
+    }
+}

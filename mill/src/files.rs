@@ -1,0 +1,75 @@
+//! Files as a command reads and writes them; what fails is said with the file's name.
+use crate::failure::Failure;
+use std::fs::File;
+use std::io::{self, BufWriter, Write};
+use std::path::Path;
+
+/// A failure of a file, with its name first.
+pub fn failed(path: &Path, what: impl std::fmt::Display) -> Failure {
+    Failure::File(format!("{}: {what}", path.display()))
+}
+
+/// A file's bytes.
+pub fn bytes(path: &Path) -> Result<Vec<u8>, Failure> {
+    std::fs::read(path).map_err(|error| failed(path, error))
+}
+
+/// A file's text.
+pub fn text(path: &Path) -> Result<String, Failure> {
+    String::from_utf8(bytes(path)?).map_err(|_| failed(path, "is no text"))
+}
+
+/// A new file, or an old one emptied.
+pub fn created(path: &Path) -> Result<BufWriter<File>, Failure> {
+    File::create(path).map(BufWriter::new).map_err(|error| failed(path, error))
+}
+
+/// Writes a whole text in the place of an old one, which stays as it is until the new one is there.
+pub fn replace(path: &Path, text: &str) -> Result<(), Failure> {
+    let mut beside = path.as_os_str().to_owned();
+    beside.push(".new");
+    let written = std::fs::write(&beside, text).and_then(|()| std::fs::rename(&beside, path));
+    written.map_err(|error| failed(path, error))
+}
+
+/// Hands a writer to `write`: the file that `-o` names, or standard output. A reader that stops reading standard output
+/// is no failure.
+pub fn output(name: Option<&str>, write: impl FnOnce(&mut dyn Write) -> Result<(), Failed>) -> Result<(), Failure> {
+    let result = match name {
+        Some(name) => {
+            let mut file = created(Path::new(name))?;
+            write(&mut file).and_then(|()| Ok(file.flush()?))
+        }
+        None => {
+            let mut standard = BufWriter::new(io::stdout().lock());
+            write(&mut standard).and_then(|()| Ok(standard.flush()?))
+        }
+    };
+    match result {
+        Ok(()) => Ok(()),
+        Err(Failed::Output(error)) if name.is_none() && error.kind() == io::ErrorKind::BrokenPipe => Ok(()),
+        Err(Failed::Output(error)) => Err(failed(Path::new(name.unwrap_or("standard output")), error)),
+        Err(Failed::Input(failure)) => Err(failure),
+    }
+}
+
+/// What can fail while one file is written from others.
+#[derive(Debug)]
+pub enum Failed {
+    /// A file that is read.
+    Input(Failure),
+    /// The file that is written.
+    Output(io::Error),
+}
+
+impl From<Failure> for Failed {
+    fn from(failure: Failure) -> Failed {
+        Failed::Input(failure)
+    }
+}
+
+impl From<io::Error> for Failed {
+    fn from(error: io::Error) -> Failed {
+        Failed::Output(error)
+    }
+}

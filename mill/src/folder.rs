@@ -1,0 +1,215 @@
+//! The folder that a run writes: its records, the inputs that it read, and a summary.
+use crate::failure::Failure;
+use crate::files::{created, failed, replace, text};
+use crate::input::{in_order, parsed, Input, HEADING};
+use crate::json::{self, Json};
+use crate::session::Sink;
+use std::fs::File;
+use std::io::{BufRead, BufReader, BufWriter, Write};
+use std::path::{Path, PathBuf};
+
+const RECORDS: &str = "records.csv";
+const INPUTS: &str = "inputs.csv";
+const SUMMARY: &str = "summary.json";
+
+/// The first line of a record list.
+const RECORDS_HEADING: &str = "clock,word";
+
+/// A change of the driven word, with a clock of 64 bits.
+#[derive(Clone, Copy, PartialEq, Eq, Debug)]
+pub struct Record {
+    pub clock: u64,
+    pub word: u32,
+}
+
+/// A folder that is being written.
+pub struct Writer {
+    folder: PathBuf,
+    records: BufWriter<File>,
+    inputs: BufWriter<File>,
+    /// The records written.
+    pub count: u64,
+}
+
+impl Writer {
+    /// Makes the folder if it is missing, and empties what a run in it left.
+    pub fn create(folder: &Path) -> Result<Writer, Failure> {
+        std::fs::create_dir_all(folder).map_err(|error| failed(folder, error))?;
+        let folder = folder.to_path_buf();
+        let headed = |name: &str, heading: &str| {
+            let path = folder.join(name);
+            let mut file = created(&path)?;
+            writeln!(file, "{heading}").map_err(|error| failed(&path, error))?;
+            Ok(file)
+        };
+        let (records, inputs) = (headed(RECORDS, RECORDS_HEADING)?, headed(INPUTS, HEADING)?);
+        Ok(Writer { folder, records, inputs, count: 0 })
+    }
+
+    /// Writes the summary in the place of an earlier one, behind all records so far.
+    pub fn summarize(&mut self, summary: &Json) -> Result<(), Failure> {
+        self.records.flush().map_err(|error| failed(&self.folder.join(RECORDS), error))?;
+        self.inputs.flush().map_err(|error| failed(&self.folder.join(INPUTS), error))?;
+        replace(&self.folder.join(SUMMARY), &format!("{summary}\n"))
+    }
+}
+
+impl Sink for Writer {
+    fn input(&mut self, input: Input) -> Result<(), Failure> {
+        writeln!(self.inputs, "{input}").map_err(|error| failed(&self.folder.join(INPUTS), error))
+    }
+
+    fn record(&mut self, clock: u64, word: u32) -> Result<(), Failure> {
+        self.count += 1;
+        writeln!(self.records, "{clock},{word:08X}").map_err(|error| failed(&self.folder.join(RECORDS), error))
+    }
+}
+
+/// A folder that a run has written.
+pub struct Folder {
+    path: PathBuf,
+    /// Clocks a second.
+    pub rate: u32,
+    /// The last clock done.
+    pub last_clock: u64,
+    /// Whether the run was cut short.
+    pub partial: bool,
+}
+
+impl Folder {
+    /// Opens a folder by its summary.
+    pub fn open(name: &str) -> Result<Folder, Failure> {
+        let path = PathBuf::from(name);
+        let file = path.join(SUMMARY);
+        let summary = json::read(&text(&file)?).map_err(|words| failed(&file, words))?;
+        let missing = |field: &str| failed(&file, format!("`{field}` is missing or wrong"));
+        let rate = summary.get("options").and_then(|options| options.get("clock")).and_then(Json::count);
+        let rate = rate.and_then(|rate| u32::try_from(rate).ok()).filter(|rate| *rate > 0);
+        let rate = rate.ok_or_else(|| missing("options.clock"))?;
+        let last_clock = summary.get("last_clock").and_then(Json::count).ok_or_else(|| missing("last_clock"))?;
+        let partial = summary.get("partial") != Some(&Json::Bool(false));
+        Ok(Folder { path, rate, last_clock, partial })
+    }
+
+    /// The folder's name, as it was given.
+    pub fn name(&self) -> String {
+        self.path.display().to_string()
+    }
+
+    /// The records, in order.
+    pub fn records(&self) -> Result<impl Iterator<Item = Result<Record, Failure>>, Failure> {
+        let mut last = 0;
+        Ok(lines(self.path.join(RECORDS), RECORDS_HEADING)?
+            .map(move |line| line.and_then(|line| line.parsed(|text| record(text, &mut last)))))
+    }
+
+    /// The inputs that the run read, in order.
+    pub fn inputs(&self) -> Result<impl Iterator<Item = Result<Input, Failure>>, Failure> {
+        let mut last: Option<Input> = None;
+        Ok(lines(self.path.join(INPUTS), HEADING)?.map(move |line| {
+            let input = line?.parsed(|text| parsed(text).and_then(|input| in_order(last.as_ref(), input)))?;
+            last = Some(input);
+            Ok(input)
+        }))
+    }
+}
+
+/// A line of a file.
+struct Line {
+    path: PathBuf,
+    number: usize,
+    text: String,
+}
+
+impl Line {
+    /// What a reader makes of it; what is wrong is said with file and line.
+    fn parsed<T>(self, reader: impl FnOnce(&str) -> Result<T, String>) -> Result<T, Failure> {
+        let place = format!("{}:{}", self.path.display(), self.number);
+        reader(&self.text).map_err(|words| Failure::File(format!("{place}: {words}")))
+    }
+}
+
+/// The lines of a file behind its heading.
+fn lines(path: PathBuf, heading: &str) -> Result<impl Iterator<Item = Result<Line, Failure>>, Failure> {
+    let file = File::open(&path).map_err(|error| failed(&path, error))?;
+    let mut lines = BufReader::new(file).lines();
+    match lines.next() {
+        Some(Ok(first)) if first == heading => {}
+        _ => return Err(failed(&path, format!("the first line is not `{heading}`"))),
+    }
+    Ok((2..).zip(lines).map(move |(number, line)| {
+        let text = line.map_err(|error| failed(&path, format!("line {number}: {error}")))?;
+        Ok(Line { path: path.clone(), number, text })
+    }))
+}
+
+/// A record as a line has it, behind one of an earlier clock.
+fn record(text: &str, last: &mut u64) -> Result<Record, String> {
+    let (clock, word) = text.split_once(',').ok_or_else(|| format!("`{text}` is not {RECORDS_HEADING}"))?;
+    let clock = clock.parse().map_err(|_| format!("`{clock}` is no clock"))?;
+    let digits = word.len() == 8 && word.bytes().all(|byte| byte.is_ascii_hexdigit());
+    let word = u32::from_str_radix(word, 16).ok().filter(|_| digits).ok_or_else(|| format!("`{word}` is no word"))?;
+    if clock <= *last {
+        return Err(format!("clock {clock} does not come behind {last}"));
+    }
+    *last = clock;
+    Ok(Record { clock, word })
+}
+
+#[cfg(test)]
+mod tests {
+    use super::*;
+    use r6501q::{Level, Pin};
+
+    fn scratch(name: &str) -> PathBuf {
+        std::env::temp_dir().join(format!("mill_{}_{name}", std::process::id()))
+    }
+
+    fn summary() -> Json {
+        let options = Json::object([("clock", 1_000_000u32.into())]);
+        Json::object([("options", options), ("last_clock", 100u32.into()), ("partial", false.into())])
+    }
+
+    #[test]
+    fn what_is_written_is_read() {
+        let folder = scratch("read");
+        let mut writer = Writer::create(&folder).unwrap();
+        let input = Input { clock: 1, pin: Pin::RES, level: Level::High };
+        writer.input(input).unwrap();
+        writer.record(10, 0xFFFF_FF55).unwrap();
+        writer.record(7_200_000_000, 0xDD).unwrap();
+        writer.summarize(&summary()).unwrap();
+
+        let read = Folder::open(folder.to_str().unwrap()).unwrap();
+        assert_eq!((read.rate, read.last_clock, read.partial), (1_000_000, 100, false));
+        let records: Vec<Record> = read.records().unwrap().map(Result::unwrap).collect();
+        assert_eq!(records, [Record { clock: 10, word: 0xFFFF_FF55 }, Record { clock: 7_200_000_000, word: 0xDD }]);
+        assert_eq!(read.inputs().unwrap().map(Result::unwrap).collect::<Vec<_>>(), [input]);
+        std::fs::remove_dir_all(folder).unwrap();
+    }
+
+    #[test]
+    fn damaged_records_are_refused() {
+        let mut last = 0;
+        assert_eq!(record("10,FFFFFF55", &mut last), Ok(Record { clock: 10, word: 0xFFFF_FF55 }));
+        assert_eq!(record("10,FFFFFF55", &mut last), Err("clock 10 does not come behind 10".into()));
+        assert_eq!(record("12", &mut last), Err("`12` is not clock,word".into()));
+        assert_eq!(record("12,+FFFFF55", &mut last), Err("`+FFFFF55` is no word".into()));
+        assert_eq!(record("x,FFFFFF55", &mut last), Err("`x` is no clock".into()));
+    }
+
+    #[test]
+    fn a_folder_without_its_files_is_refused() {
+        let folder = scratch("refused");
+        let name = folder.to_str().unwrap().to_string();
+        assert!(matches!(Folder::open(&name), Err(Failure::File(_))));
+        std::fs::create_dir_all(&folder).unwrap();
+        std::fs::write(folder.join(SUMMARY), "{}").unwrap();
+        assert!(Folder::open(&name).err().unwrap().to_string().ends_with("`options.clock` is missing or wrong"));
+        std::fs::write(folder.join(SUMMARY), summary().to_string()).unwrap();
+        std::fs::write(folder.join(RECORDS), "clock\n").unwrap();
+        let read = Folder::open(&name).unwrap();
+        assert!(read.records().err().unwrap().to_string().ends_with("the first line is not `clock,word`"));
+        std::fs::remove_dir_all(folder).unwrap();
+    }
+}

@@ -1,0 +1,105 @@
+//! Inputs: on this clock this pin gets this level. Clocks have 64 bits here.
+use crate::units::grouped;
+use r6501q::{Level, Pin};
+use std::fmt;
+
+/// An input.
+#[derive(Clone, Copy, PartialEq, Eq, Debug)]
+pub struct Input {
+    pub clock: u64,
+    pub pin: Pin,
+    pub level: Level,
+}
+
+impl Input {
+    /// What an input list is in order of: clocks never fall, and within a clock pins rise strictly.
+    pub fn place(&self) -> (u64, Pin) {
+        (self.clock, self.pin)
+    }
+}
+
+impl fmt::Display for Input {
+    fn fmt(&self, f: &mut fmt::Formatter<'_>) -> fmt::Result {
+        write!(f, "{},{},{}", self.clock, self.pin, u8::from(self.level == Level::High))
+    }
+}
+
+/// The first line of an input list.
+pub const HEADING: &str = "clock,pin,level";
+
+/// The inputs of a text, a line each: `clock,pin,level`. A first line of these words, and empty lines, are skipped. What
+/// is wrong is said with its line and number, as `LINE: what (5)`.
+pub fn list(text: &str) -> Result<Vec<Input>, String> {
+    let mut inputs: Vec<Input> = Vec::new();
+    for (number, line) in (1..).zip(text.lines()) {
+        let line = line.trim();
+        if line.is_empty() || (number == 1 && line == HEADING) {
+            continue;
+        }
+        let checked = parsed(line).and_then(|input| in_order(inputs.last(), input));
+        inputs.push(checked.map_err(|words| format!("{number}: {words} (5)"))?);
+    }
+    Ok(inputs)
+}
+
+/// An input as a line has it.
+pub fn parsed(line: &str) -> Result<Input, String> {
+    let fields: Vec<&str> = line.split(',').map(str::trim).collect();
+    let [clock, pin, level] = fields[..] else {
+        return Err(format!("`{line}` is not {HEADING}"));
+    };
+    let clock = clock.parse().map_err(|_| format!("`{clock}` is no clock"))?;
+    let pin = pin.parse().map_err(|error| format!("{error}"))?;
+    let level = match level {
+        "0" => Level::Low,
+        "1" => Level::High,
+        _ => return Err(format!("`{level}` is no level, 0 or 1")),
+    };
+    Ok(Input { clock, pin, level })
+}
+
+/// The rule of an input list (document 01, "Pin lists"), for an input behind another one or the first.
+pub fn in_order(last: Option<&Input>, input: Input) -> Result<Input, String> {
+    let Input { clock, pin, .. } = input;
+    match last {
+        _ if clock == 0 => Err("clock 0 is not above the start's, 0".to_string()),
+        Some(last) if clock < last.clock => Err(format!(
+            "clock {} comes before {}, the last one's: clocks never fall",
+            grouped(clock),
+            grouped(last.clock)
+        )),
+        Some(last) if input.place() <= last.place() => {
+            let clock = grouped(clock);
+            Err(format!("{pin} does not come behind {} on clock {clock}: within a clock pins rise", last.pin))
+        }
+        _ => Ok(input),
+    }
+}
+
+#[cfg(test)]
+mod tests {
+    use super::*;
+
+    #[test]
+    fn a_list_is_read_and_written_alike() {
+        let text = "clock,pin,level\n5,PA7,0\n5,RES,1\n\n 7200000000 , PD0 , 1 \n";
+        let inputs = list(text).unwrap();
+        let lines: Vec<String> = inputs.iter().map(Input::to_string).collect();
+        assert_eq!(lines, ["5,PA7,0", "5,RES,1", "7200000000,PD0,1"]);
+        assert_eq!((list(""), list(HEADING)), (Ok(vec![]), Ok(vec![])));
+    }
+
+    #[test]
+    fn what_breaks_the_rule_is_said_with_its_line() {
+        let refused = |text: &str| list(text).unwrap_err();
+        assert_eq!(refused("5,PA7,0\n4,PA7,1"), "2: clock 4 comes before 5, the last one's: clocks never fall (5)");
+        let twice = "2: PA7 does not come behind PA7 on clock 1,000: within a clock pins rise (5)";
+        assert_eq!(refused("1000,PA7,0\n1000,PA7,1"), twice);
+        assert_eq!(refused("0,PA7,0"), "1: clock 0 is not above the start's, 0 (5)");
+        assert!(refused("5,PE7,0").starts_with("1: `PE7` is no pin"));
+        assert_eq!(refused("5,PA7,2"), "1: `2` is no level, 0 or 1 (5)");
+        assert_eq!(refused("5,PA7"), "1: `5,PA7` is not clock,pin,level (5)");
+        assert_eq!(refused("-5,PA7,0"), "1: `-5` is no clock (5)");
+        assert_eq!(refused("\nclock,pin,level"), "2: `clock` is no clock (5)");
+    }
+}

@@ -1,0 +1,180 @@
+//! What a run is to do, from the command line.
+use crate::arguments::Arguments;
+use crate::digest::sha256;
+use crate::failure::Failure;
+use crate::files::{bytes, failed, text};
+use crate::input::{list, Input};
+use crate::json::Json;
+use crate::line::Line;
+use crate::session::Sizes;
+use crate::tape::loaded;
+use crate::units::{bit_rate, grouped, rate, time};
+use r6501q::{Frame, Level, Parity, Pin};
+use std::path::Path;
+
+/// A file that goes into a run.
+pub struct Source {
+    pub name: String,
+    pub bytes: Vec<u8>,
+}
+
+impl Source {
+    fn read(name: &str) -> Result<Source, Failure> {
+        Ok(Source { name: name.to_string(), bytes: bytes(Path::new(name))? })
+    }
+
+    /// Its name, length and digest.
+    pub fn json(&self) -> Json {
+        let length = self.bytes.len() as u64;
+        let (name, digest) = (self.name.as_str().into(), sha256(&self.bytes).into());
+        Json::object([("file", name), ("bytes", length.into()), ("sha256", digest)])
+    }
+}
+
+/// What a run is to do.
+pub struct Plan {
+    pub tape: Source,
+    pub memory: Vec<u8>,
+    pub path: Option<Source>,
+    pub pins: Option<Source>,
+    /// RES high on clock 1, and what the pin list has.
+    pub inputs: Vec<Input>,
+    pub rate: u32,
+    pub line: Option<Line>,
+    pub tail: u64,
+    pub length: Option<u64>,
+    pub strict: bool,
+    pub sizes: Sizes,
+}
+
+impl Plan {
+    /// The plan that a command line gives, with its files read and checked.
+    pub fn read(arguments: &Arguments) -> Result<Plan, Failure> {
+        let rate = arguments.required("--clock", rate)?;
+        let clocks = |name: &str| arguments.read(name, |text| time(text, rate));
+        let (tail, length) = (clocks("--tail")?.unwrap_or(milliseconds(200, rate)), clocks("--for")?);
+        let sizes = sizes(arguments)?;
+        let path = arguments.others().get(1).map(|name| Source::read(name)).transpose()?;
+        let line = path.as_ref().map(|path| line(arguments, rate, &path.bytes, &path.name)).transpose()?;
+        let tape = Source::read(&arguments.others()[0])?;
+        let memory = loaded(&tape.name, &tape.bytes)?;
+        let pins = arguments.value("--inputs").map(Source::read).transpose()?;
+        let inputs = inputs(pins.as_ref(), line.is_some())?;
+        let strict = arguments.flag("--strict");
+        let plan = Plan { tape, memory, path, pins, inputs, rate, line, tail, length, strict, sizes };
+        match plan.end() {
+            0 => Err(Failure::Usage("--for is missing: there is neither a path nor an input that gives an end".into())),
+            _ => Ok(plan),
+        }
+    }
+
+    /// The path's bytes.
+    pub fn bytes(&self) -> &[u8] {
+        self.path.as_ref().map_or(&[], |path| &path.bytes)
+    }
+
+    /// The clock behind the path's last frame.
+    pub fn path_end(&self) -> Option<u64> {
+        let frames = self.bytes().len() as u64;
+        self.line.filter(|_| frames > 0).map(|line| line.end(frames))
+    }
+
+    /// The run's last clock: as asked for, or the tail behind path and inputs. 0: nothing gives an end.
+    pub fn end(&self) -> u64 {
+        let given = self.pins.as_ref().and_then(|_| self.inputs.last()).map(|input| input.clock);
+        let last = self.path_end().into_iter().chain(given).max();
+        self.length.or(last.map(|last| last + self.tail)).unwrap_or(0)
+    }
+
+    /// The options, with what is used where none is given; times are clocks.
+    pub fn options(&self) -> Json {
+        let line = self.line.as_ref();
+        let parity = |line: &Line| match line.frame.parity {
+            None => "none",
+            Some(Parity::Even) => "even",
+            Some(Parity::Odd) => "odd",
+        };
+        Json::object([
+            ("clock", self.rate.into()),
+            ("baud", line.map(|line| line.baud).into()),
+            ("bits", line.map(|line| u32::from(line.frame.data_bits)).into()),
+            ("parity", line.map(parity).into()),
+            ("stops", line.map(|line| line.stops).into()),
+            ("start", line.map(|line| line.start).into()),
+            ("every", line.and_then(|line| line.every).into()),
+            ("tail", self.tail.into()),
+            ("for", self.length.into()),
+            ("strict", self.strict.into()),
+        ])
+    }
+}
+
+fn milliseconds(number: u64, rate: u32) -> u64 {
+    number * u64::from(rate) / 1_000
+}
+
+/// A whole number within limits.
+fn within(text: &str, least: u32, most: u32) -> Result<u32, String> {
+    let number = text.parse().ok().filter(|number| (least..=most).contains(number));
+    number.ok_or_else(|| format!("`{text}` is no number from {} to {}", grouped(least), grouped(most)))
+}
+
+fn sizes(arguments: &Arguments) -> Result<Sizes, Failure> {
+    let number = |name: &str, most: u32, or: u32| Ok(arguments.read(name, |text| within(text, 1, most))?.unwrap_or(or));
+    let sizes = Sizes::default();
+    Ok(Sizes {
+        piece: number("--piece", 1 << 30, sizes.piece)?,
+        space: number("--space", 1 << 24, sizes.space as u32)? as usize,
+        set_back: number("--set-back", 1 << 31, sizes.set_back)?,
+    })
+}
+
+/// The line that sends a path.
+fn line(arguments: &Arguments, rate: u32, path: &[u8], name: &str) -> Result<Line, Failure> {
+    let baud = arguments.required("--baud", bit_rate)?;
+    let data_bits = arguments.read("--bits", |text| within(text, 5, 8))?.unwrap_or(8) as u8;
+    let parity = arguments.read("--parity", parity)?.flatten();
+    let stops = arguments.read("--stops", |text| within(text, 1, 2))?.unwrap_or(2);
+    let start = arguments.read("--start", |text| time(text, rate))?.unwrap_or(milliseconds(2, rate)).max(1);
+    let every = arguments.read("--every", |text| time(text, rate))?;
+    let line = Line { rate, baud, frame: Frame { data_bits, parity }, stops, start, every };
+    if baud > rate {
+        return Err(Failure::Usage(format!("--baud: a bit of {} bits a second is below a clock", grouped(baud))));
+    }
+    if every.is_some_and(|every| every < line.frame_clocks()) {
+        return Err(Failure::Usage(format!("--every: a frame takes {} clocks", grouped(line.frame_clocks()))));
+    }
+    match line.too_wide(path) {
+        Some((place, byte)) => Err(failed(
+            Path::new(name),
+            format!("byte {place} is {byte:02X}h, which {data_bits} data bits do not hold"),
+        )),
+        None => Ok(line),
+    }
+}
+
+fn parity(text: &str) -> Result<Option<Parity>, String> {
+    match text {
+        "none" => Ok(None),
+        "even" => Ok(Some(Parity::Even)),
+        "odd" => Ok(Some(Parity::Odd)),
+        _ => Err(format!("`{text}` is none of none, even, odd")),
+    }
+}
+
+/// RES high on clock 1, but where the pin list says otherwise; then the pin list. PA7 is the line's, where there is one.
+fn inputs(pins: Option<&Source>, line: bool) -> Result<Vec<Input>, Failure> {
+    let released = Input { clock: 1, pin: Pin::RES, level: Level::High };
+    let Some(pins) = pins else { return Ok(vec![released]) };
+    let content = text(Path::new(&pins.name))?;
+    let mut inputs = list(&content).map_err(|words| Failure::Inputs(format!("{}:{words}", pins.name)))?;
+    if let Some(input) = inputs.iter().find(|input| line && input.pin == Pin::PA7) {
+        let words = format!("{}: {input}: PA7 is the line's while a path is sent (5)", pins.name);
+        return Err(Failure::Inputs(words));
+    }
+    let place = inputs.partition_point(|input| input.place() < released.place());
+    if inputs.get(place).is_none_or(|input| input.place() != released.place()) {
+        inputs.insert(place, released);
+    }
+    Ok(inputs)
+}
