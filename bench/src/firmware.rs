@@ -7,7 +7,7 @@ use r6501q::{Frame, Level, Pin, MEMORY_LENGTH};
 
 use crate::timed::Inputs;
 
-// Where an image begins (image.cfg).
+// Where an image begins (examples/image.cfg).
 const START: usize = 0x0800;
 
 // When the first byte or input comes: the firmware has set all registers by then.
@@ -90,7 +90,7 @@ impl Firmware {
     }
 }
 
-// Moves of 0 to 15 steps, forward and backward (mill.s), drawn by a linear congruence.
+// Moves of 0 to 15 steps, forward and backward (examples/mill.s), drawn by a linear congruence.
 fn a_move(i: u32) -> u8 {
     let drawn = i.wrapping_mul(1_103_515_245).wrapping_add(12_345) >> 16;
     (drawn & 0x8F) as u8

@@ -58,9 +58,16 @@ impl Images {
         self.bytes[usize::from(address)]
     }
 
-    /// The memory, zeros where nothing is given.
-    pub fn memory(&self) -> Vec<u8> {
-        self.bytes.iter().map(|byte| byte.unwrap_or(0)).collect()
+    /// The given bytes that follow each other, each part with the address of its first.
+    pub fn parts(&self) -> Vec<(usize, Vec<u8>)> {
+        let mut parts: Vec<(usize, Vec<u8>)> = Vec::new();
+        for (address, byte) in self.bytes.iter().enumerate().filter_map(|(address, byte)| Some((address, (*byte)?))) {
+            match parts.last_mut() {
+                Some((start, bytes)) if *start + bytes.len() == address => bytes.push(byte),
+                _ => parts.push((address, vec![byte])),
+            }
+        }
+        parts
     }
 
     /// Whether bytes are given for the registers' addresses, 00h to 3Fh, that are not zero.
@@ -87,7 +94,7 @@ mod tests {
         put(&mut images, 0xFFFE, &[1, 2]).unwrap();
         put(&mut images, 0x0800, &[3]).unwrap();
         assert_eq!((images.at(0xFFFF), images.at(0x0800), images.at(0x0801)), (Some(2), Some(3), None));
-        assert_eq!((images.memory()[0xFFFE], images.memory().len()), (1, MEMORY_LENGTH));
+        assert_eq!(images.parts(), [(0x0800, vec![3]), (0xFFFE, vec![1, 2])]);
         assert!(!images.has_registers());
     }
 

@@ -5,11 +5,12 @@ use r6501q::{load, Number, MEMORY_LENGTH};
 /// The most data bytes of a record.
 const COUNT: usize = 0x18;
 
-/// A tape of a memory. Records of zeros alone are left out: the memory that a tape is loaded into starts as zeros.
-pub fn written(memory: &[u8]) -> String {
-    let parts = memory.chunks(COUNT).zip((0..).step_by(COUNT));
-    let records: Vec<String> =
-        parts.filter(|(data, _)| data.iter().any(|byte| *byte != 0)).map(|(data, at)| record(at, data)).collect();
+/// A tape of parts of memory, each with the address of its first byte. Records of zeros alone are left out: the memory
+/// that a tape is loaded into starts as zeros.
+pub fn written(parts: &[(usize, Vec<u8>)]) -> String {
+    let chunks = parts.iter().flat_map(|(start, bytes)| (*start..).step_by(COUNT).zip(bytes.chunks(COUNT)));
+    let filled = chunks.filter(|(_, data)| data.iter().any(|byte| *byte != 0));
+    let records: Vec<String> = filled.map(|(address, data)| record(address, data)).collect();
     records.concat() + &record(records.len() + 1, &[])
 }
 
@@ -144,7 +145,9 @@ mod tests {
         for (address, byte) in memory.iter_mut().enumerate().skip(0x40).filter(|(address, _)| address % 100 < 37) {
             *byte = (address % 251) as u8;
         }
-        assert_eq!(loaded("tape", written(&memory).as_bytes()), Ok(memory));
+        let parts = [(0x40, memory[0x40..0x1234].to_vec()), (0x1234, memory[0x1234..].to_vec())];
+        assert_eq!(loaded("tape", written(&parts).as_bytes()), Ok(memory));
+        assert_eq!(written(&[(0x200, vec![0x55]), (0x300, vec![0; 100])]), ";010200550058\n;0000020002\n");
         assert_eq!(loaded("tape", TAPE.as_bytes()).unwrap()[0x200], 0xA9);
     }
 

@@ -25,7 +25,7 @@ fn act(arguments: &Arguments) -> Result<Verdict, Failure> {
     }
     let mut images = Images::none();
     arguments.others().iter().try_for_each(|word| images.add(word))?;
-    let tape = written(&images.memory());
+    let tape = written(&images.parts());
     notes(&images);
     output(arguments.value("-o"), |out| Ok(out.write_all(tape.as_bytes())?))?;
     Ok(Verdict::Done)

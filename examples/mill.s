@@ -1,16 +1,20 @@
 ; The firmware of a mill's axis.
 ;
-; Moves come as bytes at 9600 baud on PA7 (source document 001, Table 6-1: latch A 6 with a clock of 1 MHz, a bit is 112
-; clocks). Bit 7 of a byte is the direction, 1 backward, bits 0 to 6 the steps. They wait in a queue. For each move PC0
-; gets the direction, 1 forward, and counter B in pulse mode makes the steps on PA5, a rise each; they grow faster up to
-; the middle of the move and slower from there on. Port D shows the position in steps, bits 0 to 7. After each move the
-; count of moves is sent on PA6, if the transmitter has room.
+; Moves come as bytes on PA7. Bit 7 of a byte is the direction, 1 backward, bits 0 to 6 the steps. They wait in a queue.
+; For each move PC0 gets the direction, 1 forward, and counter B in pulse mode makes the steps on PA5, a rise each; they
+; grow faster up to the middle of the move and slower from there on. Port D shows the position in steps, bits 0 to 7.
+; After each move the count of moves is sent on PA6, if the transmitter has room.
 ;
-; By default the receiver's interrupt puts the bytes into the queue; with POLLED defined the main loop does.
+; LATCH is counter A's latch, 12 where it is not defined: a bit is 208 clocks, 4800 baud with a clock of 1 MHz and 9600
+; with 2 MHz (source document 001, Table 6-1). By default the receiver's interrupt puts the bytes into the queue; with
+; POLLED defined the main loop does.
 
         .setcpu "65C02"         ; for RMB, SMB, BBR and BBS
         .include "registers.inc"
 
+.ifndef LATCH
+LATCH   = 12
+.endif
 SLOWEST = 400                   ; clocks of half a step at a move's start
 FASTER  = 10                    ; clocks that half a step is shorter after each step
 QUEUE   = 32                    ; bytes, a power of 2
@@ -43,7 +47,7 @@ clear:  sta head-1,x
         sta MCR
         lda #$C0
         sta SCCR
-        lda #6
+        lda #LATCH
         sta A_LOW
         lda #0
         sta A_LOAD
