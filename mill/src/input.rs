@@ -1,5 +1,5 @@
 //! Inputs: on this clock this pin gets this level. Clocks have 64 bits here.
-use crate::units::grouped;
+use crate::units::{grouped, HIGHEST_TIME};
 use r6501q::{Level, Pin};
 use std::fmt;
 
@@ -48,7 +48,8 @@ pub fn parsed(line: &str) -> Result<Input, String> {
     let [clock, pin, level] = fields[..] else {
         return Err(format!("`{line}` is not {HEADING}"));
     };
-    let clock = clock.parse().map_err(|_| format!("`{clock}` is no clock"))?;
+    let number = clock.parse().ok().filter(|number| *number <= HIGHEST_TIME);
+    let clock = number.ok_or_else(|| format!("`{clock}` is no clock"))?;
     let pin = pin.parse().map_err(|error| format!("{error}"))?;
     let level = match level {
         "0" => Level::Low,
@@ -100,6 +101,7 @@ mod tests {
         assert_eq!(refused("5,PA7,2"), "1: `2` is no level, 0 or 1 (5)");
         assert_eq!(refused("5,PA7"), "1: `5,PA7` is not clock,pin,level (5)");
         assert_eq!(refused("-5,PA7,0"), "1: `-5` is no clock (5)");
+        assert_eq!(refused("18446744073709551615,PA7,0"), "1: `18446744073709551615` is no clock (5)");
         assert_eq!(refused("\nclock,pin,level"), "2: `clock` is no clock (5)");
     }
 }

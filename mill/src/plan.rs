@@ -8,7 +8,7 @@ use crate::json::Json;
 use crate::line::Line;
 use crate::session::Sizes;
 use crate::tape::loaded;
-use crate::units::{bit_rate, grouped, rate, time};
+use crate::units::{bit_rate, grouped, rate, time, HIGHEST_TIME};
 use r6501q::{Frame, Level, Parity, Pin};
 use std::path::Path;
 
@@ -135,14 +135,11 @@ fn line(arguments: &Arguments, rate: u32, path: &[u8], name: &str) -> Result<Lin
     let data_bits = arguments.read("--bits", |text| within(text, 5, 8))?.unwrap_or(8) as u8;
     let parity = arguments.read("--parity", parity)?.flatten();
     let stops = arguments.read("--stops", |text| within(text, 1, 2))?.unwrap_or(2);
-    let start = arguments.read("--start", |text| time(text, rate))?.unwrap_or(milliseconds(2, rate)).max(1);
+    let start = arguments.read("--start", |text| time(text, rate))?.unwrap_or(milliseconds(2, rate).max(1));
     let every = arguments.read("--every", |text| time(text, rate))?;
     let line = Line { rate, baud, frame: Frame { data_bits, parity }, stops, start, every };
-    if baud > rate {
-        return Err(Failure::Usage(format!("--baud: a bit of {} bits a second is below a clock", grouped(baud))));
-    }
-    if every.is_some_and(|every| every < line.frame_clocks()) {
-        return Err(Failure::Usage(format!("--every: a frame takes {} clocks", grouped(line.frame_clocks()))));
+    if let Some(words) = impossible(&line, path.len()) {
+        return Err(Failure::Usage(words));
     }
     match line.too_wide(path) {
         Some((place, byte)) => Err(failed(
@@ -150,6 +147,22 @@ fn line(arguments: &Arguments, rate: u32, path: &[u8], name: &str) -> Result<Lin
             format!("byte {place} is {byte:02X}h, which {data_bits} data bits do not hold"),
         )),
         None => Ok(line),
+    }
+}
+
+/// Why no path of so many bytes can be sent so.
+fn impossible(line: &Line, frames: usize) -> Option<String> {
+    if line.baud > line.rate {
+        return Some(format!("--baud: a bit of {} bits a second is below a clock", grouped(line.baud)));
+    }
+    let frame = line.frame_clocks();
+    let each = u128::from(line.every.unwrap_or(frame + 1));
+    let length = u128::from(line.start) + (frames as u128 + 1) * each;
+    match line.every {
+        _ if line.start == 0 => Some("--start: the first clock is 1".to_string()),
+        Some(every) if every < frame => Some(format!("--every: a frame takes {} clocks", grouped(frame))),
+        _ if length > u128::from(HIGHEST_TIME) => Some("the path takes too many clocks".to_string()),
+        _ => None,
     }
 }
 

@@ -182,7 +182,9 @@ fn verdict<I: Iterator<Item = Input>>(
 ) -> Result<Verdict, Failure> {
     match (end, watch.warnings.first()) {
         (End::Interrupted, _) => Err(Failure::Interrupted(words(session, end))),
-        (End::Number(Number::Done), Some(first)) if plan.strict => Err(Failure::Line(first.clone())),
+        (End::Number(Number::Done), Some(_)) if plan.strict => {
+            Err(Failure::Line("the line and the receiver do not fit together, see the warnings above".to_string()))
+        }
         (End::Number(Number::Done), _) => Ok(Verdict::Done),
         (End::Number(Number::WrongPinList), _) => Err(Failure::Inputs(words(session, end))),
         (End::Number(_), _) => Err(Failure::Opcode(words(session, end))),
