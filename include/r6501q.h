@@ -21,8 +21,42 @@
 extern "C" {
 #endif
 
-/* The bytes of a memory, and the pins: 0 to 31 are A0 to D7, 32 is NMI, 33 is RES. */
+/* The bytes of a memory. */
 #define R6501Q_MEMORY_LENGTH 65536
+
+/* The pins. The port pins' numbers are their bits in the driven word. */
+#define R6501Q_PIN_PA0 0
+#define R6501Q_PIN_PA1 1
+#define R6501Q_PIN_PA2 2
+#define R6501Q_PIN_PA3 3
+#define R6501Q_PIN_PA4 4
+#define R6501Q_PIN_PA5 5
+#define R6501Q_PIN_PA6 6
+#define R6501Q_PIN_PA7 7
+#define R6501Q_PIN_PB0 8
+#define R6501Q_PIN_PB1 9
+#define R6501Q_PIN_PB2 10
+#define R6501Q_PIN_PB3 11
+#define R6501Q_PIN_PB4 12
+#define R6501Q_PIN_PB5 13
+#define R6501Q_PIN_PB6 14
+#define R6501Q_PIN_PB7 15
+#define R6501Q_PIN_PC0 16
+#define R6501Q_PIN_PC1 17
+#define R6501Q_PIN_PC2 18
+#define R6501Q_PIN_PC3 19
+#define R6501Q_PIN_PC4 20
+#define R6501Q_PIN_PC5 21
+#define R6501Q_PIN_PC6 22
+#define R6501Q_PIN_PC7 23
+#define R6501Q_PIN_PD0 24
+#define R6501Q_PIN_PD1 25
+#define R6501Q_PIN_PD2 26
+#define R6501Q_PIN_PD3 27
+#define R6501Q_PIN_PD4 28
+#define R6501Q_PIN_PD5 29
+#define R6501Q_PIN_PD6 30
+#define R6501Q_PIN_PD7 31
 #define R6501Q_PIN_NMI 32
 #define R6501Q_PIN_RES 33
 

@@ -326,7 +326,7 @@ static void check_inputs(void)
 {
     static const uint32_t input_clocks[] = {1, 3, 3, 5, 200};
     static const uint8_t input_codes[]
-        = {R6501Q_PIN_RES + R6501Q_HIGH, 31, R6501Q_PIN_NMI, R6501Q_PIN_RES, 31 + R6501Q_HIGH};
+        = {R6501Q_PIN_RES + R6501Q_HIGH, R6501Q_PIN_PD7, R6501Q_PIN_NMI, R6501Q_PIN_RES, R6501Q_PIN_PD7 + R6501Q_HIGH};
     r6501q_call_result result;
     memset(memory, 0, sizeof memory);
     result = r6501q_run(r6501q_fresh(), memory, sizeof memory, input_clocks, 5, input_codes, 5, output_clocks, 0,

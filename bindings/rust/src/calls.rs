@@ -5,7 +5,7 @@ use crate::{Number, State};
 /// The bytes of a memory.
 pub const MEMORY_LENGTH: usize = 65_536;
 
-/// The pin NMI in an input code. Pins 0 to 31 are A0 to D7.
+/// The pin NMI in an input code. Pins 0 to 31 are PA0 to PD7; [`Pin`](crate::Pin) has them by name.
 pub const PIN_NMI: u8 = 32;
 
 /// The pin RES in an input code.
@@ -14,7 +14,7 @@ pub const PIN_RES: u8 = 33;
 // Added to a pin in an input code where the new level is high.
 const HIGH: u8 = 64;
 
-/// The input code that sets a pin (0 to 31 for A0 to D7, [`PIN_NMI`], [`PIN_RES`]) to a level. A pin above 33 makes a
+/// The input code that sets a pin (0 to 31 for PA0 to PD7, [`PIN_NMI`], [`PIN_RES`]) to a level. A pin above 33 makes a
 /// code that is refused.
 ///
 /// ```
