@@ -53,6 +53,16 @@ pub fn output(name: Option<&str>, write: impl FnOnce(&mut dyn Write) -> Result<(
     }
 }
 
+/// Prints a text to standard output.
+pub fn print(text: &str) -> Result<(), Failure> {
+    output(None, |out| Ok(out.write_all(text.as_bytes())?))
+}
+
+/// A line on standard error. Where nobody reads it, nothing is lost but that line.
+pub fn note(text: &str) {
+    let _ = writeln!(io::stderr(), "{text}");
+}
+
 /// What can fail while one file is written from others.
 #[derive(Debug)]
 pub enum Failed {

@@ -31,6 +31,7 @@ mod watch;
 use arguments::Arguments;
 use commands::{Command, COMMANDS};
 use failure::Failure;
+use files::{note, print};
 use std::process::ExitCode;
 
 const CODES: &str = "Exit codes: 0 done or alike, 1 differs, 2 usage, 3 file, 4 tape refused, 5 input list refused,
@@ -39,7 +40,7 @@ const CODES: &str = "Exit codes: 0 done or alike, 1 differs, 2 usage, 3 file, 4 
 fn main() -> ExitCode {
     let words: Result<Vec<String>, _> = std::env::args_os().skip(1).map(|word| word.into_string()).collect();
     let Ok(words) = words else {
-        eprintln!("mill: a word of the command line is no text");
+        note("mill: a word of the command line is no text");
         return ExitCode::from(2);
     };
     let first = words.first().map_or("", String::as_str);
@@ -52,19 +53,22 @@ fn main() -> ExitCode {
 /// What is not a command: help, version, or a mistake.
 fn general(words: &[String]) -> ExitCode {
     let words: Vec<&str> = words.iter().map(String::as_str).collect();
+    let named = |name: &str| COMMANDS.iter().find(|command| command.name == name);
     match words[..] {
-        ["help" | "--help" | "-h"] => println!("{}", help()),
-        ["help", name] if COMMANDS.iter().any(|command| command.name == name) => {
-            COMMANDS.iter().filter(|command| command.name == name).for_each(|command| println!("{}", usage(command)));
-        }
-        ["--version" | "-V"] => println!("mill {}", env!("CARGO_PKG_VERSION")),
+        ["help" | "--help" | "-h"] => shown(&help()),
+        ["--version" | "-V"] => shown(concat!("mill ", env!("CARGO_PKG_VERSION"))),
+        ["help", name] if named(name).is_some() => shown(&named(name).map_or(String::new(), usage)),
         _ => {
-            let names: Vec<&str> = COMMANDS.iter().map(|command| command.name).collect();
-            eprintln!("usage: mill {}, or mill help", names.join("|"));
-            return ExitCode::from(2);
+            let names = COMMANDS.map(|command| command.name).join("|");
+            note(&format!("usage: mill {names}, or mill help"));
+            ExitCode::from(2)
         }
     }
-    ExitCode::SUCCESS
+}
+
+/// Prints a text and ends.
+fn shown(text: &str) -> ExitCode {
+    ExitCode::from(print(&format!("{text}\n")).map_or_else(|failure| failure.code(), |()| 0))
 }
 
 fn usage(command: &Command) -> String {
@@ -78,15 +82,14 @@ fn help() -> String {
 
 fn act(command: &Command, words: &[String]) -> ExitCode {
     if words.iter().any(|word| word == "--help" || word == "-h") {
-        println!("{}\n\n{CODES}", usage(command));
-        return ExitCode::SUCCESS;
+        return shown(&format!("{}\n\n{CODES}", usage(command)));
     }
     match Arguments::sorted(words, &command.form).and_then(|arguments| (command.act)(&arguments)) {
         Ok(verdict) => ExitCode::from(verdict.code()),
         Err(failure) => {
-            eprintln!("mill: {failure}");
+            note(&format!("mill: {failure}"));
             if matches!(failure, Failure::Usage(_)) {
-                eprintln!("mill help {} says how it is used", command.name);
+                note(&format!("mill help {} says how it is used", command.name));
             }
             ExitCode::from(failure.code())
         }

@@ -15,6 +15,9 @@ const BOTTOM: f64 = 55.0;
 /// Pixels from one name to the next.
 const NAME: f64 = 20.0;
 
+/// Pixels of a name's character, some.
+const CHARACTER: f64 = 7.5;
+
 /// The pixels that are left for curves, of a picture's width.
 pub fn columns(width: u32) -> u32 {
     width.saturating_sub((LEFT + RIGHT) as u32).max(1)
@@ -41,7 +44,7 @@ pub fn drawn(curves: &[(String, Curve)], time: (f64, f64), (width, height): (u32
             path(curve, x, y),
             if place == 0 { "" } else { " stroke-opacity=\"0.8\"" }
         );
-        legend(&mut svg, name, colour, TOP + NAME * place as f64);
+        legend(&mut svg, &ending(name, width - LEFT - RIGHT - 32.0), colour, TOP + NAME * place as f64);
     }
     svg + "</svg>\n"
 }
@@ -85,6 +88,15 @@ fn labels(svg: &mut String, x: Scale, y: Scale, height: f64) {
 fn legend(svg: &mut String, name: &str, colour: &str, y: f64) {
     let _ = writeln!(svg, "<path d=\"M{LEFT} {}h24\" stroke=\"{colour}\" stroke-width=\"3\"/>", y);
     let _ = writeln!(svg, "<text x=\"{}\" y=\"{}\">{}</text>", LEFT + 32.0, y + 4.0, escaped(name));
+}
+
+/// A name, or as much of its end as so many pixels hold.
+fn ending(name: &str, pixels: f64) -> String {
+    let most = (pixels / CHARACTER) as usize;
+    match name.chars().count().checked_sub(most) {
+        None | Some(0) => name.to_string(),
+        Some(more) => "…".chars().chain(name.chars().skip(more + 1)).collect(),
+    }
 }
 
 fn escaped(text: &str) -> String {
@@ -139,6 +151,12 @@ mod tests {
             assert!(svg.contains(text), "{text}: {svg}");
         }
         assert!(svg.starts_with("<svg ") && svg.ends_with("</svg>\n"));
+    }
+
+    #[test]
+    fn a_long_name_shows_its_end() {
+        assert_eq!((ending("run", 100.0), ending("a/b/c", 37.5)), ("run".into(), "a/b/c".into()));
+        assert_eq!(ending("folder/run", 37.5), "…/run");
     }
 
     #[test]

@@ -29,17 +29,22 @@ impl Progress {
         let due = self.drawn.is_none_or(|drawn| drawn.elapsed() >= APART);
         if self.shown && due {
             self.drawn = Some(Instant::now());
-            eprint!("\r{}\x1b[K", bar(clock, self.end, self.rate, self.begun.elapsed()));
-            let _ = io::stderr().flush(); // a terminal that is gone stops no run
+            show(&format!("\r{}\x1b[K", bar(clock, self.end, self.rate, self.begun.elapsed())));
         }
     }
 
     /// Takes the bar away.
     pub fn end(&mut self) {
         if self.shown && self.drawn.is_some() {
-            eprint!("\r\x1b[K");
+            show("\r\x1b[K");
         }
     }
+}
+
+/// A terminal that is gone stops no run.
+fn show(text: &str) {
+    let mut terminal = io::stderr();
+    let _ = terminal.write_all(text.as_bytes()).and_then(|()| terminal.flush());
 }
 
 /// The bar with the mill's seconds, how much faster than the mill it goes, and the time left.

@@ -116,6 +116,16 @@ impl<'a> Watch<'a> {
         }
     }
 
+    /// The run's end: a path that was not sent to its end, or of which the receiver did not take each frame.
+    pub fn run_ends(&mut self, clock: u64, path_end: u64, sent: u64) {
+        if clock < path_end {
+            self.warn(clock, format!("the run ends before the path, which goes to clock {}", grouped(path_end)));
+        } else if self.frames != sent {
+            let (taken, sent) = (grouped(self.frames), grouped(sent));
+            self.warn(clock, format!("the run ends, and the receiver took {taken} frames where {sent} were sent"));
+        }
+    }
+
     fn warn(&mut self, clock: u64, words: String) {
         self.warnings.push(format!("clock {}: {words}", grouped(clock)));
     }
@@ -232,6 +242,7 @@ mod tests {
                 watch.frame_ends(session.state(), look.clock);
             }
         }
+        watch.run_ends(session.now(), line.end(path.len() as u64), path.len() as u64);
         (watch.warnings, watch.frames, watch.faults)
     }
 

@@ -3,6 +3,7 @@ use super::{axis, opened, Command};
 use crate::arguments::{Arguments, Form};
 use crate::compare::{compared, Comparison};
 use crate::failure::{Failure, Verdict};
+use crate::files::print;
 use crate::folder::Folder;
 use crate::steps::{Axis, Step};
 use crate::units::{grouped, seconds};
@@ -29,7 +30,7 @@ fn act(arguments: &Arguments) -> Result<Verdict, Failure> {
         return Err(Failure::Usage(format!("the runs have {} and {} clocks a second", rates[0], rates[1])));
     }
     let comparison = compared(&first.steps, &second.steps, clocks);
-    print!("{}", report(&first, &second, &comparison));
+    print(&report(&first, &second, &comparison))?;
     Ok(if comparison.first.is_none() { Verdict::Done } else { Verdict::Differs })
 }
 

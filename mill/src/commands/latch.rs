@@ -2,6 +2,7 @@
 use super::Command;
 use crate::arguments::{Arguments, Form};
 use crate::failure::{Failure, Verdict};
+use crate::files::print;
 use crate::units::{bit_rate, hundredths, rate, tolerance};
 use r6501q::{latch, Latch, Number};
 
@@ -23,29 +24,21 @@ fn act(arguments: &Arguments) -> Result<Verdict, Failure> {
     let clock = arguments.required("--clock", rate)?;
     let baud = arguments.required("--baud", bit_rate)?;
     let tolerance = arguments.read("--tolerance", tolerance)?.unwrap_or(ACCEPTABLE);
+    let described = |value| described(clock, baud, value);
     match latch(clock, baud, tolerance) {
-        Latch::Fits(value) => {
-            println!("{}", described(clock, baud, value));
-            Ok(Verdict::Done)
-        }
+        Latch::Fits(value) => print(&(described(value) + "\n")).map(|()| Verdict::Done),
         Latch::Nothing => {
-            println!("no latch value fits; the nearest are:");
-            nearest(clock, baud).into_iter().for_each(|value| println!("  {}", described(clock, baud, value)));
-            Ok(Verdict::Differs)
+            let nearest: String = nearest(clock, baud).map(described).map(|line| format!("  {line}\n")).concat();
+            print(&format!("no latch value fits; the nearest are:\n{nearest}")).map(|()| Verdict::Differs)
         }
         Latch::Refused => Err(Failure::Usage(Number::RateOutOfLimits.to_string())),
     }
 }
 
 /// The values around the exact one, clock / (16 × baud) - 1.
-fn nearest(clock: u32, baud: u32) -> Vec<u16> {
-    let ticks = u64::from(clock) / (16 * u64::from(baud));
-    let values = [ticks.saturating_sub(1), ticks].map(|value| u16::try_from(value).unwrap_or(u16::MAX));
-    if values[0] == values[1] {
-        vec![values[0]]
-    } else {
-        values.to_vec()
-    }
+fn nearest(clock: u32, baud: u32) -> [u16; 2] {
+    let below = (u64::from(clock) / (16 * u64::from(baud))).saturating_sub(1);
+    [below, below + 1].map(|value| u16::try_from(value).unwrap_or(u16::MAX))
 }
 
 /// A value, the bit and the rate that it makes, and how far that is off.
@@ -75,7 +68,7 @@ mod tests {
     #[test]
     fn the_nearest_values_are_around_the_exact_one() {
         assert_eq!(nearest(1_000_000, 9_600), [5, 6]);
-        assert_eq!(nearest(1_000_000, 10_000_000), [0]);
-        assert_eq!(nearest(10_000_000, 1), [65_535]);
+        assert_eq!(nearest(1_000_000, 10_000_000), [0, 1]);
+        assert_eq!(nearest(10_000_000, 1), [65_535, 65_535]);
     }
 }

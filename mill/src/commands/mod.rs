@@ -9,6 +9,7 @@ pub mod vcd;
 
 use crate::arguments::{Arguments, Form};
 use crate::failure::{Failure, Verdict};
+use crate::files::note;
 use crate::folder::Folder;
 use crate::steps::Axis;
 
@@ -33,7 +34,7 @@ fn axis(arguments: &Arguments) -> Result<Axis, Failure> {
 fn opened(name: &str) -> Result<Folder, Failure> {
     let folder = Folder::open(name)?;
     if folder.partial {
-        eprintln!("mill: {name}: partial, the run was cut short");
+        note(&format!("mill: {name}: partial, the run was cut short"));
     }
     Ok(folder)
 }

@@ -2,6 +2,7 @@
 use super::Command;
 use crate::arguments::{Arguments, Form};
 use crate::failure::{Failure, Verdict};
+use crate::files::{note, print};
 use crate::folder::Writer;
 use crate::input::Input;
 use crate::interrupt;
@@ -78,10 +79,13 @@ fn act(arguments: &Arguments) -> Result<Verdict, Failure> {
     writer.summarize(&summary(&plan, &session, &watch, &writer, None))?;
     interrupt::noted();
     let end = driven(&plan, &mut session, &mut watch, &mut writer)?;
+    if let Some(path_end) = plan.path_end() {
+        watch.run_ends(session.now(), path_end, plan.bytes().len() as u64);
+    }
     let final_summary = summary(&plan, &session, &watch, &writer, Some(&end));
     writer.summarize(&final_summary)?;
-    watch.warnings.iter().for_each(|words| eprintln!("mill: warning: {words}"));
-    told(&folder, &plan, &session, &writer, &end);
+    watch.warnings.iter().for_each(|words| note(&format!("mill: warning: {words}")));
+    print(&told(&folder, &plan, &session, &writer, &end))?;
     verdict(&plan, &session, &watch, &end)
 }
 
@@ -165,13 +169,17 @@ fn summary<I: Iterator<Item = Input>>(
     ])
 }
 
-/// A line on standard output with what was done.
-fn told<I: Iterator<Item = Input>>(folder: &str, plan: &Plan, session: &Session<I>, writer: &Writer, end: &End) {
+/// What was done, in a line.
+fn told<I: Iterator<Item = Input>>(
+    folder: &str,
+    plan: &Plan,
+    session: &Session<I>,
+    writer: &Writer,
+    end: &End,
+) -> String {
     let (time, clocks) = (seconds(session.now(), plan.rate), grouped(session.now()));
-    println!("{folder}: {time} s, {clocks} clocks, {} records: {}", grouped(writer.count), words(session, end));
-    if plan.path_end().is_some_and(|path_end| path_end > session.now()) {
-        println!("{folder}: the path was not sent to its end");
-    }
+    let records = grouped(writer.count);
+    format!("{folder}: {time} s, {clocks} clocks, {records} records: {}\n", words(session, end))
 }
 
 fn verdict<I: Iterator<Item = Input>>(

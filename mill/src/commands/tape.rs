@@ -2,7 +2,7 @@
 use super::Command;
 use crate::arguments::{Arguments, Form};
 use crate::failure::{Failure, Verdict};
-use crate::files::{bytes, output};
+use crate::files::{bytes, note, output, print};
 use crate::image::Images;
 use crate::tape::{loaded, written};
 use crate::units::grouped;
@@ -34,10 +34,10 @@ fn act(arguments: &Arguments) -> Result<Verdict, Failure> {
 /// What a tape may lack, on standard error.
 fn notes(images: &Images) {
     if images.at(0xFFFC).is_none() || images.at(0xFFFD).is_none() {
-        eprintln!("mill: note: no image has the reset vector, FFFCh and FFFDh");
+        note("mill: note: no image has the reset vector, FFFCh and FFFDh");
     }
     if images.has_registers() {
-        eprintln!("mill: note: bytes for 0000h to 003Fh, the registers' addresses, are dropped when a tape is loaded");
+        note("mill: note: bytes for 0000h to 003Fh, the registers' addresses, are dropped when a tape is loaded");
     }
 }
 
@@ -52,6 +52,6 @@ fn check(arguments: &Arguments) -> Result<Verdict, Failure> {
     let memory = loaded(name, &tape)?;
     let bytes = memory.iter().filter(|byte| **byte != 0).count() as u64;
     let vector = u16::from_le_bytes([memory[0xFFFC], memory[0xFFFD]]);
-    println!("{name}: right, {} bytes that are not zero, reset vector {vector:04X}h", grouped(bytes));
+    print(&format!("{name}: right, {} bytes that are not zero, reset vector {vector:04X}h\n", grouped(bytes)))?;
     Ok(Verdict::Done)
 }
