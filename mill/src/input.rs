@@ -27,8 +27,8 @@ impl fmt::Display for Input {
 /// The first line of an input list.
 pub const HEADING: &str = "clock,pin,level";
 
-/// The inputs of a text, a line each: `clock,pin,level`. A first line of these words, and empty lines, are skipped. What
-/// is wrong is said with its line and number, as `LINE: what (5)`.
+/// The inputs of a text, a line each: `clock,pin,level`. A first line of these words, and empty lines, are skipped.
+/// What is wrong is said with its line and number, as `LINE: what (5)`.
 pub fn list(text: &str) -> Result<Vec<Input>, String> {
     let mut inputs: Vec<Input> = Vec::new();
     for (number, line) in (1..).zip(text.lines()) {

@@ -2,8 +2,8 @@
 use crate::input::Input;
 use std::iter::Peekable;
 
-/// Two lists that are each in order, as one that is. Where both have an input for one pin on one clock, the first list's
-/// comes first.
+/// Two lists that are each in order, as one that is. Where both have an input for one pin on one clock, the first
+/// list's comes first.
 pub struct Merged<A: Iterator<Item = Input>, B: Iterator<Item = Input>> {
     first: Peekable<A>,
     second: Peekable<B>,

@@ -175,7 +175,7 @@ fn parity(text: &str) -> Result<Option<Parity>, String> {
     }
 }
 
-/// RES high on clock 1, but where the pin list says otherwise; then the pin list. PA7 is the line's, where there is one.
+/// The pin list, and RES high on clock 1 where it does not say otherwise. PA7 is the line's, where there is one.
 fn inputs(pins: Option<&Source>, line: bool) -> Result<Vec<Input>, Failure> {
     let released = Input { clock: 1, pin: Pin::RES, level: Level::High };
     let Some(pins) = pins else { return Ok(vec![released]) };

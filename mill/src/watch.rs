@@ -158,7 +158,8 @@ pub fn unlike_bits(line: &Line, latch: u16) -> Option<String> {
     }
     let (bit, percent) = (line.bit_clocks(), hundredths(100 * off, made));
     let side = if rate > made { "fast" } else { "slow" };
-    Some(format!("a bit of the line is {bit} clocks, of the chip {chip} (latch A {latch:04X}h): the chip is {percent}% too {side}"))
+    let bits = format!("a bit of the line is {bit} clocks, of the chip {chip} (latch A {latch:04X}h)");
+    Some(format!("{bits}: the chip is {percent}% too {side}"))
 }
 
 /// The frame that SCCR sets.
@@ -258,8 +259,8 @@ mod tests {
     #[test]
     fn a_line_of_another_rate_is_said() {
         let (warnings, _, _) = watched(&line(9_600), receiver(6, 0x40, true), &[0x55; 20]);
-        let words = "clock 2,000: a bit of the line is 104.17 clocks, of the chip 112 (latch A 0006h): the chip is 6.99% too slow";
-        assert_eq!(warnings[0], words);
+        let bits = "clock 2,000: a bit of the line is 104.17 clocks, of the chip 112 (latch A 0006h)";
+        assert_eq!(warnings[0], format!("{bits}: the chip is 6.99% too slow"));
         assert_eq!(unlike_bits(&line(4_800), 12), None);
         assert_eq!(unlike_bits(&line(9_400), 5).unwrap().split(": ").nth(1), Some("the chip is 10.82% too fast"));
     }

@@ -61,7 +61,7 @@ pub const COMMAND: Command = Command {
 const STRETCH: u64 = 1 << 20;
 
 /// How a run ended.
-#[derive(Clone, PartialEq, Eq)]
+#[derive(Clone, Copy, PartialEq, Eq)]
 enum End {
     /// All clocks done, or a stop.
     Number(Number),
@@ -72,129 +72,133 @@ enum End {
 fn act(arguments: &Arguments) -> Result<Verdict, Failure> {
     let folder = arguments.required("-o", |text| Ok(text.to_string()))?;
     let plan = Plan::read(arguments)?;
-    let mut writer = Writer::create(Path::new(&folder))?;
-    let inputs = Merged::of(plan.inputs.iter().copied(), plan.line.iter().flat_map(|line| line.inputs(plan.bytes())));
-    let mut session = Session::fresh(plan.memory.clone(), inputs, plan.sizes);
-    let mut watch = Watch::over(plan.line.as_ref());
-    writer.summarize(&summary(&plan, &session, &watch, &writer, None))?;
-    interrupt::noted();
-    let end = driven(&plan, &mut session, &mut watch, &mut writer)?;
-    if let Some(path_end) = plan.path_end() {
-        watch.run_ends(session.now(), path_end, plan.bytes().len() as u64);
-    }
-    let final_summary = summary(&plan, &session, &watch, &writer, Some(&end));
-    writer.summarize(&final_summary)?;
-    watch.warnings.iter().for_each(|words| note(&format!("mill: warning: {words}")));
-    print(&told(&folder, &plan, &session, &writer, &end))?;
-    verdict(&plan, &session, &watch, &end)
-}
-
-/// Runs to the end, with looks at the receiver where frames end.
-fn driven<I: Iterator<Item = Input>>(
-    plan: &Plan,
-    session: &mut Session<I>,
-    watch: &mut Watch<'_>,
-    writer: &mut Writer,
-) -> Result<End, Failure> {
-    let end = plan.end();
-    let mut begin = plan.path_end().and(plan.line).map_or(u64::MAX, |line| line.start);
-    let mut progress = Progress::to(end, plan.rate);
-    while session.now() < end && !interrupt::asked() {
-        progress.at(session.now());
-        let next_input = session.next_input();
-        let look = next_look(session.state(), session.now(), next_input);
-        let to = look.clock.min(session.now() + STRETCH).min(begin).min(end);
-        let number = session.advance(to, writer)?;
-        if number != Number::Done {
-            progress.end();
-            return Ok(End::Number(number));
-        }
-        if to == begin {
-            watch.path_begins(session.state(), to);
-            begin = u64::MAX;
-        }
-        if look.frame_end && to == look.clock {
-            watch.frame_ends(session.state(), to);
-        }
-    }
-    progress.end();
-    Ok(if session.now() < end { End::Interrupted } else { End::Number(Number::Done) })
-}
-
-/// The number's words; of an undefined opcode which, where and when.
-fn words<I: Iterator<Item = Input>>(session: &Session<I>, end: &End) -> String {
-    match end {
-        End::Interrupted => "interrupted".to_string(),
-        End::Number(Number::UndefinedOpcode) => {
-            let pc = session.state().cpu.pc;
-            let opcode = session.byte(pc).map_or(String::new(), |byte| format!(" {byte:02X}h"));
-            let known =
-                session.byte(pc).and_then(of_65c02).map_or(String::new(), |name| format!(", {name} of a 65C02"));
-            format!("undefined opcode{opcode} at {pc:04X}h, clock {} (6){known}", grouped(session.now() + 1))
-        }
-        End::Number(number) => number.to_string(),
-    }
-}
-
-/// What went in, what was asked for, and how it ended; no end: the run is under way.
-fn summary<I: Iterator<Item = Input>>(
-    plan: &Plan,
-    session: &Session<I>,
-    watch: &Watch<'_>,
-    writer: &Writer,
-    end: Option<&End>,
-) -> Json {
-    let number = match end {
-        Some(End::Number(number)) => Json::from(u32::from(u8::from(*number))),
-        _ => Json::Null,
+    let line = plan.line.iter().flat_map(|line| line.inputs(plan.bytes()));
+    let inputs = Merged::of(plan.inputs.iter().copied(), line);
+    let mut run = Run {
+        plan: &plan,
+        session: Session::fresh(plan.memory.clone(), inputs, plan.sizes),
+        watch: Watch::over(plan.line.as_ref()),
+        writer: Writer::create(Path::new(&folder))?,
     };
-    let faults = FAULTS.iter().zip(watch.faults).map(|(name, count)| (name.to_string(), count.into()));
-    Json::object([
-        ("version", env!("CARGO_PKG_VERSION").into()),
-        ("tape", plan.tape.json()),
-        ("path", plan.path.as_ref().map(|path| path.json()).into()),
-        ("inputs", plan.pins.as_ref().map(|pins| pins.json()).into()),
-        ("options", plan.options()),
-        ("path_end", plan.path_end().into()),
-        ("partial", matches!(end, None | Some(End::Interrupted)).into()),
-        ("number", number),
-        ("words", end.map_or("running".to_string(), |end| words(session, end)).into()),
-        ("last_clock", session.now().into()),
-        ("seconds", seconds(session.now(), plan.rate).into()),
-        ("pc", format!("{:04X}", session.state().cpu.pc).into()),
-        ("records", writer.count.into()),
-        ("frames_received", watch.frames.into()),
-        ("frames_with", Json::Object(faults.collect())),
-        ("warnings", Json::List(watch.warnings.iter().map(|words| words.as_str().into()).collect())),
-    ])
+    run.writer.summarize(&run.summary(None))?;
+    interrupt::noted();
+    let end = run.driven()?;
+    run.writer.summarize(&run.summary(Some(end)))?;
+    run.watch.warnings.iter().for_each(|words| note(&format!("mill: warning: {words}")));
+    print(&format!("{folder}: {}\n", run.told(end)))?;
+    run.verdict(end)
 }
 
-/// What was done, in a line.
-fn told<I: Iterator<Item = Input>>(
-    folder: &str,
-    plan: &Plan,
-    session: &Session<I>,
-    writer: &Writer,
-    end: &End,
-) -> String {
-    let (time, clocks) = (seconds(session.now(), plan.rate), grouped(session.now()));
-    let records = grouped(writer.count);
-    format!("{folder}: {time} s, {clocks} clocks, {records} records: {}\n", words(session, end))
+/// A run that is under way.
+struct Run<'a, I: Iterator<Item = Input>> {
+    plan: &'a Plan,
+    session: Session<I>,
+    watch: Watch<'a>,
+    writer: Writer,
 }
 
-fn verdict<I: Iterator<Item = Input>>(
-    plan: &Plan,
-    session: &Session<I>,
-    watch: &Watch<'_>,
-    end: &End,
-) -> Result<Verdict, Failure> {
-    match (end, watch.warnings.first()) {
-        (End::Interrupted, _) => Err(Failure::Interrupted(words(session, end))),
-        (End::Number(Number::Done), Some(_)) if plan.strict => {
-            Err(Failure::Line("the line and the receiver do not fit together, see the warnings above".to_string()))
+impl<I: Iterator<Item = Input>> Run<'_, I> {
+    /// Runs to the end, and shows how far it is.
+    fn driven(&mut self) -> Result<End, Failure> {
+        let end = self.plan.end();
+        let mut begin = self.plan.path_end().and(self.plan.line).map_or(u64::MAX, |line| line.start);
+        let mut progress = Progress::to(end, self.plan.rate);
+        let mut number = Number::Done;
+        while self.session.now() < end && number == Number::Done && !interrupt::asked() {
+            progress.at(self.session.now());
+            number = self.stretch(end, &mut begin)?;
         }
-        (End::Number(Number::Done), _) => Ok(Verdict::Done),
-        (End::Number(Number::WrongPinList), _) => Err(Failure::Inputs(words(session, end))),
-        (End::Number(_), _) => Err(Failure::Opcode(words(session, end))),
+        progress.end();
+        if let Some(path_end) = self.plan.path_end() {
+            self.watch.run_ends(self.session.now(), path_end, self.plan.bytes().len() as u64);
+        }
+        let cut = self.session.now() < end && number == Number::Done;
+        Ok(if cut { End::Interrupted } else { End::Number(number) })
+    }
+
+    /// Runs to the next look at the receiver, where the path begins and where a frame ends, but not too far.
+    fn stretch(&mut self, end: u64, begin: &mut u64) -> Result<Number, Failure> {
+        let (now, next_input) = (self.session.now(), self.session.next_input());
+        let look = next_look(self.session.state(), now, next_input);
+        let to = look.clock.min(now + STRETCH).min(*begin).min(end);
+        let number = self.session.advance(to, &mut self.writer)?;
+        if number == Number::Done && to == *begin {
+            self.watch.path_begins(self.session.state(), to);
+            *begin = u64::MAX;
+        }
+        if number == Number::Done && look.frame_end && to == look.clock {
+            self.watch.frame_ends(self.session.state(), to);
+        }
+        Ok(number)
+    }
+
+    /// The end in words; of an undefined opcode which, where and when.
+    fn words(&self, end: End) -> String {
+        match end {
+            End::Interrupted => "interrupted".to_string(),
+            End::Number(Number::UndefinedOpcode) => {
+                let pc = self.session.state().cpu.pc;
+                let byte = self.session.byte(pc);
+                let opcode = byte.map_or(String::new(), |byte| format!(" {byte:02X}h"));
+                let known = byte.and_then(of_65c02).map_or(String::new(), |name| format!(", {name} of a 65C02"));
+                format!("undefined opcode{opcode} at {pc:04X}h, clock {} (6){known}", grouped(self.session.now() + 1))
+            }
+            End::Number(number) => number.to_string(),
+        }
+    }
+
+    /// What went in, what was asked for, and how it ended; no end: the run is under way.
+    fn summary(&self, end: Option<End>) -> Json {
+        let mut fields = vec![
+            ("version", env!("CARGO_PKG_VERSION").into()),
+            ("tape", self.plan.tape.json()),
+            ("path", self.plan.path.as_ref().map(|path| path.json()).into()),
+            ("inputs", self.plan.pins.as_ref().map(|pins| pins.json()).into()),
+            ("options", self.plan.options()),
+            ("path_end", self.plan.path_end().into()),
+        ];
+        fields.extend(self.reached(end));
+        Json::Object(fields.into_iter().map(|(name, value)| (name.to_string(), value)).collect())
+    }
+
+    /// The summary's fields of what was reached.
+    fn reached(&self, end: Option<End>) -> [(&'static str, Json); 10] {
+        let number = match end {
+            Some(End::Number(number)) => Json::from(u32::from(u8::from(number))),
+            _ => Json::Null,
+        };
+        let now = self.session.now();
+        let faults = FAULTS.iter().zip(self.watch.faults).map(|(name, count)| (name.to_string(), count.into()));
+        [
+            ("partial", matches!(end, None | Some(End::Interrupted)).into()),
+            ("number", number),
+            ("words", end.map_or("running".to_string(), |end| self.words(end)).into()),
+            ("last_clock", now.into()),
+            ("seconds", seconds(now, self.plan.rate).into()),
+            ("pc", format!("{:04X}", self.session.state().cpu.pc).into()),
+            ("records", self.writer.count.into()),
+            ("frames_received", self.watch.frames.into()),
+            ("frames_with", Json::Object(faults.collect())),
+            ("warnings", Json::List(self.watch.warnings.iter().map(|words| words.as_str().into()).collect())),
+        ]
+    }
+
+    /// What was done, in a line.
+    fn told(&self, end: End) -> String {
+        let (time, clocks) = (seconds(self.session.now(), self.plan.rate), grouped(self.session.now()));
+        format!("{time} s, {clocks} clocks, {} records: {}", grouped(self.writer.count), self.words(end))
+    }
+
+    fn verdict(&self, end: End) -> Result<Verdict, Failure> {
+        let unfit = self.plan.strict && !self.watch.warnings.is_empty();
+        match end {
+            End::Number(Number::Done) if unfit => {
+                Err(Failure::Line("the line and the receiver do not fit together, see the warnings above".to_string()))
+            }
+            End::Number(Number::Done) => Ok(Verdict::Done),
+            End::Number(Number::WrongPinList) => Err(Failure::Inputs(self.words(end))),
+            End::Number(_) => Err(Failure::Opcode(self.words(end))),
+            End::Interrupted => Err(Failure::Interrupted(self.words(end))),
+        }
     }
 }

@@ -10,8 +10,8 @@ use r6501q::Pin;
 pub const COMMAND: Command = Command {
     name: "vcd",
     usage: "mill vcd DIR [--pins PIN,PIN..] [-o FILE]
-  The pins of a run as a value change dump, for a wave form viewer or sigrok. A port pin is high where the chip drives it
-  high and no input holds it low.
+  The pins of a run as a value change dump, for a wave form viewer or sigrok. A port pin is high where the chip drives
+  it high and no input holds it low.
   --pins PIN,PIN..    PA0 to PD7, NMI, RES (those that change)
   -o FILE             the file to write (else standard output)",
     form: Form { valued: &["--pins", "-o"], flags: &[], others: (1, 1) },
