@@ -117,9 +117,8 @@ fn malformed_part(mut digits: Digits<'_>) -> Result<(), String> {
     if address + count > MEMORY_LENGTH {
         return Err(format!("address {address:04X} and count {count:02X} go past FFFF"));
     }
-    digits.value(2 * count)?;
-    digits.value(4)?;
-    Ok(())
+    (0..count).try_for_each(|_| digits.value(2).map(|_| ()))?;
+    digits.value(4).map(|_| ())
 }
 
 /// The check sum that stands there and the one that the bytes have.
@@ -178,6 +177,8 @@ mod tests {
     fn a_malformed_record_is_shown_by_its_wrong_part() {
         let wrong_digit = "t:1: character 7 behind `;` is `a`, no digit of 0 to 9, A to F (8), in record 1";
         assert_eq!(refused(&TAPE.replace("A9", "a9")), wrong_digit);
+        let long = format!(";180200{}x", "FF".repeat(24));
+        assert!(refused(&long).starts_with("t:1: character 55 behind `;` is `x`, no digit"));
         assert_eq!(refused(";19020000"), "t:1: count 19 is above 18 (8), in record 1");
         assert_eq!(refused(";02FFFF0000"), "t:1: address FFFF and count 02 go past FFFF (8), in record 1");
         assert_eq!(refused(";0102"), "t:1: the tape ends within the record (8), in record 1");
