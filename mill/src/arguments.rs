@@ -7,8 +7,10 @@ pub struct Form {
     pub valued: &'static [&'static str],
     /// Options that take none.
     pub flags: &'static [&'static str],
-    /// How many other words there are, at least and at most.
-    pub others: (usize, usize),
+    /// What the other words are: those that must be there, by name.
+    pub needed: &'static [&'static str],
+    /// How many more there may be.
+    pub more: usize,
 }
 
 /// The words of a command line, sorted.
@@ -35,11 +37,11 @@ impl Arguments {
                 _ => arguments.others.push(word.clone()),
             }
         }
-        let (least, most) = form.others;
-        match arguments.others.get(most) {
-            Some(word) => usage(format!("`{word}` is one word too many")),
-            None if arguments.others.len() < least => usage("a word is missing".to_string()),
-            None => Ok(arguments),
+        let count = arguments.others.len();
+        match (form.needed.get(count), arguments.others.get(form.needed.len().saturating_add(form.more))) {
+            (Some(name), _) => usage(format!("{name} is missing")),
+            (_, Some(word)) => usage(format!("`{word}` is one word too many")),
+            _ => Ok(arguments),
         }
     }
 
@@ -102,7 +104,7 @@ impl Arguments {
 mod tests {
     use super::*;
 
-    const FORM: Form = Form { valued: &["-o", "--clock"], flags: &["--strict"], others: (1, 2) };
+    const FORM: Form = Form { valued: &["-o", "--clock"], flags: &["--strict"], needed: &["TAPE"], more: 1 };
 
     fn sorted(line: &str) -> Result<Arguments, Failure> {
         let words: Vec<String> = line.split_whitespace().map(String::from).collect();
@@ -123,7 +125,7 @@ mod tests {
     fn what_is_wrong_is_named() {
         let refused = |line: &str| sorted(line).unwrap_err();
         assert_eq!(refused("a b c"), Failure::Usage("`c` is one word too many".into()));
-        assert_eq!(refused(""), Failure::Usage("a word is missing".into()));
+        assert_eq!(refused(""), Failure::Usage("TAPE is missing".into()));
         assert_eq!(refused("a --clok 1"), Failure::Usage("`--clok` is no option here".into()));
         assert_eq!(refused("a -o"), Failure::Usage("-o needs a value".into()));
         assert_eq!(refused("a -o b -o c"), Failure::Usage("-o is given twice".into()));

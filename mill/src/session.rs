@@ -1,7 +1,8 @@
 //! A chip that runs past 32 bits of clock: pieces of a run, each lent the inputs of its clocks and space for records.
 //!
 //! The library's clock has 32 bits. Where it has grown far, it is set back to 0 and the inputs' clocks are lowered by
-//! as much: states that are alike but for the clock, with input lists alike but for the same shift, go on alike.
+//! as much: states that are alike but for the clock, with input lists alike but for the same shift, go on alike
+//! (docs/LAB.md, "Long runs").
 use crate::failure::Failure;
 use crate::input::Input;
 use r6501q::{run, Number, State};

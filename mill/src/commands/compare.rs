@@ -15,7 +15,12 @@ pub const COMMAND: Command = Command {
   place. Exit code 1 where they differ.
   --clocks N            clocks that two steps may be apart (0)
   --step, --direction   as for mill path",
-    form: Form { valued: &["--clocks", "--step", "--direction"], flags: &[], others: (2, 2) },
+    form: Form {
+        valued: &["--clocks", "--step", "--direction"],
+        flags: &[],
+        needed: &["the first DIR", "the second DIR"],
+        more: 0,
+    },
     act,
 };
 

@@ -13,7 +13,7 @@ pub const COMMAND: Command = Command {
   --clock RATE         clocks a second, as 1MHz
   --baud RATE          bits a second
   --tolerance PERCENT  how far the rate made may be off, as 2% (1.5%)",
-    form: Form { valued: &["--clock", "--baud", "--tolerance"], flags: &[], others: (0, 0) },
+    form: Form { valued: &["--clock", "--baud", "--tolerance"], flags: &[], needed: &[], more: 0 },
     act,
 };
 

@@ -12,7 +12,7 @@ pub const COMMAND: Command = Command {
   --step PIN:EDGE     which edge of which pin is a step (PA5:rise)
   --direction PIN     which pin gives the direction, and its level for up (PC0:high)
   -o FILE             the file to write (else standard output)",
-    form: Form { valued: &["--step", "--direction", "-o"], flags: &[], others: (1, 1) },
+    form: Form { valued: &["--step", "--direction", "-o"], flags: &[], needed: &["DIR"], more: 0 },
     act,
 };
 

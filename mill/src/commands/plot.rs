@@ -20,7 +20,8 @@ pub const COMMAND: Command = Command {
     form: Form {
         valued: &["--step", "--direction", "--from", "--to", "--width", "--height", "-o"],
         flags: &[],
-        others: (1, usize::MAX),
+        needed: &["DIR"],
+        more: usize::MAX,
     },
     act,
 };

@@ -52,7 +52,8 @@ pub const COMMAND: Command = Command {
             "--set-back",
         ],
         flags: &["--strict"],
-        others: (1, 2),
+        needed: &["TAPE"],
+        more: 1,
     },
     act,
 };

@@ -15,7 +15,7 @@ pub const COMMAND: Command = Command {
   Makes a paper tape of binary images, each with the hexadecimal address where it lies, and of Intel hex files; or
   checks a tape, and names the line, the record, what is found and what is expected.
   -o TAPE        the file to write (else standard output)",
-    form: Form { valued: &["-o"], flags: &["--check"], others: (1, usize::MAX) },
+    form: Form { valued: &["-o"], flags: &["--check"], needed: &["IMAGE@ADDRESS or TAPE"], more: usize::MAX },
     act,
 };
 

@@ -14,7 +14,7 @@ pub const COMMAND: Command = Command {
   it high and no input holds it low.
   --pins PIN,PIN..    PA0 to PD7, NMI, RES (those that change)
   -o FILE             the file to write (else standard output)",
-    form: Form { valued: &["--pins", "-o"], flags: &[], others: (1, 1) },
+    form: Form { valued: &["--pins", "-o"], flags: &[], needed: &["DIR"], more: 0 },
     act,
 };
 
