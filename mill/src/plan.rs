@@ -2,7 +2,7 @@
 use crate::arguments::Arguments;
 use crate::digest::sha256;
 use crate::failure::Failure;
-use crate::files::{bytes, failed, text};
+use crate::files::{bytes, failed};
 use crate::input::{list, Input};
 use crate::json::Json;
 use crate::line::Line;
@@ -179,8 +179,8 @@ fn parity(text: &str) -> Result<Option<Parity>, String> {
 fn inputs(pins: Option<&Source>, line: bool) -> Result<Vec<Input>, Failure> {
     let released = Input { clock: 1, pin: Pin::RES, level: Level::High };
     let Some(pins) = pins else { return Ok(vec![released]) };
-    let content = text(Path::new(&pins.name))?;
-    let mut inputs = list(&content).map_err(|words| Failure::Inputs(format!("{}:{words}", pins.name)))?;
+    let content = std::str::from_utf8(&pins.bytes).map_err(|_| failed(Path::new(&pins.name), "is no text"))?;
+    let mut inputs = list(content).map_err(|words| Failure::Inputs(format!("{}:{words}", pins.name)))?;
     if let Some(input) = inputs.iter().find(|input| line && input.pin == Pin::PA7) {
         let words = format!("{}: {input}: PA7 is the line's while a path is sent (5)", pins.name);
         return Err(Failure::Inputs(words));
