@@ -67,3 +67,17 @@ impl Verdict {
         }
     }
 }
+
+#[cfg(test)]
+mod tests {
+    use super::*;
+
+    #[test]
+    fn exit_codes_are_those_of_the_page() {
+        let causes: [fn(String) -> Failure; 6] =
+            [Failure::Usage, Failure::File, Failure::Tape, Failure::Inputs, Failure::Opcode, Failure::Line];
+        let codes = causes.map(|cause| cause(String::new()).code());
+        assert_eq!((Verdict::Done.code(), Verdict::Differs.code(), codes), (0, 1, [2, 3, 4, 5, 6, 7]));
+        assert_eq!(Failure::File("a: gone".into()).to_string(), "a: gone");
+    }
+}

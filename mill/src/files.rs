@@ -83,3 +83,29 @@ impl From<io::Error> for Failed {
         Failed::Output(error)
     }
 }
+
+#[cfg(test)]
+mod tests {
+    use super::*;
+
+    #[test]
+    fn a_file_is_replaced_whole() {
+        let path = std::env::temp_dir().join(format!("mill_{}_replaced", std::process::id()));
+        replace(&path, "first").unwrap();
+        replace(&path, "second").unwrap();
+        assert_eq!(text(&path), Ok("second".to_string()));
+        output(path.to_str(), |out| Ok(out.write_all(&[0xFF])?)).unwrap();
+        assert_eq!(text(&path), Err(failed(&path, "is no text")));
+        std::fs::remove_file(&path).unwrap();
+        assert!(bytes(&path).is_err());
+    }
+
+    #[test]
+    fn what_fails_is_said_with_its_file() {
+        let full = output(Some("/dev/full"), |out| Ok(out.write_all(b"text")?)).unwrap_err();
+        assert!(full.to_string().starts_with("/dev/full: No space left"), "{full}");
+        let failure = Failure::File("other: gone".into());
+        assert_eq!(output(Some("/dev/null"), |_| Err(failure.clone().into())), Err(failure));
+        assert!(created(Path::new("/dev/null/file")).is_err());
+    }
+}

@@ -91,6 +91,12 @@ impl Folder {
         Ok(Folder { path, rate, last_clock, partial })
     }
 
+    /// A run of this name and rate, without its files.
+    #[cfg(test)]
+    pub fn named(name: &str, rate: u32) -> Folder {
+        Folder { path: PathBuf::from(name), rate, last_clock: 0, partial: false }
+    }
+
     /// The folder's name, as it was given.
     pub fn name(&self) -> String {
         self.path.display().to_string()

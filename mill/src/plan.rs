@@ -191,3 +191,56 @@ fn inputs(pins: Option<&Source>, line: bool) -> Result<Vec<Input>, Failure> {
     }
     Ok(inputs)
 }
+
+#[cfg(test)]
+mod tests {
+    use super::*;
+    use crate::commands::run::COMMAND;
+
+    fn plan(options: &str) -> Result<Plan, Failure> {
+        let examples = concat!(env!("CARGO_MANIFEST_DIR"), "/../examples");
+        let words = options.replace("TAPE", &format!("{examples}/mill.tape"));
+        let words = words.replace("PATH", &format!("{examples}/mill.path"));
+        let words: Vec<String> = words.split_whitespace().map(String::from).collect();
+        Plan::read(&Arguments::sorted(&words, &COMMAND.form)?)
+    }
+
+    #[test]
+    fn a_run_ends_behind_its_path_or_as_asked_for() {
+        let three = plan("TAPE PATH --clock 1MHz --baud 4800").unwrap();
+        assert_eq!((three.path_end(), three.end()), (Some(2_000 + 6_875), 8_875 + 200_000));
+        assert_eq!(plan("TAPE PATH --clock 1MHz --baud 4800 --tail 5").unwrap().end(), 8_880);
+        assert_eq!(plan("TAPE PATH --clock 2MHz --baud 4800 --for 1ms").unwrap().end(), 2_000);
+        assert_eq!(plan("TAPE --clock 1MHz --for 2h").unwrap().end(), 7_200_000_000);
+        assert!(matches!(plan("TAPE --clock 1MHz"), Err(Failure::Usage(_))));
+    }
+
+    #[test]
+    fn res_goes_high_on_clock_1_but_where_the_list_says_otherwise() {
+        let lines = |text: &str| {
+            let pins = Source { name: "pins".into(), bytes: text.as_bytes().to_vec() };
+            inputs(Some(&pins), false).map(|list| list.iter().map(Input::to_string).collect::<Vec<_>>())
+        };
+        assert_eq!(inputs(None, true).unwrap().len(), 1);
+        assert_eq!(lines("1,PA0,0\n2,PA0,1").unwrap(), ["1,PA0,0", "1,RES,1", "2,PA0,1"]);
+        assert_eq!(lines("1,RES,0\n9,RES,1").unwrap(), ["1,RES,0", "9,RES,1"]);
+        assert_eq!(lines("5,PA7,0").unwrap(), ["1,RES,1", "5,PA7,0"]);
+        assert!(matches!(lines("0,PA7,0"), Err(Failure::Inputs(_))));
+        let line = Source { name: "pins".into(), bytes: b"5,PA7,0".to_vec() };
+        assert!(matches!(inputs(Some(&line), true), Err(Failure::Inputs(_))));
+    }
+
+    #[test]
+    fn a_line_that_cannot_be_is_refused() {
+        let refused = |options: &str| match plan(&format!("TAPE PATH --clock 1MHz {options}")) {
+            Err(failure) => failure.to_string(),
+            Ok(_) => String::new(),
+        };
+        assert_eq!(refused("--baud 1000001"), "--baud: a bit of 1,000,001 bits a second is below a clock");
+        assert_eq!(refused("--baud 4800 --every 2291"), "--every: a frame takes 2,292 clocks");
+        assert_eq!(refused("--baud 4800 --every 2292"), "");
+        assert_eq!(refused("--baud 4800 --start 0"), "--start: the first clock is 1");
+        assert_eq!(refused("--baud 4800 --every 300000000h"), "the path takes too many clocks");
+        assert!(refused("--baud 4800 --bits 7").ends_with("byte 2 is 85h, which 7 data bits do not hold"));
+    }
+}

@@ -53,7 +53,7 @@ impl Side {
 
     fn line(&self) -> String {
         let end = self.steps.last().map_or(0, |step| step.position);
-        format!("{}: {} steps, end position {end}\n", self.folder.name(), grouped(self.steps.len() as u64))
+        format!("{}: {}, end position {end}\n", self.folder.name(), counted(self.steps.len() as u64))
     }
 
     /// Clock and time.
@@ -70,6 +70,11 @@ impl Side {
     }
 }
 
+/// So many steps.
+fn counted(steps: u64) -> String {
+    format!("{} step{}", grouped(steps), if steps == 1 { "" } else { "s" })
+}
+
 fn report(first: &Side, second: &Side, comparison: &Comparison) -> String {
     let mut text = first.line() + &second.line();
     match comparison.first {
@@ -83,13 +88,38 @@ fn report(first: &Side, second: &Side, comparison: &Comparison) -> String {
     let counts = (first.steps.len() as u64, second.steps.len() as u64);
     if counts.0 != counts.1 {
         let what = if counts.1 > counts.0 { "too many" } else { "missing" };
-        text += &format!("{}: {} steps {what}\n", second.folder.name(), grouped(counts.0.abs_diff(counts.1)));
+        text += &format!("{}: {} {what}\n", second.folder.name(), counted(counts.0.abs_diff(counts.1)));
     }
     if let Some((clocks, index)) = comparison.worst_clocks {
         text += &format!("worst in time: {} clocks, step {}\n", grouped(clocks), grouped(index as u64 + 1));
     }
     if let Some((steps, clock)) = comparison.worst_place {
-        text += &format!("worst in place: {} steps apart, first on {}\n", grouped(steps), first.at(clock));
+        text += &format!("worst in place: {} apart, first on {}\n", counted(steps), first.at(clock));
     }
     text
+}
+
+#[cfg(test)]
+mod tests {
+    use super::*;
+
+    fn side(name: &str, steps: &[(u64, i64)]) -> Side {
+        let steps = steps.iter().map(|(clock, position)| Step { clock: *clock, position: *position }).collect();
+        Side { folder: Folder::named(name, 1_000_000), steps }
+    }
+
+    #[test]
+    fn a_report_has_the_first_step_that_differs_and_the_worst() {
+        let (first, second) = (side("a", &[(10, 1), (2_000, 2)]), side("b", &[(10, 1), (1_990, 2), (3_000, 3)]));
+        let text = report(&first, &second, &compared(&first.steps, &second.steps, 0));
+        let lines: Vec<&str> = text.lines().collect();
+        assert_eq!(lines[..2], ["a: 2 steps, end position 2", "b: 3 steps, end position 3"]);
+        let differs = "step 2 is the first that differs: a to position 2 on clock 2,000 (0.002000 s); \
+                       b to position 2 on clock 1,990 (0.001990 s)";
+        assert_eq!(lines[2], differs);
+        assert_eq!(lines[3..5], ["b: 1 step too many", "worst in time: 10 clocks, step 2"]);
+        assert_eq!(lines[5..], ["worst in place: 1 step apart, first on clock 1,990 (0.001990 s)"]);
+        let alike = report(&first, &first, &compared(&first.steps, &first.steps, 0));
+        assert_eq!(alike.lines().last(), Some("alike"));
+    }
 }

@@ -69,3 +69,26 @@ fn pixels(text: &str) -> Result<u32, String> {
     let within = text.parse().ok().filter(|pixels| (200..=10_000).contains(pixels));
     within.ok_or_else(|| format!("`{text}` is no number of pixels, 200 to 10,000"))
 }
+
+#[cfg(test)]
+mod tests {
+    use super::*;
+
+    fn shown_by(options: &str) -> Result<(f64, f64), Failure> {
+        let words: Vec<String> = options.split_whitespace().map(String::from).collect();
+        let mut long = Folder::named("long", 2_000_000);
+        long.last_clock = 4_000_000;
+        shown(&Arguments::sorted(&words, &COMMAND.form)?, &[Folder::named("empty", 1_000_000), long])
+    }
+
+    #[test]
+    fn the_longest_run_is_shown_whole_or_the_time_asked_for() {
+        assert_eq!(shown_by("a b"), Ok((0.0, 2.0)));
+        assert_eq!(shown_by("a b --from 500ms --to 1s"), Ok((0.5, 1.0)));
+        assert_eq!(shown_by("a b --to 500000"), Ok((0.0, 0.5)));
+        assert!(shown_by("a b --from 2s --to 1s").is_err());
+        assert!(shown_by("a b --from 5s").is_ok_and(|(from, to)| from < to));
+        assert_eq!((pixels("960"), pixels("10000")), (Ok(960), Ok(10_000)));
+        assert!(pixels("199").is_err() && pixels("wide").is_err());
+    }
+}

@@ -203,3 +203,30 @@ impl<I: Iterator<Item = Input>> Run<'_, I> {
         }
     }
 }
+
+#[cfg(test)]
+mod tests {
+    use super::*;
+    use crate::folder::Folder;
+    use crate::steps::Axis;
+
+    #[test]
+    fn the_example_makes_the_steps_of_its_path() {
+        let examples = concat!(env!("CARGO_MANIFEST_DIR"), "/../examples");
+        let folder = std::env::temp_dir().join(format!("mill_{}_run", std::process::id()));
+        let words = format!(
+            "{examples}/mill.tape {examples}/mill.path -o {} --clock 1MHz --baud 4800 --strict",
+            folder.display()
+        );
+        let words: Vec<String> = words.split_whitespace().map(String::from).collect();
+        let done = Arguments::sorted(&words, &COMMAND.form).and_then(|arguments| act(&arguments));
+        assert_eq!(done, Ok(Verdict::Done));
+        let written = Folder::open(folder.to_str().unwrap()).unwrap();
+        assert_eq!((written.rate, written.last_clock, written.partial), (1_000_000, 208_875, false));
+        let steps: Vec<i64> =
+            Axis::default().steps(written.records().unwrap()).map(|step| step.unwrap().position).collect();
+        let moves = (1..=10).chain((5..10).rev()).chain(6..=12);
+        assert_eq!(steps, moves.collect::<Vec<i64>>());
+        std::fs::remove_dir_all(folder).unwrap();
+    }
+}

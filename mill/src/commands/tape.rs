@@ -55,3 +55,24 @@ fn check(arguments: &Arguments) -> Result<Verdict, Failure> {
     print(&format!("{name}: right, {} bytes that are not zero, reset vector {vector:04X}h\n", grouped(bytes)))?;
     Ok(Verdict::Done)
 }
+
+#[cfg(test)]
+mod tests {
+    use super::*;
+
+    fn ended(words: &[&str]) -> Result<Verdict, Failure> {
+        let words: Vec<String> = words.iter().map(|word| word.to_string()).collect();
+        Arguments::sorted(&words, &COMMAND.form).and_then(|arguments| act(&arguments))
+    }
+
+    #[test]
+    fn images_and_checks_are_told_apart() {
+        let tape = concat!(env!("CARGO_MANIFEST_DIR"), "/../examples/mill.tape");
+        assert_eq!(ended(&["--check", tape]), Ok(Verdict::Done));
+        assert_eq!(ended(&[&format!("{tape}@0800"), "-o", "/dev/null"]), Ok(Verdict::Done));
+        assert!(matches!(ended(&["--check", tape, tape]), Err(Failure::Usage(_))));
+        assert!(matches!(ended(&["--check", tape, "-o", "/dev/null"]), Err(Failure::Usage(_))));
+        assert!(matches!(ended(&[tape]), Err(Failure::Usage(_))));
+        assert!(matches!(ended(&["--check", "/dev/null"]), Err(Failure::Tape(_))));
+    }
+}

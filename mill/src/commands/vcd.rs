@@ -45,3 +45,16 @@ fn pins(text: &str) -> Result<Vec<Pin>, String> {
     }
     Ok(pins)
 }
+
+#[cfg(test)]
+mod tests {
+    use super::*;
+
+    #[test]
+    fn pins_are_named_once() {
+        assert_eq!(pins("PA5, PC0,RES"), Ok(vec![Pin::PA5, Pin::PC0, Pin::RES]));
+        for text in ["", "PA5,", "PA5,PA5", "PE0", "PA5;PC0"] {
+            assert!(pins(text).is_err(), "{text}");
+        }
+    }
+}
