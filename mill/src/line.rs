@@ -45,11 +45,8 @@ impl Line {
     }
 
     /// The clock behind the last of so many frames.
-    pub fn end(&self, frames: u64) -> u64 {
-        match frames.checked_sub(1) {
-            Some(last) => self.at(last, self.bits()),
-            None => self.start,
-        }
+    pub fn end(&self, frames: u64) -> Option<u64> {
+        frames.checked_sub(1).map(|last| self.at(last, self.bits()))
     }
 
     /// A bit's clocks, with two decimals.
@@ -97,7 +94,7 @@ mod tests {
         assert_eq!(line.bit_clocks(), "104.17");
         assert_eq!(clocks(&line, &[0x55]), [2000, 2104, 2208, 2313, 2417, 2521, 2625, 2729, 2833, 2938]);
         // A thousand frames of 11 bits are 1,145,833.3 clocks, however they are rounded.
-        assert_eq!(line.end(1_000), 2_000 + 1_145_833);
+        assert_eq!(line.end(1_000), Some(2_000 + 1_145_833));
         assert_eq!(line.inputs(&[0; 1_000]).last().unwrap().clock, 2_000 + 1_145_625);
     }
 
@@ -127,7 +124,7 @@ mod tests {
     fn frames_may_stand_apart() {
         let apart = Line { every: Some(1_000), ..line(62_500) };
         assert_eq!(clocks(&apart, &[0xFF, 0xFF]), [2_000, 2_016, 3_000, 3_016]);
-        assert_eq!((apart.end(2), apart.end(0)), (3_000 + 176, 2_000));
+        assert_eq!((apart.end(2), apart.end(0)), (Some(3_000 + 176), None));
     }
 
     #[test]

@@ -43,6 +43,10 @@ pub struct Plan {
     pub line: Option<Line>,
     pub tail: u64,
     pub length: Option<u64>,
+    /// The clock behind the path's last frame.
+    pub path_end: Option<u64>,
+    /// The last clock: as asked for, or the tail behind path and inputs.
+    pub end: u64,
     pub strict: bool,
     pub sizes: Sizes,
 }
@@ -60,12 +64,13 @@ impl Plan {
         let memory = loaded(&tape.name, &tape.bytes)?;
         let pins = arguments.value("--inputs").map(Source::read).transpose()?;
         let inputs = inputs(pins.as_ref(), line.is_some())?;
+        let path_end = path.as_ref().zip(line).and_then(|(path, line)| line.end(path.bytes.len() as u64));
+        let last_input = pins.as_ref().and_then(|_| inputs.last()).map(|input| input.clock);
+        let behind = path_end.max(last_input).map(|last| last + tail);
+        let missing = || Failure::Usage("--for is missing: neither a path nor an input gives an end".to_string());
+        let end = length.or(behind).ok_or_else(missing)?;
         let strict = arguments.flag("--strict");
-        let plan = Plan { tape, memory, path, pins, inputs, rate, line, tail, length, strict, sizes };
-        match plan.end() {
-            0 => Err(Failure::Usage("--for is missing: there is neither a path nor an input that gives an end".into())),
-            _ => Ok(plan),
-        }
+        Ok(Plan { tape, memory, path, pins, inputs, rate, line, tail, length, path_end, end, strict, sizes })
     }
 
     /// The path's bytes.
@@ -73,17 +78,9 @@ impl Plan {
         self.path.as_ref().map_or(&[], |path| &path.bytes)
     }
 
-    /// The clock behind the path's last frame.
-    pub fn path_end(&self) -> Option<u64> {
-        let frames = self.bytes().len() as u64;
-        self.line.filter(|_| frames > 0).map(|line| line.end(frames))
-    }
-
-    /// The run's last clock: as asked for, or the tail behind path and inputs. 0: nothing gives an end.
-    pub fn end(&self) -> u64 {
-        let given = self.pins.as_ref().and_then(|_| self.inputs.last()).map(|input| input.clock);
-        let last = self.path_end().into_iter().chain(given).max();
-        self.length.or(last.map(|last| last + self.tail)).unwrap_or(0)
+    /// The reset vector.
+    pub fn vector(&self) -> u16 {
+        u16::from_le_bytes([self.memory[0xFFFC], self.memory[0xFFFD]])
     }
 
     /// The options, with what is used where none is given; times are clocks.
@@ -208,10 +205,11 @@ mod tests {
     #[test]
     fn a_run_ends_behind_its_path_or_as_asked_for() {
         let three = plan("TAPE PATH --clock 1MHz --baud 4800").unwrap();
-        assert_eq!((three.path_end(), three.end()), (Some(2_000 + 6_875), 8_875 + 200_000));
-        assert_eq!(plan("TAPE PATH --clock 1MHz --baud 4800 --tail 5").unwrap().end(), 8_880);
-        assert_eq!(plan("TAPE PATH --clock 2MHz --baud 4800 --for 1ms").unwrap().end(), 2_000);
-        assert_eq!(plan("TAPE --clock 1MHz --for 2h").unwrap().end(), 7_200_000_000);
+        assert_eq!((three.path_end, three.end), (Some(2_000 + 6_875), 8_875 + 200_000));
+        assert_eq!(plan("TAPE PATH --clock 1MHz --baud 4800 --tail 5").unwrap().end, 8_880);
+        assert_eq!(plan("TAPE PATH --clock 2MHz --baud 4800 --for 1ms").unwrap().end, 2_000);
+        assert_eq!(plan("TAPE --clock 1MHz --for 2h").unwrap().end, 7_200_000_000);
+        assert_eq!(plan("TAPE --clock 1MHz --for 0").unwrap().end, 0);
         assert!(matches!(plan("TAPE --clock 1MHz"), Err(Failure::Usage(_))));
     }
 

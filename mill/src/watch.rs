@@ -231,7 +231,8 @@ mod tests {
         let inputs = Merged::of(line.inputs(path), start.into_iter());
         let mut session = Session::fresh(memory, inputs, Sizes::default());
         let mut watch = Watch::over(Some(line));
-        let end = line.end(path.len() as u64) + 5_000;
+        let path_end = line.end(path.len() as u64).unwrap();
+        let end = path_end + 5_000;
         session.advance(line.start, &mut Nobody).unwrap();
         watch.path_begins(session.state(), line.start);
         while session.now() < end {
@@ -243,7 +244,7 @@ mod tests {
                 watch.frame_ends(session.state(), look.clock);
             }
         }
-        watch.run_ends(session.now(), line.end(path.len() as u64), path.len() as u64);
+        watch.run_ends(session.now(), path_end, path.len() as u64);
         (watch.warnings, watch.frames, watch.faults)
     }
 

@@ -73,6 +73,9 @@ enum End {
 fn act(arguments: &Arguments) -> Result<Verdict, Failure> {
     let folder = arguments.required("-o", |text| Ok(text.to_string()))?;
     let plan = Plan::read(arguments)?;
+    if plan.vector() == 0 {
+        note(&format!("mill: note: {} brings no reset vector, FFFCh and FFFDh are zero", plan.tape.name));
+    }
     let line = plan.line.iter().flat_map(|line| line.inputs(plan.bytes()));
     let inputs = Merged::of(plan.inputs.iter().copied(), line);
     let mut run = Run {
@@ -101,8 +104,8 @@ struct Run<'a, I: Iterator<Item = Input>> {
 impl<I: Iterator<Item = Input>> Run<'_, I> {
     /// Runs to the end, and shows how far it is.
     fn driven(&mut self) -> Result<End, Failure> {
-        let end = self.plan.end();
-        let mut begin = self.plan.path_end().and(self.plan.line).map_or(u64::MAX, |line| line.start);
+        let end = self.plan.end;
+        let mut begin = self.plan.path_end.and(self.plan.line).map_or(u64::MAX, |line| line.start);
         let mut progress = Progress::to(end, self.plan.rate);
         let mut number = Number::Done;
         while self.session.now() < end && number == Number::Done && !interrupt::asked() {
@@ -110,7 +113,7 @@ impl<I: Iterator<Item = Input>> Run<'_, I> {
             number = self.stretch(end, &mut begin)?;
         }
         progress.end();
-        if let Some(path_end) = self.plan.path_end() {
+        if let Some(path_end) = self.plan.path_end {
             self.watch.run_ends(self.session.now(), path_end, self.plan.bytes().len() as u64);
         }
         let cut = self.session.now() < end && number == Number::Done;
@@ -156,7 +159,7 @@ impl<I: Iterator<Item = Input>> Run<'_, I> {
             ("path", self.plan.path.as_ref().map(|path| path.json()).into()),
             ("inputs", self.plan.pins.as_ref().map(|pins| pins.json()).into()),
             ("options", self.plan.options()),
-            ("path_end", self.plan.path_end().into()),
+            ("path_end", self.plan.path_end.into()),
         ];
         fields.extend(self.reached(end));
         Json::Object(fields.into_iter().map(|(name, value)| (name.to_string(), value)).collect())
@@ -198,6 +201,7 @@ impl<I: Iterator<Item = Input>> Run<'_, I> {
             }
             End::Number(Number::Done) => Ok(Verdict::Done),
             End::Number(Number::WrongPinList) => Err(Failure::Inputs(self.words(end))),
+            // 6: state, memory and lists are right, and 7 is taken care of.
             End::Number(_) => Err(Failure::Opcode(self.words(end))),
             End::Interrupted => Err(Failure::Interrupted(self.words(end))),
         }
