@@ -1,14 +1,26 @@
 -- Which clock ends a span: one that writes a register or the halt address.
-use mathlib.Core.Path.{_≡_, refl, sym, _∙_}
-use mathlib.Core.Bool.{Bool, true, false, _||_, false≢true}
+use mathlib.Core.Path.{_≡_, refl, sym, ap, _∙_}
+use mathlib.Core.Bool.{Bool, true, false, _&&_, _||_, not, false≢true}
+use Prim.Native.Nat.{ℕ, _-_}
+use lib.Dec.{ltb, leb}
+use Rattle.bits.proofs.Cond.{and-both}
+use Rattle.cpu_access.specs.declared.stack.Write.{Write}
+use Rattle.cpu_access.specs.Stack.{oneWrite}
+use Rattle.cpu.specs.declared.quiet.Work.{Work}
 use Rattle.cpu_access.specs.declared.stack.Writes.{Writes}
 use Rattle.cpu_access.specs.declared.halt.Halt.{Halt}
 use Rattle.cpu_access.specs.Halt.{halts}
-use Rattle.r6501q_spans.specs.Spans.{writesRegister, endsSpan}
+use Rattle.r6501q_spans.specs.Spans.{writesRegister, endsSpan, putsWithin}
 
 pub either-false : (p q : Bool) → (p || q) ≡ false → (p ≡ false) × (q ≡ false)
 either-false true q e = absurd (false≢true (sym e))
 either-false false q e = (refl, e)
+
+and-first : (a b : Bool) → a ≡ false → (a && b) ≡ false
+and-first a b e = rw e refl
+
+and-second : (a b : Bool) → a ≡ true → b ≡ false → (a && b) ≡ false
+and-second a b e f = rw (e, f) refl
 
 pub ends-not : (halt : Halt) (w : Writes) → writesRegister w ≡ false → halts halt w ≡ false → endsSpan halt w ≡ false
 unfolding endsSpan
@@ -17,3 +29,20 @@ ends-not halt w e h = rw (e, h)
 pub ends-neither : (halt : Halt) (w : Writes) → endsSpan halt w ≡ false → (writesRegister w ≡ false) × (halts halt w ≡ false)
 unfolding endsSpan
 ends-neither halt w e = either-false (writesRegister w) (halts halt w) e
+
+-- a byte is put within the span, or it is not
+module _ (halt : Halt) (span : ℕ) (w : Work) (x : Write) where
+  abbrev clockWithin : Bool
+  clockWithin = ltb 0 (w .wait) && leb (w .wait) (span - w .gone .0)
+
+  pub puts-within : clockWithin ≡ true → endsSpan halt (oneWrite x) ≡ false → putsWithin halt span w x ≡ true
+  unfolding putsWithin
+  puts-within within none = and-both clockWithin (not (endsSpan halt (oneWrite x))) within (ap not none)
+
+  pub puts-not : clockWithin ≡ true → endsSpan halt (oneWrite x) ≡ true → putsWithin halt span w x ≡ false
+  unfolding putsWithin
+  puts-not within ends = and-second clockWithin (not (endsSpan halt (oneWrite x))) within (ap not ends)
+
+  pub puts-later : clockWithin ≡ false → putsWithin halt span w x ≡ false
+  unfolding putsWithin
+  puts-later later = and-first clockWithin (not (endsSpan halt (oneWrite x))) later

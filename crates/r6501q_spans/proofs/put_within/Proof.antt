@@ -3,7 +3,8 @@ use lib.Dec.{ltb}
 use native.Mathlib.Omega.{arith}
 use borrow.Author.Tests.{ltb-true, leb-true, not-true, not-false}
 use Rattle.bits.proofs.Cond.{and-left, and-right}
-use Rattle.r6501q_spans.specs.Spans.{putsWithin, workPut, memoryPut}
+use Rattle.r6501q_spans.specs.Spans.{workPut, memoryPut}
+use Rattle.r6501q_spans.proofs.Ends.{puts-within, puts-not, puts-later}
 use borrow.Author.Needs.{needs}
 use Rattle.r6501q_spans.proofs.put_within.Statement.{statement}
 use Rattle.r6501q_spans.proofs.put_within.Tie as tie
@@ -49,26 +50,30 @@ put-work-requires c κs =
 same-length : tie.Need-same-length
 same-length c = search needs
 
--- src/lib.rt:189:13
 returns : tie.Need-returns
-unfolding putsWithin workPut memoryPut
-returns c = 
+unfolding workPut memoryPut
+returns c =
+    let at = c .before .before .before .before .before .before .before .before .before .before .before .before .before .before .args in
     let one = c .before .before .before .before .before .before .before .before .before .before .before .before .one-write .ensures in
-    let e = sym (c .before .before .before .before .before .before .ends-span .ensures) ∙ not-true _ (c .before .before .before .before .before .if2 .taken) in
-    (rw (c .before .before .before .before .before .before .before .if1 .taken, ← one, e) (c .put-work .ensures), rw (c .before .before .before .before .before .before .before .if1 .taken, ← one, e) (c .before .before .before .commit .ensures))
+    let none = rw one at (sym (c .before .before .before .before .before .before .ends-span .ensures) ∙ not-true _ (c .before .before .before .before .before .if2 .taken)) in
+    let e = puts-within (at .halt) (at .span .0) (at .w) (at .x) (c .before .before .before .before .before .before .before .if1 .taken) none in
+    (rw e (c .put-work .ensures), rw e (rw one at (c .before .before .before .commit .ensures)))
 
--- src/lib.rt:179:1
 returns-2 : tie.Need-returns-2
-unfolding putsWithin workPut memoryPut
-returns-2 c = 
+unfolding workPut memoryPut
+returns-2 c =
+    let at = c .before .before .before .before .before .before .before .before .before .args in
     let one = c .before .before .before .before .before .before .before .one-write .ensures in
-    let e = sym (c .before .ends-span .ensures) ∙ not-false _ (c .if2 .left) in
-    (rw (c .before .before .if1 .taken, ← one, e) refl, rw (c .before .before .if1 .taken, ← one, e) refl)
+    let ends = rw one at (sym (c .before .ends-span .ensures) ∙ not-false _ (c .if2 .left)) in
+    let e = puts-not (at .halt) (at .span .0) (at .w) (at .x) (c .before .before .if1 .taken) ends in
+    (rw e refl, rw e refl)
 
--- src/lib.rt:179:1
 returns-3 : tie.Need-returns-3
-unfolding putsWithin workPut memoryPut
-returns-3 c = (rw (c .if1 .left) refl, rw (c .if1 .left) refl)
+unfolding workPut memoryPut
+returns-3 c =
+    let at = c .before .before .before .before .before .before .before .args in
+    let e = puts-later (at .halt) (at .span .0) (at .w) (at .x) (c .if1 .left) in
+    (rw e refl, rw e refl)
 
 pub put-within-spec : {M : Type 1} → statement M
 put-within-spec =

@@ -1,4 +1,5 @@
 use Rattle.r6501q_state.specs.Pins.{resetOf}
+use mathlib.Core.Path.{refl}
 use borrow.Author.Needs.{needs}
 use Rattle.r6501q_state.proofs.state.State.reset_low.Statement.{statement}
 use Rattle.r6501q_state.proofs.state.State.reset_low.Tie as tie
@@ -18,7 +19,7 @@ waiting-at-requires c κs = search needs
 -- src/pins.rt:133:5
 returns : tie.Need-returns
 unfolding resetOf
-returns c = rw (← (c .before .before .before .reset .ensures), ← (c .before .before .waiting-at .ensures))
+returns c = rw (c .before .before .before .reset .ensures, c .before .before .waiting-at .ensures) refl
 
 pub reset-low-spec : {M : Type 1} → statement M
 reset-low-spec = tie.close (tie.spec reset-requires waiting-at-requires returns)
