@@ -27,7 +27,7 @@ none-waiting-requires c κs = search needs
 -- src/lib.rt:127:9
 returns : tie.Need-returns
 unfolding continuedBy committedBy
-returns c = 
+returns c =
     let w = c .before .before .before .pushes-of .ensures in
     let e = sym (c .before .before .ends-span .ensures) ∙ c .before .if1 .taken in
     (rw (← w, e) (c .none-waiting .ensures), rw (← w, e) refl)
@@ -51,7 +51,7 @@ same-length c = search needs
 -- src/lib.rt:119:1
 returns-2 : tie.Need-returns-2
 unfolding continuedBy committedBy
-returns-2 c = 
+returns-2 c =
     let w = c .before .before .before .before .before .before .before .before .pushes-of .ensures in
     let e = sym (c .before .before .before .before .before .before .before .ends-span .ensures) ∙ c .before .before .before .before .before .before .if1 .left in
     (rw (← w, e, c .before .next-work .ensures, c .waiting-of .ensures) refl, rw (← w, e) (c .before .before .before .before .commit .ensures))

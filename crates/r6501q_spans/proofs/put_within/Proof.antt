@@ -37,7 +37,7 @@ commit-requires c κs = search needs
 
 -- src/lib.rt:189:13
 put-work-requires : tie.Need-put-work-requires
-put-work-requires c κs = 
+put-work-requires c κs =
     let root = c .before .before .before .before .before .before .before .before .before .before .before .before .before in
     let room = root .pre in
     let w = root .args .w in

@@ -27,7 +27,7 @@ run-instructions-requires c κs = search needs
 
 -- src/lib.rt:152:8
 sub-if1 : tie.Need-sub-if1
-sub-if1 c = 
+sub-if1 c =
     let root = c .before .before .before .before .before .before .before .before in
     quietly-room (root .args .span .0) [] (now (root .args .memory)) (root .args .w) (root .pre .0) (c .before .before .before .run-instructions .ensures .0) .gone
 
@@ -46,7 +46,7 @@ same-length c = search needs
 -- src/lib.rt:153:9
 returns : tie.Need-returns
 unfolding workAfter memoryAfter
-returns c = 
+returns c =
     let root = c .before .before .before .before .before .before .before .before .before .before .before in
     let done = c .before .before .before .before .before .before .run-instructions in
     let e : leb (root .args .span .0 - done .result .at .gone .0) (done .result .at .wait) ≡ true = le-leb _ _ (c .before .if1 .taken) in
@@ -74,7 +74,7 @@ enum-known-outcome c = search needs
 
 -- src/lib.rt:159:34
 continue-work-requires : tie.Need-continue-work-requires
-continue-work-requires c κs = 
+continue-work-requires c κs =
     let root = c .before .before .before .before .before .before .before .before .before .before .before .before .before .before in
     let room = quietly-room (root .args .span .0) [] (now (root .args .memory)) (root .args .w) (root .pre .0) (c .before .before .before .before .before .before .before .before .before .run-instructions .ensures .0) in
     let inside = c .before .before .before .before .if1 .left in
@@ -87,7 +87,7 @@ same-length-2 c = search needs
 -- src/lib.rt:138:1
 returns-2 : tie.Need-returns-2
 unfolding workAfter memoryAfter
-returns-2 c = 
+returns-2 c =
     let done = c .before .before .before .before .before .before .before .before .run-instructions in
     let e = lt-leb _ _ (c .before .before .before .if1 .left) in
     let o = sym (done .ensures .1) ∙ c .before .enum-told .given .1 in
@@ -100,7 +100,7 @@ same-length-3 c = search needs
 -- src/lib.rt:138:1
 returns-3 : tie.Need-returns-3
 unfolding workAfter memoryAfter
-returns-3 c = 
+returns-3 c =
     let done = c .before .before .before .before .before .before .before .before .run-instructions in
     let e = lt-leb _ _ (c .before .before .before .if1 .left) in
     let o = sym (done .ensures .1) ∙ c .before .enum-told2 .given .1 in
@@ -113,7 +113,7 @@ same-length-4 c = search needs
 -- src/lib.rt:138:1
 returns-4 : tie.Need-returns-4
 unfolding workAfter memoryAfter
-returns-4 c = 
+returns-4 c =
     let done = c .before .before .before .before .before .before .before .before .before .before .before .before .run-instructions in
     let e = lt-leb _ _ (c .before .before .before .before .before .before .before .if1 .left) in
     let o = sym (done .ensures .1) ∙ c .before .before .before .before .before .outcome .given .1 in

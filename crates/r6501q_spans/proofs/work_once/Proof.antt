@@ -1,4 +1,3 @@
-
 use borrow.Author.Needs.{needs}
 use Rattle.r6501q_spans.proofs.work_once.Statement.{statement}
 use Rattle.r6501q_spans.proofs.work_once.Tie as tie
