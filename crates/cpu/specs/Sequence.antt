@@ -51,7 +51,7 @@ storeAt n p r v = ends (record { registers = r; waiting = Byte (writeAt (p .addr
 abbrev pub storeBack : ℕ → Located → CpuRegisters → Computed → Accesses Conclusion
 storeBack n p r k = storeAt n p (withStatus (k .status) r) (k .value)
 
--- A, or a byte that is read once, from a port's latch (001, 4.1), and written once
+-- A, or a byte that is read once, from a port's latch (001, 4.1), and stored once
 unfoldable pub modifyAccesses : ModifyOperation → ℕ → Located → CpuRegisters → Accesses Conclusion
 modifyAccesses o n p r =
     cond (p .accumulator) (ends (conclusion (intoA (changedBy o (r .a) (r .status)) r) n)) (do

@@ -1,4 +1,5 @@
--- Document 02, U6, "Stores appear on the last clock": "The state then holds one byte waiting, with its address, or none."
+-- Document 02, U6, "Stores appear on the last clock": "The state then holds one byte waiting, with its address, or
+-- none."
 use mathlib.Core.Bool.{Bool, true, false}
 use Rattle.cpu_access.specs.declared.stack.Write.{Write}
 use Rattle.cpu_access.specs.declared.waiting.Waiting.{Waiting}

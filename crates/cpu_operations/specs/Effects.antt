@@ -68,7 +68,8 @@ modified o r k =
 -- one clock more where a branch is taken, two where its target lies in another page (001, A.3, **)
 unfoldable pub branched : Operand → CpuRegisters → Bool → Executed
 branched o r taken =
-    cond taken (quiet (withPc (o .address) r) (o .length + 1 + digit (o .crossed)) (o .bus)) (quiet r (o .length) (o .bus))
+    cond taken (quiet (withPc (o .address) r) (o .length + 1 + digit (o .crossed)) (o .bus))
+    (quiet r (o .length) (o .bus))
 
 -- BBR and BBS: the offset is fetched after the tested byte, whether or not the branch is taken
 abbrev pub branchOperand : Operand → Place → Operand

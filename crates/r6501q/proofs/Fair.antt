@@ -1,4 +1,4 @@
--- Demand 3 of the exported calls: where each flag is 0 or 1, a list of them is a list of the library's; else each is
+-- Demand 3 of the exported calls: where flags and none waiting fit, a list of them is a list of the library's; else each is
 -- refused and hands on.
 use mathlib.Core.Path.{_≡_, refl, sym, ap, _∙_}
 use mathlib.Core.Bool.{Bool, true, false, not, _||_, cond}
@@ -20,7 +20,7 @@ use Rattle.r6501q.specs.Calls.{HostWorld, HostHanded, worldFromHost, hos
 use Rattle.r6501q.specs.Lists.{HostListed, hostCalled, hostCalls, hostResults, hostPlain, refusedEach, HostFair}
 use Rattle.r6501q.proofs.Laws.{state-kept, state-fits, host-kept}
 
--- ---- each flag is 0 or 1
+-- ---- flags and none waiting fit
 
 -- an exported call is the library's
 called : (halt : ℕ) (c : Call) (w : HostWorld) → flagsFit (w .state) ≡ true

@@ -84,7 +84,7 @@ pub state-kept : (s : State) → stateFromHost (hostState s) ≡ s
 unfolding stateFromHost hostState
 state-kept s = simp (flag-kept, waiting-kept)
 
--- what the library hands over has flags alone
+-- what the library hands over fits
 pub state-fits : (s : State) → flagsFit (hostState s) ≡ true
 unfolding flagsFit hostState
 state-fits s = simp (flag-fits, waiting-fits)
@@ -119,7 +119,7 @@ host-kept h e =
 
 -- ---- refusals
 
--- a flag that is a byte above 1 is number 2, and everything is as it was
+-- a flag above 1, or a none that is not 0, 0, 0, is number 2, and everything is as it was
 pub flag-refused : (call : World → Handed) (n : ℕ) (w : HostWorld) → flagsFit (w .state) ≡ false → length (w .memory) ≡ memorySpan
     → hostCall call n w ≡ refusedHanded 2 w
 unfolding hostCall refusalOf
@@ -137,7 +137,7 @@ library-refused halt singleClock v e = rw e
 library-refused halt (runFor n) v e = rw e
 
 -- A refused exported call, single clock or run, hands back the very state that it got, the lists as they were, and the
--- number of the first row of the table that is so, a flag above 1 being a state that is not well-formed. No halt
+-- number of the first row of the table that is so, what does not fit being a state that is not well-formed. No halt
 -- address changes that.
 pub exported-refused : (halt : ℕ) (c : Call) (w : HostWorld) → eqb (hostRefusalOf (hostWellFormed (w .state)) (countOf c) w) 0 ≡ false
     → hostCalled halt c w ≡ refusedHanded (hostRefusalOf (hostWellFormed (w .state)) (countOf c) w) w

@@ -90,8 +90,8 @@ hostRefusalOf formed n w =
     refusalOf r6501qLimits formed (w .state .clock) (length (w .memory)) (w .inputClocks) (w .inputCodes)
     (length (w .outputClocks)) (length (w .outputWords)) n
 
--- an exported call for n clocks: where each flag is 0 or 1, the library's; else the state is not well-formed, and the
--- call is refused
+-- an exported call for n clocks: where flags and none waiting fit, the library's; else the state is not well-formed,
+-- and the call is refused
 unfoldable pub hostCall : (World → Handed) → ℕ → HostWorld → HostHanded
 hostCall call n w =
     cond (flagsFit (w .state)) (hostHandedOf (call (worldFromHost w))) (refusedHanded (hostRefusalOf false n w) w)

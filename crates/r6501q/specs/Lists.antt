@@ -36,7 +36,7 @@ hostResults (r ∷ rs) = hostResultOf r ∷ hostResults rs
 
 -- ---- by plain clocks alone
 
--- where each flag is 0 or 1: what n plain clocks of the library's world say
+-- where flags and none waiting fit: what n plain clocks of the library's world say
 abbrev pub hostPlain : ℕ → List Call → HostWorld → HostListed
 hostPlain halt cs w =
     let v = worldFromHost w in

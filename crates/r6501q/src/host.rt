@@ -113,7 +113,7 @@ pub struct HostLatchResult {
     pub value: u16,
 }
 
-// From the host: a byte of 1 is a yes. Bytes above 1 are refused before, by `flags_fit`.
+// From the host: a byte of 1 is a yes. What is neither 0 nor 1 is refused before, by `flags_fit`.
 fn waiting_from(h: HostWaiting) -> Waiting
     ensures { λ r. ⌜ r ≡ waitingFromHost h ⌝ }
 {

@@ -6,9 +6,10 @@ use mathlib.Core.List.{List, []}
 use Prim.Native.Nat.{ℕ, _-_, _≤_, _<_}
 use native.Mathlib.Omega.{arith}
 use lib.Dec.{ltb, eqb}
-use borrow.Author.Tests.{lt-ltb, eq-eqb}
+use borrow.Author.Tests.{lt-ltb, le-ltb, eq-eqb}
 use Rattle.bits.proofs.Cond.{cond-yes, cond-no}
 use Rattle.cpu_opcodes.specs.Decode.{decodeOf}
+use Rattle.cpu_opcodes.specs.declared.Decoded.{Decoded}
 use Rattle.cpu_opcodes.specs.declared.Decoded.the-variants as decoded
 use Rattle.cpu_opcodes.specs.declared.Entry.{Entry}
 use Rattle.cpu_alu.specs.Status.{unpacked}
@@ -18,11 +19,11 @@ use Rattle.cpu_access.specs.declared.waiting.Waiting.{Waiting}
 use Rattle.cpu_access.specs.declared.waiting.Waiting.the-variants.{Nothing, Byte}
 use Rattle.cpu_access.specs.Stack.{noWrites}
 use Rattle.cpu_access.specs.Waiting.{byteWaits}
-use Rattle.cpu_access.specs.Accesses.{ends, peripheralsRead, Performed, performed, inOrder}
+use Rattle.cpu_access.specs.Accesses.{ends, byteAfter, peripheralsRead, valueRead, Performed, performed, inOrder}
 use Rattle.cpu_access.specs.Bus.{nextAddress}
 use Rattle.cpu_operations.specs.Effects.{withPc}
 use Rattle.cpu_operations.proofs.Flags.{Kept}
-use Rattle.cpu.specs.Sequence.{Conclusion, Ending, leaves, operationAccesses, opcodeAccesses}
+use Rattle.cpu.specs.Sequence.{Conclusion, Ending, leaves, operationAccesses, opcodeAccesses, instructionAccesses}
 use Rattle.cpu.proofs.Laws.{storesOf, entry-fits}
 use Rattle.cpu.proofs.Conclusions.{Concludes, ends-then, performed-ends, operation-concludes}
 use Rattle.r6501q_state.specs.declared.state.Peripherals.{Peripherals}
@@ -30,7 +31,7 @@ use Rattle.r6501q_state.specs.declared.state.State.{State}
 use Rattle.r6501q_cpu.specs.declared.Next.{Next}
 use Rattle.r6501q_cpu.specs.declared.Processed.{Processed}
 use Rattle.r6501q_cpu.specs.declared.Processed.the-variants.{Done}
-use Rattle.r6501q_cpu.specs.Processor.{registersOf, registerFile, nextAfter, processedBy, wholeInstruction, opcodeAt, withoutWrites, waitLess, bytePut, waitedBy, processorOf}
+use Rattle.r6501q_cpu.specs.Processor.{registersOf, cpuOf, registerFile, performedIn, nextAfter, processedBy, wholeInstruction, opcodeAt, irqDue, startOf, withoutWrites, waitLess, bytePut, waitedBy, processorOf}
 use Rattle.r6501q_cpu.proofs.Undefined.{decodedBy, by-opcode}
 
 -- ---- the first clock
@@ -41,20 +42,30 @@ record Left (e : Entry) (s : Status) (pushes : List Write) (x : Ending) : Type 0
   is : x ≡ leaves conclusion
   so : Concludes (e .operation) (e .mode) (e .length) s pushes conclusion
 
--- The first clock of the instruction with the row e: its flags are kept by the lists of 001, 3.8; it leaves a byte
--- waiting just where it is a store, or a read-modify-write in memory, and then it writes nothing, and waits for two
--- clocks at least.
-pub record Begun (s : State) (e : Entry) (x : Processed) : Type 0 where
+-- The first clock of the instruction with the row e. The CPU is left with what the accesses, performed, end with: its
+-- flags are kept by the lists of 001, 3.8; a byte waits just where it is a store, or a read-modify-write in memory, and
+-- then nothing is written, and it waits for the rest of its row's clocks, two at least.
+pub record Begun (s : State) (memory : List ℕ) (e : Entry) (x : Processed) : Type 0 where
   pub next : Next
   pub done : x ≡ Done next
   pub conclusion : Conclusion
+  pub ended : performedIn s memory (instructionAccesses (registersOf (s .cpu))) .end ≡ leaves conclusion
+  pub cpu : next .state .cpu ≡ cpuOf (conclusion .registers) (conclusion .clocks - 1) (conclusion .waiting)
   pub flags : Kept (e .operation) (unpacked (s .cpu .p)) (conclusion .registers .status)
-  pub waiting : next .state .cpu .waiting ≡ conclusion .waiting
-  pub waits : byteWaits (next .state .cpu .waiting) ≡ storesOf e
+  pub waits : byteWaits (conclusion .waiting) ≡ storesOf e
   pub writes : storesOf e ≡ true → next .writes ≡ noWrites
-  pub wait : storesOf e ≡ true → 2 ≤ next .state .cpu .wait
+  pub wait : storesOf e ≡ true → next .state .cpu .wait ≡ e .length - 1
+  pub least : storesOf e ≡ true → 2 ≤ next .state .cpu .wait
 
-pub instruction-begun : (s : State) (memory : List ℕ) (e : Entry) → decodeOf (opcodeAt s memory) ≡ decoded.Defined e → Begun s e (wholeInstruction s memory)
+-- the accesses after the opcode's
+accesses-after : (s : State) (memory : List ℕ)
+    → performedIn s memory (instructionAccesses (registersOf (s .cpu)))
+    ≡ performed (registerFile (s .last .ports)) memory (peripheralsRead (registerFile (s .last .ports)) (s .peripherals) (s .cpu .pc)) []
+    (opcodeAccesses (withPc (nextAddress (s .cpu .pc)) (registersOf (s .cpu))) (decodeOf (opcodeAt s memory)))
+unfolding instructionAccesses performed valueRead byteAfter opcodeAt
+accesses-after s memory = refl
+
+pub instruction-begun : (s : State) (memory : List ℕ) (e : Entry) → decodeOf (opcodeAt s memory) ≡ decoded.Defined e → Begun s memory e (wholeInstruction s memory)
 unfolding inOrder
 instruction-begun s memory e d =
     let file = registerFile (s .last .ports) in
@@ -74,12 +85,28 @@ instruction-begun s memory e d =
       next = nextAfter s (s .due) (record { end = l; peripherals = x .peripherals; writes = x .writes });
       done = by-opcode s memory ∙ ap (decodedBy s memory) d ∙ ap (processedBy s (x .peripherals) (x .writes)) (left .is);
       conclusion = l;
+      ended =
+          ap (λ (y : Performed Peripherals Ending). y .end)
+          (accesses-after s memory ∙ ap (λ (y : Decoded). performed file memory p [] (opcodeAccesses r y)) d) ∙ left .is;
+      cpu = refl;
       flags = c .flags;
-      waiting = refl;
       waits = c .waits;
       writes = λ h. ap inOrder (c .alone h);
-      wait = λ h. let n = c .clocks h in let least = fits .store h in omega (arith, n, least);
+      wait = λ h. ap (λ (n : ℕ). n - 1) (c .clocks h);
+      least = λ h. let n = c .clocks h in let least = fits .store h in omega (arith, n, least);
     }
+
+-- the CPU starts, with nothing due: it is an instruction
+pub instruction-starts : (t : State) (memory : List ℕ) → t .last .res ≡ true → t .cpu .wait ≡ 0 → t .due .reset ≡ false → t .due .nmi ≡ false
+    → irqDue t ≡ false → processorOf t memory ≡ wholeInstruction t memory
+unfolding processorOf startOf
+instruction-starts t memory high over reset nmi irq =
+    pick (t .last .res) (ltb 0 (t .cpu .wait)) (t .due .reset) (t .due .nmi) (irqDue t) _ _ _ _ _ _ high
+    (le-ltb 0 (t .cpu .wait) (omega arith)) reset nmi irq
+  where
+    pick : (h z r m q : Bool) (a b c d e f : Processed) → h ≡ true → z ≡ false → r ≡ false → m ≡ false → q ≡ false
+        → cond h (cond z a (cond r b (cond m c (cond q d e)))) f ≡ e
+    pick h z r m q a b c d e f eh ez er em eq = rw (eh, ez, er, em, eq)
 
 -- ---- the clocks after it
 

@@ -75,7 +75,8 @@ turned goOn (Answered r) = goOn r
 unfoldable pub instructionFrom : Processed → ℕ → State → Peripherals → List ℕ → List ℕ → Processed
 instructionFrom spent zero s p answers memory = spent
 instructionFrom spent (suc n) s p answers memory =
-    turned (λ (r : Reading). instructionFrom spent n s (r .peripherals) (answers ++ (r .value ∷ [])) memory) (turnOf s p answers memory)
+    turned (λ (r : Reading). instructionFrom spent n s (r .peripherals) (answers ++ (r .value ∷ [])) memory)
+    (turnOf s p answers memory)
 
 -- one whole instruction
 unfoldable pub answeredInstruction : State → List ℕ → Processed

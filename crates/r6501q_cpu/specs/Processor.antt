@@ -33,7 +33,16 @@ registersOf c = record { a = c .a; x = c .x; y = c .y; sp = c .sp; pc = c .pc; s
 -- and back, with the clocks still to wait, and the byte that waits
 abbrev pub cpuOf : CpuRegisters → ℕ → Waiting → Cpu
 cpuOf r wait waiting =
-    record { a = r .a; x = r .x; y = r .y; sp = r .sp; p = packed (r .status); pc = r .pc; wait = wait; waiting = waiting }
+    record {
+      a = r .a;
+      x = r .x;
+      y = r .y;
+      sp = r .sp;
+      p = packed (r .status);
+      pc = r .pc;
+      wait = wait;
+      waiting = waiting;
+    }
 
 -- the register file, with step 1's levels
 abbrev pub registerFile : ℕ → RegisterFile Peripherals
@@ -45,8 +54,8 @@ registerFile levels = record {
 
 -- ---- the first clock
 
--- "All its reads and writes happen now, each once": the reads, and the pushes (02, U6: "Stack pushes remain on the first
--- clock.")
+-- "All its reads and writes happen now, each once": the reads, and the pushes (02, U6: "Stack pushes remain on the
+-- first clock.")
 abbrev pub performedIn : {A : Type 0} → State → List ℕ → Accesses A → Performed Peripherals A
 performedIn s memory t = performed (registerFile (s .last .ports)) memory (s .peripherals) [] t
 
@@ -80,7 +89,8 @@ wholeInstruction s memory = processedAfter s (performedIn s memory (instructionA
 -- undefined just where this opcode is (`undefined-opcode`, `defined-opcode`).
 unfoldable pub opcodeAt : State → List ℕ → ℕ
 opcodeAt s memory =
-    cond (isRegister (s .cpu .pc)) (registerValue (s .peripherals) (s .last .ports) false (s .cpu .pc)) (memoryByte memory (s .cpu .pc))
+    cond (isRegister (s .cpu .pc)) (registerValue (s .peripherals) (s .last .ports) false (s .cpu .pc))
+    (memoryByte memory (s .cpu .pc))
 
 -- "IRQ (I clear, IFR AND IER nonzero)"
 unfoldable pub irqDue : State → Bool

@@ -119,7 +119,7 @@ pub both-no : (r t : Bool) → (not r && not t) ≡ false → r ≡ false → t 
 both-no true t e z = absurd (false≢true (sym z))
 both-no false t e z = not-false t e
 
--- ---- what is known of a state whose next clock, without an input, is no event clock, or one by the CPU's start alone
+-- ---- what is known of a state whose next clock, without an input, is no event clock, or one by the CPU alone
 
 pub record Still (s : State) : Type 0 where
   pub levels : levelsOf s ≡ s .last

@@ -57,8 +57,8 @@ transmitterIdle t = eqb (t .left) 0 && eqb (t .phase) 0 && eqb (t .register) 0
 unfoldable pub receiverIdle : Receiver → Bool
 receiverIdle r = eqb (r .subinterval) 0 && not (r .half) && eqb (r .left) 0 && eqb (r .register) 0
 
--- RES low changes no field: those, and "drops NMI due, sets wait to 0 and makes reset due", and 02, U6: "drops a waiting
--- byte" (`reset-same`, `same-reset`)
+-- RES low changes no field: those, and "drops NMI due, sets wait to 0 and makes reset due", and 02, U6: "drops a
+-- waiting byte" (`reset-same`, `same-reset`)
 unfoldable pub isReset : State → Bool
 isReset s =
     eqb (s .cpu .wait) 0 && not (byteWaits (s .cpu .waiting)) && s .due .reset && not (s .due .nmi)

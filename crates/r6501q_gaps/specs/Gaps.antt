@@ -69,7 +69,8 @@ waitAfter wait high gap = cond high (wait - gap .0) wait
 -- "each counter that counts in all of it minus gap"
 abbrev pub passCounters : Peripherals → ℕ → Clocks → Peripherals
 passCounters p ports gap =
-    withCounterB (withCounterA p (passA (p .countera) (runningA (p .control) ports) gap)) (passB (p .counterb) (runningB (p .control)) gap)
+    withCounterB (withCounterA p (passA (p .countera) (runningA (p .control) ports) gap))
+    (passB (p .counterb) (runningB (p .control)) gap)
 
 -- "the gap passed: clock plus gap, each counter that counts in all of it minus gap, wait too if RES is high, nothing
 -- else"

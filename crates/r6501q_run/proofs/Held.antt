@@ -24,6 +24,8 @@ use Rattle.leaps.proofs.Parts.{wholeOf, plains-whole, trace-whole}
 use Rattle.leaps.proofs.Calls as theory
 use Rattle.r6501q_state.specs.State.{fresh, wellFormed}
 use Rattle.r6501q_state.specs.Inputs.{lastPin}
+use Rattle.r6501q_state.proofs.Ranges.{fresh-formed}
+use Rattle.cpu_access.specs.Waiting.{byteWaits}
 use Rattle.r6501q_step.specs.R6501q.{World, Handed, r6501qLimits, r6501q, plain, chip, machine}
 use Rattle.r6501q_step.proofs.Held.{heldState, heldLeaps, held-clocks, held-leaps}
 use Rattle.r6501q_step.proofs.ReleaseLists.{belowRes}
@@ -44,8 +46,8 @@ accepted-run halt n w none e = theory.runs-plainly (r6501q halt) (laws halt) n w
 
 fresh-fits : (halt : Halt) (memory times words : List ℕ) → length memory ≡ memorySpan → length times ≡ length words
     → Fit (r6501q halt) (callStart fresh memory [] [] times words)
-unfolding fresh wellFormed pinsRight
-fresh-fits halt memory times words whole equal = record { memory = whole; state = refl; pins = refl; outputs = equal; written = omega arith }
+unfolding fresh pinsRight
+fresh-fits halt memory times words whole equal = record { memory = whole; state = fresh-formed; pins = refl; outputs = equal; written = omega arith }
 
 fresh-clock : fresh .clock ≡ 0
 unfolding fresh
@@ -168,7 +170,7 @@ module _ (halt : Halt) where
     givenOld = oldStart memory clocks codes times words
 
     refused-alike : (n : ℕ) → refusalIn (r6501q halt) n givenStart ≡ refusalIn (r6501q halt) n givenOld
-    unfolding fresh wellFormed
+    unfolding fresh wellFormed byteWaits
     refused-alike n = refl
 
     pub given-run : (n : ℕ) → refusalIn (r6501q halt) (suc n) givenOld ≡ 0

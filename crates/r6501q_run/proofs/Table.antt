@@ -89,10 +89,12 @@ pub record Examples : Type 0 where
   pub halt-waiting : tabulate (λ k. plains (chip (At 0)) k (clocks.tapeStart 1) .state .cpu .waiting) 4 9
       ≡ Nothing ∷ Byte (writeAt 0x0000 0x55) ∷ Byte (writeAt 0x0000 0x55) ∷ Nothing ∷ []
   pub full-waiting : plains (chip (At 0)) 100 (clocks.tapeStart 0) .state .cpu .waiting ≡ Byte (writeAt 0x0000 0x55)
+  -- and 12 stands where the next clock would be 6: STA 00h before an undefined opcode
+  pub halt-before-six : clocks.reached (plains (chip (At 0)) 10 clocks.undefinedNext) ≡ 12 ∷ 3 ∷ 0 ∷ 1 ∷ []
   -- 02, U4, JSR with SP 00h: it tells 0000h, then 00FFh
   pub call-told : told (toldBy (clockIn clocks.callingStart)) ≡ writeAt 0x0000 0x00 ∷ writeAt 0x00FF 0x42 ∷ []
   -- 01, One clock, 4, "All its reads and writes happen now": JSR over its own operand, a port's latch and its levels,
-  -- an entry's pushes, RTI's pulls (r6501q_step/proofs/AccessOrder.antt has the rows)
+  -- an entry's pushes, RTI's pulls; 02, U6, SMB0 00h over an underflow (r6501q_step/proofs/AccessOrder.antt has the rows)
   pub access-order : AccessOrder
   -- 02, U5, JMP (02FFh): the low byte of the target is at 02FFh, the high byte at 0200h, and five clocks
   pub indirect-jump : (first last next : ℕ)
@@ -140,6 +142,7 @@ examples = record {
   tape-word = clocks.tape-word;
   halt-waiting = clocks.halt-waiting;
   full-waiting = clocks.full-waiting;
+  halt-before-six = clocks.halt-before-six;
   call-told = clocks.call-told;
   access-order = access-order;
   indirect-jump = indirect-jump;

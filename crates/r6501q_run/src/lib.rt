@@ -174,8 +174,8 @@ fn span_from(at: Leaped, inputclocks: &[u32]) -> Clocks
 
 // A run after the leaps of a span.
 fn spanned_to(at: Leaped, v: Working) -> Leaped
-    requires { ⌜ (at .progress .state .clock + v .work .gone .0 ≤ 4294967295) × (at .leaps + v .work .leaps ≤ 4294967295)
-        × (v .work .gone .0 ≤ at .left .0) ⌝ }
+    requires { ⌜ (at .progress .state .clock + v .work .gone .0 ≤ 4294967295)
+        × (at .leaps + v .work .leaps ≤ 4294967295) × (v .work .gone .0 ≤ at .left .0) ⌝ }
     ensures { λ r. ⌜ r ≡ spannedTo at v ⌝ }
 {
     let state = r6501q_spans::working_state(at.progress.state, v);

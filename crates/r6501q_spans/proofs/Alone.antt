@@ -42,7 +42,7 @@ use Rattle.r6501q_cpu.specs.Asking.{putRegister, registersAfter, nextOf, turnBy
 use Rattle.r6501q_cpu.proofs.Asks.{turn-over}
 use Rattle.r6501q_cpu.proofs.Answered.{instruction-answered}
 use Rattle.r6501q_cpu.proofs.Ranges.{never-both}
-use Rattle.r6501q_cpu.proofs.Stores.{byte-put}
+use Rattle.r6501q_cpu.proofs.Stores.{instruction-starts, byte-put}
 use Rattle.pin_lists.specs.PinLists.{dueCount}
 use Rattle.r6501q_gaps.specs.Events.{sameLevels, levelsChange, isReset, resetChanges}
 use Rattle.r6501q_gaps.specs.Gaps.{clocksOf, runningA, runningB, toInput, toChange, toUnderflowA, toUnderflowB, toReset, untilCpu, toCpu, gapOf, waitAfter, passCounters, passOf}
@@ -146,18 +146,6 @@ not-register x e = by-test (isRegister (x .address)) e
     by-test : (t : Bool) → ((t || false) || false) ≡ false → t ≡ false
     by-test true z = z
     by-test false z = z
-
--- the CPU starts, with nothing due: it is an instruction
-instruction-starts : (t : State) (memory : List ℕ) → t .last .res ≡ true → t .cpu .wait ≡ 0 → t .due .reset ≡ false → t .due .nmi ≡ false
-    → irqDue t ≡ false → processorOf t memory ≡ wholeInstruction t memory
-unfolding processorOf startOf
-instruction-starts t memory high over reset nmi irq =
-    pick (t .last .res) (ltb 0 (t .cpu .wait)) (t .due .reset) (t .due .nmi) (irqDue t) _ _ _ _ _ _ high
-    (le-ltb 0 (t .cpu .wait) (omega arith)) reset nmi irq
-  where
-    pick : (h z r m q : Bool) (a b c d e f : Processed) → h ≡ true → z ≡ false → r ≡ false → m ≡ false → q ≡ false
-        → cond h (cond z a (cond r b (cond m c (cond q d e)))) f ≡ e
-    pick h z r m q a b c d e f eh ez er em eq = rw (eh, ez, er, em, eq)
 
 -- ---- a state in a span
 

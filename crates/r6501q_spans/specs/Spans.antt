@@ -37,7 +37,7 @@ onlyCpu s =
     && not (pending (s .peripherals .control))
     && eqb (packed (unpacked (s .cpu .p))) (s .cpu .p)
 
--- the clocks before the next event clock that is one by anything but the CPU's start: the least over the other kinds
+-- the clocks before the next event clock that is one by anything but the CPU: the least over the other kinds
 -- of event, n clocks being left. With RES high, RES low changes nothing.
 unfoldable pub nearestEvent : ℕ → State → List ℕ → ℕ
 nearestEvent n s clocks =

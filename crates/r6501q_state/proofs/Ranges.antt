@@ -18,7 +18,7 @@ use Rattle.r6501q_state.specs.declared.state.Peripherals.{Peripherals}
 use Rattle.r6501q_state.specs.declared.state.Levels.{Levels}
 use Rattle.r6501q_state.specs.declared.state.State.{State}
 use Rattle.r6501q_state.specs.State.{freshCpu, fresh, cpuFits, peripheralsFit, wellFormed}
-use Rattle.r6501q_state.specs.Copies.{waitingAt, flagged}
+use Rattle.r6501q_state.specs.Copies.{waitingAt, withCpu, flagged}
 use Rattle.r6501q_state.specs.Pins.{rose, fell, edges, withEdges, resetOf, sensedAt, sensed, levelsOf}
 use Rattle.r6501q_state.specs.Inputs.{withInput}
 
@@ -135,13 +135,13 @@ unfolding sensed sensedAt resetOf
 byte-dropped s low = rw low refl
 
 -- "A byte waiting with wait 0 isn't well-formed."; with wait 1 it is
-abbrev waitingFor : ℕ → Write → Cpu
-waitingFor n w = waitingAt freshCpu n (Byte w)
+abbrev pub waitingFor : ℕ → Write → State
+waitingFor n w = withCpu fresh (waitingAt freshCpu n (Byte w))
 
-pub waiting-zero : (w : Write) → cpuFits (waitingFor 0 w) ≡ false
-unfolding byteWaits
+pub waiting-zero : (w : Write) → wellFormed (waitingFor 0 w) ≡ false
+unfolding wellFormed fresh byteWaits
 waiting-zero w = refl
 
-pub waiting-one : (w : Write) → cpuFits (waitingFor 1 w) ≡ true
-unfolding byteWaits
+pub waiting-one : (w : Write) → wellFormed (waitingFor 1 w) ≡ true
+unfolding wellFormed fresh byteWaits
 waiting-one w = refl

@@ -46,7 +46,7 @@ use Rattle.r6501q_gaps.specs.Events.{hasInput, sameLevels, levelsChange, underf
 use Rattle.r6501q_step.specs.R6501q.{World, plain, chip}
 use Rattle.r6501q_step.proofs.Halted.{toldBy, clockIn}
 use lib.ListN.{replicate}
-use Rattle.cpu_alu.specs.Shift.{incrementOf}
+use Rattle.cpu_alu.specs.Shift.{incrementOf, setBitOf}
 use Rattle.bits.specs.Bits.{word}
 use Rattle.r6501q_step.proofs.Examples.{startWith}
 
@@ -72,7 +72,27 @@ readyAt sp p ifr ier ports = record {
 abbrev pub startAt : State → List ℕ → World
 startAt s program = startWith s (replicate 0x40 0 ++ program) [] [] (0 ∷ []) (0 ∷ [])
 
+-- counter A in mode 01 with this count, PC 0040h
+abbrev pub pulsing : ℕ → State
+pulsing count = withPeripherals (readyAt 0xFF 0 0 0 0xFFFFFFFF) (record {
+  ports = freshPorts;
+  countera = record { count = count; latch = 0xFFFF };
+  counterb = freshPeripherals .counterb;
+  control = record { ifr = 0; ier = 0; mcr = 0x01; sccr = 0; scsr = 0x40 };
+  serial = freshPeripherals .serial;
+  transmitter = idleTransmitter;
+  receiver = freshPeripherals .receiver;
+})
+
+-- SMB0 00h from clock 1; counter A underflows on clock 3
+abbrev pub overUnderflow : World
+overUnderflow = startWith (pulsing 2) (replicate 0x40 0 ++ (0x87 ∷ 0x00 ∷ [])) [] [] (0 ∷ 0 ∷ []) (0 ∷ 0 ∷ [])
+
 pub record AccessOrder : Type 0 where
+  -- 02, U6, SMB0 00h: on clock 3 counter A inverts bit 4 of port A's latch; the put on clock 5 writes the byte that was
+  -- worked out on clock 1, bit 4 as it was then
+  pub underflow-between : plains (chip Nowhere) 3 overUnderflow .state .peripherals .ports .a ≡ 0xEF
+  pub byte-of-first-clock : plains (chip Nowhere) 5 overUnderflow .state .peripherals .ports .a ≡ 0xFF
   -- JSR with SP at its own last byte: the high byte of the target is the one that was just pushed
   pub call-over-itself : (l h : ℕ) → plains (chip Nowhere) 1 (startAt (readyAt 0x42 0 0 0 0xFFFFFFFF) (0x20 ∷ l ∷ h ∷ [])) .state .cpu .pc ≡ word 0x00 l
   -- INC 00h with PA0 held low from outside: the latch FFh is read, not the levels FEh; its byte is put on clock 5
@@ -87,8 +107,10 @@ pub record AccessOrder : Type 0 where
       ≡ record { a = 0; x = 0; y = 0; sp = 0x45; p = 0xC3; pc = 0x1234; wait = 5; waiting = Nothing }
 
 pub access-order : AccessOrder
-unfolding withBit setWhere flipWhere dueCount ticksOf inForce downA countsA clockA lowerA upperA loadCounterA reloadB downB clockB lowerB upperB copyB loadCounterB turnToC transmitterAsynchronous receiverAsynchronous receiverShifting holdsA keepsTransmitter keepsReceiver parityBit frameBits sentBits pace startDetected withLevel receivedByte wrongParity statusAfter keptWith frameEnded lookTaken looked receiveTick shiftedAtRise byteEnded receiveRise receiverClock receiverWithSccr framed taken idleTick frameEnd nextPhase ticked bitTick sendTick transmitterClock line shiftClock transmitterWithSccr decodeOf packed unpacked pushed memoryByte displacement flagsOf modeA modeB withInput driveA driveD drivenWord levelsOf rose fell edges withEdges resetOf sensedAt sensed fresh portValue registerValue afterRead startB startA entering keptFlag keptFlags writeOf wholeInstruction irqDue resetStart nmiStart irqStart startOf bytePut processorOf withInputs countA countB sentBy heardBy worked readyOf finished clockOf isWritten halts putByte committed plainOf plains putRecord located byteAfter peripheralsRead peripheralsWritten valueRead performed inOrder completion storeAt modifyAccesses branchOn bitBranchAccesses jumpTo pushAccesses pullAccesses returnAccesses interruptReturnAccesses entryAccesses breakAccesses callAccesses operationAccesses withRead changedBy byteToStore branchTaken bitBranchTaken byteToPush withPulled withRegister withFlag instructionAccesses resetAccesses interruptAccesses incrementOf
+unfolding withBit setWhere flipWhere dueCount ticksOf inForce downA countsA clockA lowerA upperA loadCounterA reloadB downB clockB lowerB upperB copyB loadCounterB turnToC transmitterAsynchronous receiverAsynchronous receiverShifting holdsA keepsTransmitter keepsReceiver parityBit frameBits sentBits pace startDetected withLevel receivedByte wrongParity statusAfter keptWith frameEnded lookTaken looked receiveTick shiftedAtRise byteEnded receiveRise receiverClock receiverWithSccr framed taken idleTick frameEnd nextPhase ticked bitTick sendTick transmitterClock line shiftClock transmitterWithSccr decodeOf packed unpacked pushed memoryByte displacement flagsOf modeA modeB withInput driveA driveD drivenWord levelsOf rose fell edges withEdges resetOf sensedAt sensed fresh portValue registerValue afterRead startB startA entering keptFlag keptFlags writeOf wholeInstruction irqDue resetStart nmiStart irqStart startOf bytePut processorOf withInputs countA countB sentBy heardBy worked readyOf finished clockOf isWritten halts putByte committed plainOf plains putRecord located byteAfter peripheralsRead peripheralsWritten valueRead performed inOrder completion storeAt modifyAccesses branchOn bitBranchAccesses jumpTo pushAccesses pullAccesses returnAccesses interruptReturnAccesses entryAccesses breakAccesses callAccesses operationAccesses withRead changedBy byteToStore branchTaken bitBranchTaken byteToPush withPulled withRegister withFlag instructionAccesses resetAccesses interruptAccesses incrementOf setBitOf
 access-order = record {
+  underflow-between = refl;
+  byte-of-first-clock = refl;
   call-over-itself = λ l h. refl;
   modify-by-latch = refl;
   read-by-levels = refl;

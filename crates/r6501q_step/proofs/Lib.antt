@@ -10,3 +10,4 @@ pub mod AccessOrder
 pub mod Held
 pub mod ReleaseLists
 pub mod Released
+pub mod StoreClocks

@@ -75,7 +75,8 @@ loadOf tape memory =
     (loaded (checkOf tape) (cond (eqb (checkOf tape .number) 0) (storeFrom tape memory) memory))
     (loaded (loadResult 1 0) memory)
 
--- 02, U7: a load with page sums. 13 comes behind 1 and before any record, with place 0; unless it refuses, it is a load.
+-- 02, U7: a load with page sums. 13 comes behind 1 and before any record, with place 0; unless it refuses, it is a
+-- load.
 -- (The sums go by the memory: `sumsAfter`.)
 unfoldable pub loadWithSumsOf : List ℕ → List ℕ → List ℕ → Loaded
 loadWithSumsOf tape memory sums =

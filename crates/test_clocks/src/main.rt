@@ -3,8 +3,8 @@
 // A scenario is a title (lines that begin with `#`), a tape, inputs `+CCCCCCCC KK` (clock and code, in hex) and at last
 // `=NNNN RR` (how many single clocks to do and how many output records are free, in hex). A title has no `;`, `+` or
 // `=`. A scenario begins with the fresh state and a memory of zeros into which the tape is loaded; its first input is
-// RES high on clock 1, `+00000001 61`. It prints a line `clock WORD` for each record, then `end K S`: K clocks done, and
-// S the number that ended them, or 0.
+// RES high on clock 1, `+00000001 61`. It prints a line `clock WORD` for each record, then `end K S`: K clocks done,
+// and S the number that ended them, or 0.
 //
 // The expected output was never made by this program. A scenario's title lines say how its outcome was obtained.
 // "Hand": it was worked out from the documents (which clock starts which instruction, when a counter underflows, when a

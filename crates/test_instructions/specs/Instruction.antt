@@ -56,7 +56,8 @@ later n c = record {
 
 -- the run for n clocks with RES high as its input on clock 1, one free output entry and no halt address
 abbrev pub runAlone : Cpu → ℕ → List ℕ → Handed
-runAlone c n memory = runOf (machine Nowhere) n (callStart (prepared c) memory (1 ∷ []) (resHigh ∷ []) (0 ∷ []) (0 ∷ []))
+runAlone c n memory =
+    runOf (machine Nowhere) n (callStart (prepared c) memory (1 ∷ []) (resHigh ∷ []) (0 ∷ []) (0 ∷ []))
 
 -- 01, Run and leaps: "Leaps = event clocks done, plus 1 if the last clock done isn't an event clock": of an instruction
 -- the start, and the last clock, which puts the byte that waits (02, U6: "A last clock with a byte waiting is an event
