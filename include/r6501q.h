@@ -103,8 +103,8 @@ enum r6501q_number {
 /* The machine state (document 01, "Machine state"). The range of a field is that of its type where none is given. */
 
 /* The byte that a store or a read-modify-write instruction still has to put, with its address, or none (document 02,
- * U6). It is put on the last clock of the instruction, where wait goes from 1 to 0; RES low drops it. None is one value:
- * there, address and value 0. */
+ * U6). It is put on the last clock of the instruction, where wait goes from 1 to 0; RES low drops it. None is one
+ * value: there, address and value 0. */
 typedef struct r6501q_waiting {
     uint8_t there; /* 0 or 1 */
     uint16_t address; /* 0 where none is there */
@@ -239,8 +239,8 @@ typedef struct r6501q_latch_result {
  * and R6501Q_PIN_RES + R6501Q_HIGH, behind that clock's other inputs, its reset entry begins on clock 1. */
 r6501q_state r6501q_fresh(void);
 
-/* 1 where every field of the state is within its range, 0 where one is not. The one rule across fields is that of a byte
- * waiting: wait is above 0. */
+/* 1 where every field of the state is within its range, 0 where one is not. The one rule across fields is that of a
+ * byte waiting: wait is above 0. */
 uint8_t r6501q_well_formed(r6501q_state state);
 
 /* n clocks, by leaps from event to event.

@@ -128,8 +128,8 @@ pub fn step(
 /// - `halt`: an address, or none. After the first clock in which the CPU writes there, be it the last of the `n`, the
 ///   run ends with [`Number::HaltedAtWrite`]; that clock is done and recorded. Every write counts: pushes, those of the
 ///   NMI and IRQ entries too, on the first clock, a store's byte on its last, also one that waits in the state given;
-///   and registers, also one that ignores the byte. 6 and 7 for that clock come first. A call with the state handed back
-///   goes on behind the write.
+///   and registers, also one that ignores the byte. 6 and 7 for that clock come first. A call with the state handed
+///   back goes on behind the write.
 ///
 /// ```
 /// use r6501q::{run, Number, State, MEMORY_LENGTH, RELEASE};

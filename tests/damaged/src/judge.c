@@ -368,25 +368,26 @@ static void judge_waiting(const given *g, const r6501q_call_result *result)
     static uint8_t expected[MEMORY];
     const r6501q_cpu *const c = &g->state.cpu;
     const r6501q_cpu *const d = &result->state.cpu;
+    const r6501q_waiting *const w = &c->waiting;
     const uint32_t done = result->state.clock - g->state.clock;
-    if (c->waiting.there == 0 || !res_stays_high(g, result->read))
+    if (w->there == 0 || !res_stays_high(g, result->read))
         return;
-    DEMAND(done <= c->wait || g->halt != c->waiting.address, "no halt where a byte was put");
+    DEMAND(done <= c->wait || g->halt != w->address, "no halt where a byte was put");
     if (done > c->wait)
         return;
     memcpy(expected, memory.before, MEMORY);
     if (done < c->wait) {
-        DEMAND(d->waiting.there == 1 && d->waiting.address == c->waiting.address && d->waiting.value == c->waiting.value,
+        DEMAND(d->waiting.there == 1 && d->waiting.address == w->address && d->waiting.value == w->value,
             "the byte waiting is another, or gone");
         DEMAND(result->number != 12, "halted before the byte was put");
     } else {
         DEMAND(d->waiting.there == 0, "a byte waits on");
-        DEMAND((result->number == 12) == (g->halt == c->waiting.address), "number %d at a put", result->number);
-        if (c->waiting.address >= 0x40)
-            expected[c->waiting.address] = c->waiting.value;
+        DEMAND((result->number == 12) == (g->halt == w->address), "number %d at a put", result->number);
+        if (w->address >= 0x40)
+            expected[w->address] = w->value;
     }
     DEMAND(d->wait == c->wait - done, "wait %u after %u clocks", d->wait, done);
-    DEMAND(memcmp(memory.data, expected, MEMORY) == 0, "another memory %u clocks on, wait having been %u", done, c->wait);
+    DEMAND(memcmp(memory.data, expected, MEMORY) == 0, "another memory %u clocks on from wait %u", done, c->wait);
 }
 
 /* Whether the next clock puts a byte: wait is 1, a byte waits, and RES is high on that clock. */

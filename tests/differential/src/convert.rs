@@ -57,8 +57,8 @@ pub fn library_state(state: &State) -> r6501q::State {
     }
 }
 
-/// What the bytes of a state can have and the model's state cannot: a flag or level above 1, and a none waiting that has
-/// an address or a value. Half is a number in the model, so that it is damaged there too.
+/// What the bytes of a state can have and the model's state cannot: a flag or level above 1, and a none waiting that
+/// has an address or a value. Half is a number in the model, so that it is damaged there too.
 pub const DAMAGES: u32 = 13;
 
 /// Puts a byte above 1 into one of the flags and levels, or into a none waiting.

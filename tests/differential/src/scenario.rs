@@ -391,8 +391,8 @@ fn set_up_long_gaps(random: &Random, state: &mut State) {
     state.latch_b = random.word() | 0x4000;
 }
 
-/// RES high and stays so: entries come to an undefined opcode, whatever is due. A byte waiting goes to a port or to where
-/// nothing is executed.
+/// RES high and stays so: entries come to an undefined opcode, whatever is due. A byte waiting goes to a port or to
+/// where nothing is executed.
 fn set_up_soon_stop(random: &Random, state: &mut State) {
     state.external |= 1 << 33;
     state.pc = 0x0200;

@@ -1,5 +1,5 @@
-//! The accesses of one clock, in order: 01, One clock, 4, "All its reads and writes happen now, each once"; but a store's
-//! write is an access of its last clock (document 02, U6).
+//! The accesses of one clock, in order: 01, One clock, 4, "All its reads and writes happen now, each once"; but a
+//! store's write is an access of its last clock (document 02, U6).
 
 use crate::registers::REGISTERS_END;
 

@@ -60,7 +60,8 @@ static int same_result(const r6501q_call_result *result, const r6501q_state *exp
 
 /* Runs ours where the peer has run, and compares all that there is: after the first clock registers, wait and the byte
  * that a store leaves waiting, whose place in memory is as it was; after the last one memory too. A push is in memory
- * after the first. One leap is the start; the rest of the instruction is another, be the last clock a store's or not. */
+ * after the first. One leap is the start; the rest of the instruction is another, be its last clock that of a store or
+ * not. */
 static void compare_with(uint8_t opcode, const struct peer_registers *before, const struct peer_registers *after,
     const struct peer_record *record)
 {

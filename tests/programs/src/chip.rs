@@ -56,8 +56,8 @@ impl Served {
         Served { chip, services: Services::new(program.c_stack, name) }
     }
 
-    /// The rest of what is at work, on whose last clock a store puts its byte, and the first clock of what comes next, in
-    /// which the registers change.
+    /// The rest of what is at work, on whose last clock a store puts its byte, and the first clock of what comes next,
+    /// in which the registers change.
     pub fn begin_next(&mut self) -> Number {
         self.chip.call_run(u32::from(self.chip.state.cpu.wait) + 1).number
     }
