@@ -1,5 +1,5 @@
-//! Runs a tape from standard input and prints its records, as the program `replay` does: 100 clocks from fresh, released
-//! on clock 1, no other inputs.
+//! Runs a tape from standard input and prints its records, as the program `replay` does: 100 clocks from fresh,
+//! released on clock 1, no other inputs.
 use r6501q::Chip;
 use std::io::{self, Read};
 

@@ -37,8 +37,8 @@ pub const fn code(pin: u8, high: bool) -> u8 {
 }
 
 /// The input that releases a fresh chip, which is held with RES low (document 02, U8): clock and code of RES high on
-/// clock 1. It stands behind that clock's other inputs, since no pin is above RES. [`Chip::release`](crate::Chip::release)
-/// puts it there.
+/// clock 1. It stands behind that clock's other inputs, since no pin is above RES.
+/// [`Chip::release`](crate::Chip::release) puts it there.
 pub const RELEASE: (u32, u8) = (1, code(PIN_RES, true));
 
 /// What a run or a step hands back.

@@ -77,8 +77,8 @@ enum Call {
 }
 
 impl Chip {
-    /// A fresh chip with a memory of zeros. It is held until [`release`](Chip::release), or another input that makes RES
-    /// high.
+    /// A fresh chip with a memory of zeros. It is held until [`release`](Chip::release), or another input that makes
+    /// RES high.
     #[must_use]
     pub fn new() -> Chip {
         Chip::with(State::fresh(), vec![0; MEMORY_LENGTH])

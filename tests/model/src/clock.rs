@@ -28,9 +28,9 @@ pub struct World {
 pub const RES_HIGH: u8 = 64 + 33;
 
 impl World {
-    /// Document 02, U8: tests that relied on the old start "now give RES high on clock 1". Pin 33 is the highest, so the
-    /// entry is the last of clock 1's; a list that sets RES on clock 1 itself gets none. The world is at clock 0, with
-    /// nothing read.
+    /// Document 02, U8: tests that relied on the old start "now give RES high on clock 1". Pin 33 is the highest, so
+    /// the entry is the last of clock 1's; a list that sets RES on clock 1 itself gets none. The world is at clock 0,
+    /// with nothing read.
     pub fn release(&mut self) {
         let behind = self.input_clocks.iter().take_while(|&&clock| clock <= 1).count();
         if self.input_codes[..behind].iter().all(|&code| code % 64 != 33) {
