@@ -77,7 +77,8 @@ enum r6501q_number {
 
     /* Refused. The state given comes back, nothing is read, counted or changed. Of several, the lowest is given. */
     R6501Q_WRONG_MEMORY_LENGTH = 1, /* memory is not 65,536 bytes (the only one of these five that a load has) */
-    R6501Q_STATE_NOT_WELL_FORMED = 2, /* a field of the state is out of its range, or a byte waits with wait 0 */
+    R6501Q_STATE_NOT_WELL_FORMED = 2, /* a field of the state is out of its range, or a byte waits
+                                         * with wait 0, or none is there and its address or value is not 0 */
     R6501Q_UNEQUAL_LISTS = 3, /* the two input lists, or the two output lists, differ in length */
     R6501Q_CLOCK_TOO_HIGH = 4, /* clock + n is above 4,294,967,295 */
     R6501Q_WRONG_PIN_LIST = 5, /* the input list breaks its rule somewhere, be it past the last clock */
@@ -239,8 +240,8 @@ typedef struct r6501q_latch_result {
  * and R6501Q_PIN_RES + R6501Q_HIGH, behind that clock's other inputs, its reset entry begins on clock 1. */
 r6501q_state r6501q_fresh(void);
 
-/* 1 where every field of the state is within its range, 0 where one is not. The one rule across fields is that of a
- * byte waiting: wait is above 0. */
+/* 1 where every field of the state is within its range, 0 where one is not. The rules across fields are those of a
+ * byte waiting: with one there, wait is above 0; with none, address and value are 0. */
 uint8_t r6501q_well_formed(r6501q_state state);
 
 /* n clocks, by leaps from event to event.
