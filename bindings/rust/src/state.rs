@@ -216,8 +216,8 @@ impl State {
         library::fresh()
     }
 
-    /// Whether every field is within its range. The one rule across fields is that of a byte waiting: `wait` is above
-    /// 0.
+    /// Whether every field is within its range. The rules across fields are those of a byte waiting: with one there,
+    /// `wait` is above 0; with none, address and value are 0.
     ///
     /// ```
     /// use r6501q::{State, Waiting};
