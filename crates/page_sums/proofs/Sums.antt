@@ -10,53 +10,53 @@ use lib.Dec.{eqb}
 use lib.ListN.{length, getD, set, replicate, length-set, length-replicate, getD-replicate}
 use lib.Seq.{ext-getD, getD-set-same, getD-set-other}
 use Rattle.bits.proofs.Tables.{getD-tabulate, length-tabulate}
-use Rattle.page_sums.specs.PageSums.{sumSpan, pageOf, partSum, pageSum, changedBy, sumAt, sumAfter, sumsAfterPart, sumsAfter, Right}
+use Rattle.page_sums.specs.PageSums.{sumSpan, pageOf, partSum, pageSum, sumChanged, sumAt, sumAfter, sumsAfterPart, sumsAfter, Right}
 
 -- ---- one sum
 
 module _ (sum : ℕ) where
   -- modulo 65,536 the new sum with what was there before is the old one with what is there after; no other below 65,536
   -- is
-  pub changed-exactly : (before after : ℕ) → (changedBy sum before after + before) % sumSpan ≡ (sum + after) % sumSpan
-  unfolding changedBy
+  pub changed-exactly : (before after : ℕ) → (sumChanged sum before after + before) % sumSpan ≡ (sum + after) % sumSpan
+  unfolding sumChanged
   changed-exactly before after = omega arith
 
-  pub changed-alone : (before after x : ℕ) → x < sumSpan → (x + before) % sumSpan ≡ (sum + after) % sumSpan → x ≡ changedBy sum before after
-  unfolding changedBy
+  pub changed-alone : (before after x : ℕ) → x < sumSpan → (x + before) % sumSpan ≡ (sum + after) % sumSpan → x ≡ sumChanged sum before after
+  unfolding sumChanged
   changed-alone before after x h e = omega arith
 
-  pub changed-below : (before after : ℕ) → changedBy sum before after < sumSpan
-  unfolding changedBy
+  pub changed-below : (before after : ℕ) → sumChanged sum before after < sumSpan
+  unfolding sumChanged
   changed-below before after = omega arith
 
   -- where the page's bytes stay, or sum to the same
-  pub unchanged : (before : ℕ) → sum < sumSpan → changedBy sum before before ≡ sum
-  unfolding changedBy
+  pub unchanged : (before : ℕ) → sum < sumSpan → sumChanged sum before before ≡ sum
+  unfolding sumChanged
   unchanged before h = omega arith
 
   -- one change after another
-  pub changed-twice : (a b c : ℕ) → changedBy (changedBy sum a b) b c ≡ changedBy sum a c
-  unfolding changedBy
+  pub changed-twice : (a b c : ℕ) → sumChanged (sumChanged sum a b) b c ≡ sumChanged sum a c
+  unfolding sumChanged
   changed-twice a b c = omega arith
 
   -- changes by as much come to the same
-  pub changed-as-much : (a b c d : ℕ) → d + a ≡ c + b → changedBy sum a b ≡ changedBy sum c d
-  unfolding changedBy
+  pub changed-as-much : (a b c d : ℕ) → d + a ≡ c + b → sumChanged sum a b ≡ sumChanged sum c d
+  unfolding sumChanged
   changed-as-much a b c d e = omega arith
 
   -- to add 65,536 less what was there is to take it off
-  pub taken-off : (before after : ℕ) → before ≤ sumSpan → (sum + after + sumSpan - before) % sumSpan ≡ changedBy sum before after
-  unfolding changedBy
+  pub taken-off : (before after : ℕ) → before ≤ sumSpan → (sum + after + sumSpan - before) % sumSpan ≡ sumChanged sum before after
+  unfolding sumChanged
   taken-off before after h = omega arith
 
   -- what else is in the page plays no part
-  pub changed-beside : (rest before after : ℕ) → changedBy sum (rest + before) (rest + after) ≡ changedBy sum before after
-  unfolding changedBy
+  pub changed-beside : (rest before after : ℕ) → sumChanged sum (rest + before) (rest + after) ≡ sumChanged sum before after
+  unfolding sumChanged
   changed-beside rest before after = omega arith
 
 -- a right sum is right afterwards
-pub changed-right : (before after : ℕ) → changedBy (before % sumSpan) before after ≡ after % sumSpan
-unfolding changedBy
+pub changed-right : (before after : ℕ) → sumChanged (before % sumSpan) before after ≡ after % sumSpan
+unfolding sumChanged
 changed-right before after = omega arith
 
 -- ---- a page's sum
@@ -131,7 +131,7 @@ sums-twice address sums a b c =
     sums-are address sums a c (sumsAfterPart address between b c) (sums-length address between b c ∙ n)
     (λ p h. let i : p < length between = omega (arith, n) in
     sum-after address between b c p i
-    ∙ ap (λ s. changedBy s (partSum p address b) (partSum p address c)) (sum-after address sums a b p h)
+    ∙ ap (λ s. sumChanged s (partSum p address b) (partSum p address c)) (sum-after address sums a b p h)
     ∙ changed-twice (sumAt sums p) (partSum p address a) (partSum p address b) (partSum p address c))
 
 -- a change behind another
@@ -149,7 +149,7 @@ sums-beside sums front x y =
 
 -- a byte put changes the sum of its page alone, by what the byte changes
 pub byte-put : (address k v : ℕ) (sums part : List ℕ) → Words sums → k < length part
-    → set sums (pageOf (address + k)) (changedBy (getD sums (pageOf (address + k)) 0) (getD part k 0) v) ≡ sumsAfterPart address sums part (set part k v)
+    → set sums (pageOf (address + k)) (sumChanged (getD sums (pageOf (address + k)) 0) (getD part k 0) v) ≡ sumsAfterPart address sums part (set part k v)
 byte-put address k v sums part words h =
     sums-are address sums part (set part k v) (set sums own new) (length-set sums own new) (λ p i. by-page p i (eqb own p) refl)
   where
@@ -157,7 +157,7 @@ byte-put address k v sums part words h =
     own = pageOf (address + k)
 
     new : ℕ
-    new = changedBy (getD sums own 0) (getD part k 0) v
+    new = sumChanged (getD sums own 0) (getD part k 0) v
 
     by-page : (p : ℕ) → p < length sums → (t : Bool) → eqb own p ≡ t
         → getD (set sums own new) p 0 ≡ sumAfter address sums part (set part k v) p
@@ -209,6 +209,6 @@ pub zeros-right : (n m : ℕ) → Right (replicate n 0) (replicate m 0)
 zeros-right n m p h = let i : p < n = omega (arith, length-replicate n (zero)) in getD-replicate n p 0 0 i ∙ rw (zeros-sum p 0 m)
 
 -- a byte that was 10h and becomes 05h, beside a sum of 0
-pub wrong-sum : changedBy 0 0x10 0x05 ≡ 65525
-unfolding changedBy
+pub wrong-sum : sumChanged 0 0x10 0x05 ≡ 65525
+unfolding sumChanged
 wrong-sum = refl

@@ -41,8 +41,8 @@ pageSum p memory = partSum p 0 memory
 -- "changes each sum, right or wrong before, by exactly what its page's bytes change, modulo 65,536": a sum, where its
 -- page's bytes summed to `before` and then to `after`. Numbers have no sign: modulo 65,536 to add 65,535 times `before`
 -- is to take it off.
-unfoldable pub changedBy : ℕ → ℕ → ℕ → ℕ
-changedBy sum before after = (sum + after + 65535 * before) % sumSpan
+unfoldable pub sumChanged : ℕ → ℕ → ℕ → ℕ
+sumChanged sum before after = (sum + after + 65535 * before) % sumSpan
 
 -- sum p of a list
 abbrev pub sumAt : List ℕ → ℕ → ℕ
@@ -50,7 +50,7 @@ sumAt sums p = getD sums p 0
 
 -- sum p, where the part of memory from an address onward became another
 abbrev pub sumAfter : ℕ → List ℕ → List ℕ → List ℕ → ℕ → ℕ
-sumAfter address sums part later p = changedBy (sumAt sums p) (partSum p address part) (partSum p address later)
+sumAfter address sums part later p = sumChanged (sumAt sums p) (partSum p address part) (partSum p address later)
 
 -- each sum of a list of any length
 unfoldable pub sumsAfterPart : ℕ → List ℕ → List ℕ → List ℕ → List ℕ

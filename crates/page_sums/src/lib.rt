@@ -3,7 +3,7 @@ use memory::MEMORY_SPAN;
 ghost use mathlib.Core.Path.{_≡_};
 ghost use Prim.Native.Nat.{_+_, _<_, _^_};
 ghost use lib.ListN.{length, set};
-ghost use Rattle.page_sums.specs.PageSums.{changedBy, sumAt, sumsAfterPart, pageListRefused, totalCall};
+ghost use Rattle.page_sums.specs.PageSums.{sumChanged, sumAt, sumsAfterPart, pageListRefused, totalCall};
 
 // The sums of a page list.
 const PAGE_COUNT: usize = 256;
@@ -23,7 +23,7 @@ pub struct TotalResult {
 // A byte of a page that becomes another changes the page's sum by as much, where the list has one.
 fn change_sum(sums: &mut [u16], page: usize, before: u8, after: u8)
     ensures { λ _. ⌜ now (sums .exit)
-        ≡ set (now (sums .entry)) page (changedBy (sumAt (now (sums .entry)) page) before after) ⌝ }
+        ≡ set (now (sums .entry)) page (sumChanged (sumAt (now (sums .entry)) page) before after) ⌝ }
 {
     if page < sums.len() {
         sums[page] = ((sums[page] as u32 + after as u32 + 65536 - before as u32) % 65536) as u16;

@@ -76,8 +76,7 @@ loadOf tape memory =
     (loaded (loadResult 1 0) memory)
 
 -- 02, U7: a load with page sums. 13 comes behind 1 and before any record, with place 0; unless it refuses, it is a
--- load.
--- (The sums go by the memory: `sumsAfter`.)
+-- load. The sums go by the memory (`sumsAfter`).
 unfoldable pub loadWithSumsOf : List ℕ → List ℕ → List ℕ → Loaded
 loadWithSumsOf tape memory sums =
     cond (pageListRefused (length memory) (length sums)) (loaded (loadResult 13 0) memory) (loadOf tape memory)

@@ -1,5 +1,5 @@
 use Rattle.page_sums.proofs.Sums.{Words, byte-put}
-use Rattle.page_sums.specs.PageSums.{pageOf, changedBy, sumAt}
+use Rattle.page_sums.specs.PageSums.{pageOf, sumChanged, sumAt}
 use mathlib.Core.Path.{_≡_, refl, _∙_}
 use Prim.Native.Nat.{_+_}
 use lib.ListN.{getD, set}
@@ -34,7 +34,7 @@ returns c =
     let sums = now (at .sums) in
     let page = pageOf (at .address + at .k) in
     let words : Words sums = λ p. omega (arith, c .before .before .before .before .before .slice-known2 .given p) in
-    let put : c .before .before .change-sum .last .0 ≡ set sums page (changedBy (sumAt sums page) (getD (now (at .part)) (at .k) 0) (at .value)) = c .before .before .change-sum .ensures in
+    let put : c .before .before .change-sum .last .0 ≡ set sums page (sumChanged (sumAt sums page) (getD (now (at .part)) (at .k) 0) (at .value)) = c .before .before .change-sum .ensures in
     (refl, put ∙ byte-put (at .address) (at .k) (at .value) sums (now (at .part)) words (start .pre .0))
 
 pub put-byte-spec : {M : Type 1} → statement M

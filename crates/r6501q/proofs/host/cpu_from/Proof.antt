@@ -1,3 +1,4 @@
+use mathlib.Core.Path.{refl}
 use borrow.Author.Needs.{needs}
 use Rattle.r6501q.proofs.host.cpu_from.Statement.{statement}
 use Rattle.r6501q.proofs.host.cpu_from.Tie as tie
@@ -11,7 +12,7 @@ waiting-from-requires c κs = search needs
 
 -- src/host.rt:130:1
 returns : tie.Need-returns
-returns c = rw (← (c .waiting-from .ensures))
+returns c = rw (c .waiting-from .ensures) refl
 
 pub cpu-from-spec : {M : Type 1} → statement M
 cpu-from-spec = tie.close (tie.spec waiting-from-requires returns)

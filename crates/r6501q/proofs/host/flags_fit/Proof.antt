@@ -1,3 +1,4 @@
+use mathlib.Core.Path.{refl}
 use Rattle.r6501q.specs.Host.{flagsFit}
 use borrow.Author.Needs.{needs}
 use Rattle.r6501q.proofs.host.flags_fit.Statement.{statement}
@@ -13,7 +14,7 @@ waiting-fits-requires c κs = search needs
 -- src/host.rt:227:1
 returns : tie.Need-returns
 unfolding flagsFit
-returns c = rw (← (c .before .before .before .before .before .before .before .before .waiting-fits .ensures))
+returns c = rw (c .before .before .before .before .before .before .before .before .waiting-fits .ensures) refl
 
 pub flags-fit-spec : {M : Type 1} → statement M
 flags-fit-spec = tie.close (tie.spec waiting-fits-requires returns)

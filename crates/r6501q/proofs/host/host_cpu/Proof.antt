@@ -1,3 +1,4 @@
+use mathlib.Core.Path.{refl}
 use borrow.Author.Needs.{needs}
 use Rattle.r6501q.proofs.host.host_cpu.Statement.{statement}
 use Rattle.r6501q.proofs.host.host_cpu.Tie as tie
@@ -11,7 +12,7 @@ host-waiting-requires c κs = search needs
 
 -- src/host.rt:266:1
 returns : tie.Need-returns
-returns c = rw (← (c .host-waiting .ensures))
+returns c = rw (c .host-waiting .ensures) refl
 
 pub host-cpu-spec : {M : Type 1} → statement M
 host-cpu-spec = tie.close (tie.spec host-waiting-requires returns)

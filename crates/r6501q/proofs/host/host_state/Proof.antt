@@ -1,3 +1,4 @@
+use mathlib.Core.Path.{refl}
 use Rattle.r6501q.specs.Host.{hostState}
 use borrow.Author.Needs.{needs}
 use Rattle.r6501q.proofs.host.host_state.Statement.{statement}
@@ -32,7 +33,7 @@ host-levels-requires-2 c κs = search needs
 -- src/host.rt:343:1
 returns : tie.Need-returns
 unfolding hostState
-returns c = rw (← (c .before .before .before .before .host-cpu .ensures), ← (c .before .before .before .host-due .ensures), ← (c .before .before .host-peripherals .ensures), ← (c .before .host-levels .ensures), ← (c .host-levels2 .ensures))
+returns c = rw (c .before .before .before .before .host-cpu .ensures, c .before .before .before .host-due .ensures, c .before .before .host-peripherals .ensures, c .before .host-levels .ensures, c .host-levels2 .ensures) refl
 
 pub host-state-spec : {M : Type 1} → statement M
 host-state-spec =

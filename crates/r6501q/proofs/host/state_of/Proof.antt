@@ -1,3 +1,4 @@
+use mathlib.Core.Path.{refl}
 use Rattle.r6501q.specs.Host.{stateFromHost}
 use borrow.Author.Needs.{needs}
 use Rattle.r6501q.proofs.host.state_of.Statement.{statement}
@@ -32,7 +33,7 @@ levels-of-requires-2 c κs = search needs
 -- src/host.rt:206:1
 returns : tie.Need-returns
 unfolding stateFromHost
-returns c = rw (← (c .before .before .before .before .cpu-from .ensures), ← (c .before .before .before .due-of .ensures), ← (c .before .before .peripherals-of .ensures), ← (c .before .levels-of .ensures), ← (c .levels-of2 .ensures))
+returns c = rw (c .before .before .before .before .cpu-from .ensures, c .before .before .before .due-of .ensures, c .before .before .peripherals-of .ensures, c .before .levels-of .ensures, c .levels-of2 .ensures) refl
 
 pub state-of-spec : {M : Type 1} → statement M
 state-of-spec =

@@ -1,3 +1,4 @@
+use mathlib.Core.Path.{refl}
 use Rattle.r6501q_gaps.specs.Gaps.{toCpu}
 use borrow.Author.Needs.{needs}
 use Rattle.r6501q_gaps.proofs.distances.to_cpu.Statement.{statement}
@@ -22,7 +23,7 @@ where-seen-requires c κs = search needs
 -- src/distances.rt:93:1
 returns : tie.Need-returns
 unfolding toCpu
-returns c = rw (← (c .before .until-cpu .ensures), ← (c .where-seen .ensures))
+returns c = rw (c .where-seen .ensures, c .before .until-cpu .ensures) refl
 
 pub to-cpu-spec : {M : Type 1} → statement M
 to-cpu-spec = tie.close (tie.spec until-cpu-requires cast-t4 where-seen-requires returns)
