@@ -3,3 +3,4 @@ pub mod Chip
 pub mod World
 pub mod Lists
 pub mod Calls
+pub mod Summed

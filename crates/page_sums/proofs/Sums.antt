@@ -5,9 +5,9 @@ use mathlib.Core.List.{List, [], _∷_, _++_}
 use Prim.Native.Nat.{ℕ, zero, suc, _+_, _-_, _%_, _≤_, _<_}
 use native.Mathlib.Nat.{add-zero, zero-add}
 use native.Mathlib.Omega.{arith}
-use borrow.Author.Tests.{eq-eqb, ne-eqb, eqb-true, eqb-false}
-use lib.Dec.{eqb}
-use lib.ListN.{length, getD, set, replicate, length-set, length-replicate, getD-replicate}
+use borrow.Author.Tests.{eq-eqb, ne-eqb, eqb-true, eqb-false, ltb-true, ltb-false}
+use lib.Dec.{eqb, ltb}
+use lib.ListN.{length, getD, set, replicate, length-set, length-replicate, getD-replicate, List·getD-eq-default}
 use lib.Seq.{ext-getD, getD-set-same, getD-set-other}
 use Rattle.bits.proofs.Tables.{getD-tabulate, length-tabulate}
 use Rattle.page_sums.specs.PageSums.{sumSpan, pageOf, partSum, pageSum, sumChanged, sumAt, sumAfter, sumsAfterPart, sumsAfter, Right}
@@ -112,6 +112,18 @@ module _ (address : ℕ) (sums part later : List ℕ) where
   sums-are l n h =
       ext-getD 0 l (sumsAfterPart address sums part later) (n ∙ sym sums-length)
       (λ p u. let i : p < length sums = omega (arith, n) in h p i ∙ sym (sum-after p i))
+
+-- each is again of 16 bits
+pub sums-words : (address : ℕ) (sums part later : List ℕ) → Words (sumsAfterPart address sums part later)
+sums-words address sums part later p = by-place (ltb p (length sums)) refl
+  where
+    by-place : (t : Bool) → ltb p (length sums) ≡ t → sumAt (sumsAfterPart address sums part later) p < sumSpan
+    by-place true e =
+        rw (sum-after address sums part later p (ltb-true p (length sums) e))
+        (changed-below (sumAt sums p) (partSum p address part) (partSum p address later))
+    by-place false e =
+        let beyond : length (sumsAfterPart address sums part later) ≤ p = omega (arith, sums-length address sums part later, ltb-false p (length sums) e) in
+        rw (List·getD-eq-default (sumsAfterPart address sums part later) 0 beyond) (omega arith)
 
 -- a list of no sums stays so
 pub no-sums : (address : ℕ) (part later : List ℕ) → sumsAfterPart address [] part later ≡ []

@@ -21,7 +21,7 @@ use Rattle.r6501q_clock.specs.declared.Ended.{Ended}
 use Rattle.r6501q_clock.specs.declared.Clocked.{Clocked}
 use Rattle.r6501q_clock.specs.declared.Clocked.the-variants.{Stopped, Done}
 use Rattle.r6501q_clock.specs.Clock.{undefinedStop, fullStop, endedWith, finished, recorded, readyOf, clockOf}
-use Rattle.r6501q_clock.specs.Commit.{putByte, committed}
+use Rattle.r6501q_clock.specs.Commit.{putWrite, committed}
 use Rattle.r6501q_clock.proofs.Ranges.{ready-formed, ready-clock}
 
 -- of a clock that is done
@@ -76,16 +76,16 @@ done-formed s codes memory free e f d =
     (rw d at m) .0
 
 -- a commit keeps the memory's length
-put-length : (there : Bool) (w : Write) (m : List ℕ) → length (putByte there w m) ≡ length m
-unfolding putByte
+put-length : (there : Bool) (w : Write) (m : List ℕ) → length (putWrite there w m) ≡ length m
+unfolding putWrite
 put-length there w m =
     cond-both (λ (l : List ℕ). length l ≡ length m) (there && not (isRegister (w .address))) (set m (w .address) (w .value)) m (λ _. length-set m (w .address) (w .value)) (λ _. refl)
 
 pub commit-length : (m : List ℕ) (w : Writes) → length (committed m w) ≡ length m
 unfolding committed
 commit-length m w =
-    let one = putByte (ltb 0 (w .count)) (w .first) m in
-    let two = putByte (ltb 1 (w .count)) (w .second) one in
+    let one = putWrite (ltb 0 (w .count)) (w .first) m in
+    let two = putWrite (ltb 1 (w .count)) (w .second) one in
     put-length (ltb 2 (w .count)) (w .third) two ∙ put-length (ltb 1 (w .count)) (w .second) one ∙ put-length (ltb 0 (w .count)) (w .first) m
 
 -- what holds of 6 and of 7 holds of the number of a stop

@@ -12,23 +12,23 @@ use Rattle.memory.specs.Memory.{isRegister}
 use Rattle.cpu_access.specs.declared.stack.Write.{Write}
 use Rattle.cpu_access.specs.Bus.{memoryByte}
 use Rattle.cpu_access.specs.Accesses.{byteAfter, inOrder}
-use Rattle.r6501q_clock.specs.Commit.{putByte, committed}
+use Rattle.r6501q_clock.specs.Commit.{putWrite, committed}
 
 -- the writes put in their order
 putAll : List ℕ → List Write → List ℕ
 putAll m [] = m
-putAll m (w ∷ ws) = putAll (putByte true w m) ws
+putAll m (w ∷ ws) = putAll (putWrite true w m) ws
 
 all-committed : (m : List ℕ) (ws : List Write) → inOrder ws .count ≤ 3 → committed m (inOrder ws) ≡ putAll m ws
-unfolding committed putByte inOrder putAll
+unfolding committed putWrite inOrder putAll
 all-committed m [] h = refl
 all-committed m (a ∷ []) h = refl
 all-committed m (a ∷ b ∷ []) h = refl
 all-committed m (a ∷ b ∷ c ∷ []) h = refl
 all-committed m (a ∷ b ∷ c ∷ d ∷ more) h = absurd (omega (arith, h))
 
-put-length : (w : Write) (m : List ℕ) → length (putByte true w m) ≡ length m
-unfolding putByte
+put-length : (w : Write) (m : List ℕ) → length (putWrite true w m) ≡ length m
+unfolding putWrite
 put-length w m = by-place (isRegister (w .address))
   where
     by-place : (t : Bool) → length (cond (not t) (set m (w .address) (w .value)) m) ≡ length m
@@ -36,8 +36,8 @@ put-length w m = by-place (isRegister (w .address))
     by-place false = length-set m (w .address) (w .value)
 
 put-byte : (w : Write) (m : List ℕ) (a : ℕ) → isRegister a ≡ false → w .address < length m
-    → memoryByte (putByte true w m) a ≡ cond (eqb (w .address) a) (w .value) (memoryByte m a)
-unfolding putByte memoryByte
+    → memoryByte (putWrite true w m) a ≡ cond (eqb (w .address) a) (w .value) (memoryByte m a)
+unfolding putWrite memoryByte
 put-byte w m a e h = by-tests (isRegister (w .address)) (eqb (w .address) a) refl refl
   where
     by-tests : (t u : Bool) → isRegister (w .address) ≡ t → eqb (w .address) a ≡ u
@@ -57,7 +57,7 @@ put-bytes : (ws : List Write) (m : List ℕ) (a : ℕ) → isRegister a ≡ fals
 unfolding putAll byteAfter
 put-bytes [] m a e inside = refl
 put-bytes (w ∷ ws) m a e inside =
-    put-bytes ws (putByte true w m) a e (rw (put-length w m) (inside .1)) ∙ ap (byteAfter ws a) (put-byte w m a e (inside .0))
+    put-bytes ws (putWrite true w m) a e (rw (put-length w m) (inside .1)) ∙ ap (byteAfter ws a) (put-byte w m a e (inside .0))
 
 pub byte-committed : (ws : List Write) (m : List ℕ) (a : ℕ) → isRegister a ≡ false → Inside (length m) ws → inOrder ws .count ≤ 3
     → memoryByte (committed m (inOrder ws)) a ≡ byteAfter ws a (memoryByte m a)

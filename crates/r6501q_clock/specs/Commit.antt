@@ -9,9 +9,9 @@ use Rattle.cpu_access.specs.declared.stack.Writes.{Writes}
 use Rattle.cpu_access.specs.Stack.{eachWrite}
 
 -- 01, Machine state: memory's "bytes at 0 to 3Fh, the registers, are never touched"
-unfoldable pub putByte : Bool → Write → List ℕ → List ℕ
-putByte there w memory = cond (there && not (isRegister (w .address))) (set memory (w .address) (w .value)) memory
+unfoldable pub putWrite : Bool → Write → List ℕ → List ℕ
+putWrite there w memory = cond (there && not (isRegister (w .address))) (set memory (w .address) (w .value)) memory
 
 -- the writes of a clock that are writes to memory, in their order
 unfoldable pub committed : List ℕ → Writes → List ℕ
-committed memory w = eachWrite putByte w memory
+committed memory w = eachWrite putWrite w memory

@@ -22,7 +22,7 @@ use Rattle.r6501q_clock.specs.declared.Ended.{Ended}
 use Rattle.r6501q_clock.specs.declared.Clocked.{Clocked}
 use Rattle.r6501q_clock.specs.declared.Clocked.the-variants.{Stopped, Done}
 use Rattle.r6501q_clock.specs.Clock.{haltStop, endedWith, finished, clockOf}
-use Rattle.r6501q_clock.specs.Commit.{putByte, committed}
+use Rattle.r6501q_clock.specs.Commit.{putWrite, committed}
 use Rattle.r6501q_clock.proofs.Ends.{done-clock, done-room, done-formed, commit-length, stop-either}
 use Rattle.r6501q_gaps.specs.Gaps.{clocksOf, gapOf, passOf}
 use Rattle.r6501q_gaps.proofs.Passing.{pass-driven, pass-zero, pass-add, pass-clock}
@@ -77,7 +77,7 @@ module _ (n : ℕ) (s : State) (clocks memory : List ℕ) (free : Bool) (inside 
   -- and writes nothing, the halt address least of all
   gap-outcome : (halt : Halt) → clockOutcome halt memory (clockOf s [] memory free)
       ≡ ended (record { state = passOf s (clocksOf 1); memory = memory; differs = false; word = drivenWord (s .peripherals); stop = 0 })
-  unfolding committed putByte
+  unfolding committed putWrite
   gap-outcome halt = rw (gap-clocked, unwritten halt noWrites refl)
 
 pub laws : (halt : Halt) → ChipLaws (r6501q halt)

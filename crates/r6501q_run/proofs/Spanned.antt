@@ -36,7 +36,7 @@ use Rattle.r6501q_gaps.specs.Gaps.{clocksOf, untilCpu, gapOf, passCounters, pas
 use Rattle.r6501q_gaps.proofs.Passing.{pass-zero}
 use Rattle.r6501q_clock.specs.declared.Clocked.the-variants.{Done}
 use Rattle.r6501q_clock.specs.Clock.{endedWith, clockOf}
-use Rattle.r6501q_clock.specs.Commit.{putByte, committed}
+use Rattle.r6501q_clock.specs.Commit.{putWrite, committed}
 use Rattle.r6501q_step.specs.R6501q.{World, r6501q, chip}
 use Rattle.r6501q_step.specs.World.{worldOf}
 use Rattle.r6501q_spans.specs.Spans.{spanOf, beginWork, workingState, noneWaiting, writesRegister, endsSpan, continuedBy, committedBy, workBy, memoryBy, workAfter, memoryAfter, putWork, putsWithin, workPut, memoryPut, WorkedOn}
@@ -123,7 +123,7 @@ unfolding pushesOf
 no-end halt w e = rw e (ends-not halt (pushesOf Nothing) (no-register Nothing refl) (unwritten halt (pushesOf Nothing) refl))
 
 same-memory : (memory : List ℕ) (w : Written) → w ≡ Nothing → committed memory (pushesOf w) ≡ memory
-unfolding committed putByte pushesOf
+unfolding committed putWrite pushesOf
 same-memory memory w e = rw e
 
 none-left : (w : Written) → w ≡ Nothing → waitingOf w ≡ waiting.Nothing

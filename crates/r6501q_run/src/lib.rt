@@ -2,6 +2,7 @@
 ghost use mathlib.Core.Path.{_≡_};
 ghost use Prim.Native.Nat.{_+_, _-_, _≤_, _<_};
 ghost use lib.ListN.{length, drop};
+ghost use Rattle.page_sums.specs.PageSums.{sumsAfter};
 ghost use Rattle.leaps.specs.Leaps.{leapOf, leftAfter};
 ghost use Rattle.leaps.specs.Lists.{runOf, plainRunOf};
 ghost use Rattle.leaps.specs.Calls.{callStart};
@@ -14,6 +15,8 @@ ghost use Rattle.r6501q_run.specs.Leap.{passedBy, goesOn, runFrom, runEn
 ghost use Rattle.r6501q_run.specs.Spanned.{spanFrom, spannedTo, Spanned};
 use counters::time::Clocks;
 use cpu_access::halt::Halt;
+use page_sums::WRONG_PAGE_LIST;
+use page_sums::page_list_refused;
 use r6501q_spans::Working;
 use r6501q_spans::begin_work;
 use r6501q_spans::work_once;
@@ -73,6 +76,7 @@ fn leap(
     left: Clocks,
     gap: Clocks,
     memory: &mut [u8],
+    sums: &mut [u16],
     inputclocks: &[u32],
     inputcodes: &[u8],
     outputclocks: &mut [u32],
@@ -88,12 +92,14 @@ fn leap(
         (now (outputclocks .exit)) (now (outputwords .exit))
         ≡ leapOf (chip halt) (left .0) (worldOf p (now (memory .entry)) (now (inputclocks .entry))
         (now (inputcodes .entry)) (now (outputclocks .entry)) (now (outputwords .entry))) ⌝ }
+    ensures { λ _. ⌜ now (sums .exit) ≡ sumsAfter (now (sums .entry)) (now (memory .entry)) (now (memory .exit)) ⌝ }
 {
     let passed = pass_progress(p, gap);
     if gap.0 < left.0 {
         return advance(
             passed,
             memory,
+            sums,
             inputclocks,
             inputcodes,
             outputclocks,
@@ -116,6 +122,7 @@ fn goes_on(at: Leaped) -> bool
 fn leap_once(
     at: Leaped,
     memory: &mut [u8],
+    sums: &mut [u16],
     inputclocks: &[u32],
     inputcodes: &[u8],
     outputclocks: &mut [u32],
@@ -136,6 +143,7 @@ fn leap_once(
         (now (memory .entry)) (now (inputclocks .entry)) (now (inputcodes .entry)) (now (outputclocks .entry))
         (now (outputwords .entry)))) ⌝ }
     ensures { λ r. ⌜ r .leaps ≡ at .leaps + leapsFrom (at .progress .state .clock) (r .progress .state .clock) ⌝ }
+    ensures { λ _. ⌜ now (sums .exit) ≡ sumsAfter (now (sums .entry)) (now (memory .entry)) (now (memory .exit)) ⌝ }
 {
     let p = at.progress;
     let left = at.left;
@@ -145,6 +153,7 @@ fn leap_once(
         left,
         gap,
         memory,
+        sums,
         inputclocks,
         inputcodes,
         outputclocks,
@@ -198,6 +207,7 @@ fn leap_within(
     at: Leaped,
     span: Clocks,
     memory: &mut [u8],
+    sums: &mut [u16],
     inputclocks: &[u32],
     entries: &[u16],
     halt: Halt,
@@ -206,11 +216,12 @@ fn leap_within(
     requires { ⌜ (span ≡ spanFrom at (now inputclocks)) × (0 < span .0) ⌝ }
     requires { ⌜ now entries ≡ opcodeTable ⌝ }
     ensures { λ r. ⌜ Spanned halt at (now (memory .entry)) r (now (memory .exit)) (now (inputclocks .entry)) ⌝ }
+    ensures { λ _. ⌜ now (sums .exit) ≡ sumsAfter (now (sums .entry)) (now (memory .entry)) (now (memory .exit)) ⌝ }
 {
     let mut v = begin_work(at.progress.state);
     let mut on = true;
     while on {
-        let next = work_once(v, span, memory, entries, halt);
+        let next = work_once(v, span, memory, sums, entries, halt);
         on = v.work.gone.0 < next.work.gone.0;
         v = next;
     }
@@ -221,6 +232,7 @@ fn leap_within(
 fn leap_span(
     at: Leaped,
     memory: &mut [u8],
+    sums: &mut [u16],
     inputclocks: &[u32],
     entries: &[u16],
     halt: Halt,
@@ -229,18 +241,20 @@ fn leap_span(
     requires { ⌜ at .progress .read ≤ length (now inputclocks) ⌝ }
     requires { ⌜ now entries ≡ opcodeTable ⌝ }
     ensures { λ r. ⌜ Spanned halt at (now (memory .entry)) r (now (memory .exit)) (now (inputclocks .entry)) ⌝ }
+    ensures { λ _. ⌜ now (sums .exit) ≡ sumsAfter (now (sums .entry)) (now (memory .entry)) (now (memory .exit)) ⌝ }
 {
     let span = span_from(at, inputclocks);
     if span.0 == 0 {
         return at;
     }
-    leap_within(at, span, memory, inputclocks, entries, halt)
+    leap_within(at, span, memory, sums, inputclocks, entries, halt)
 }
 
 // Leaps, until no clock is left or one stops.
 fn leap_on(
     start: Leaped,
     memory: &mut [u8],
+    sums: &mut [u16],
     inputclocks: &[u32],
     inputcodes: &[u8],
     outputclocks: &mut [u32],
@@ -256,12 +270,14 @@ fn leap_on(
         (now (outputclocks .exit)) (now (outputwords .exit))
         ≡ runFrom halt start (now (memory .entry)) (now (inputclocks .entry)) (now (inputcodes .entry))
         (now (outputclocks .entry)) (now (outputwords .entry)) ⌝ }
+    ensures { λ _. ⌜ now (sums .exit) ≡ sumsAfter (now (sums .entry)) (now (memory .entry)) (now (memory .exit)) ⌝ }
 {
     let mut at = start;
     while goes_on(at) {
         at = leap_once(
             at,
             memory,
+            sums,
             inputclocks,
             inputcodes,
             outputclocks,
@@ -269,7 +285,7 @@ fn leap_on(
             entries,
             halt,
         );
-        at = leap_span(at, memory, inputclocks, entries, halt);
+        at = leap_span(at, memory, sums, inputclocks, entries, halt);
     }
     at
 }
@@ -283,6 +299,53 @@ fn begin_run(state: State, n: u32) -> Leaped
         left: Clocks(n),
         leaps: 0,
     }
+}
+
+// n clocks of memory and its page sums, however many sums are lent.
+fn run_into(
+    state: State,
+    memory: &mut [u8],
+    sums: &mut [u16],
+    inputclocks: &[u32],
+    inputcodes: &[u8],
+    outputclocks: &mut [u32],
+    outputwords: &mut [u32],
+    n: u32,
+    halt: Halt,
+) -> CallResult
+    ensures { λ r. ⌜ handed r (now (memory .exit)) (now (outputclocks .exit)) (now (outputwords .exit))
+        ≡ runOf (machine halt) n (callStart state (now (memory .entry)) (now (inputclocks .entry))
+        (now (inputcodes .entry)) (now (outputclocks .entry)) (now (outputwords .entry))) ⌝ }
+    ensures { λ r. ⌜ handed r (now (memory .exit)) (now (outputclocks .exit)) (now (outputwords .exit))
+        ≡ plainRunOf (machine halt) n (callStart state (now (memory .entry)) (now (inputclocks .entry))
+        (now (inputcodes .entry)) (now (outputclocks .entry)) (now (outputwords .entry))) ⌝ }
+    ensures { λ _. ⌜ now (sums .exit) ≡ sumsAfter (now (sums .entry)) (now (memory .entry)) (now (memory .exit)) ⌝ }
+{
+    let number = call_refusal(
+        state,
+        memory.len(),
+        inputclocks,
+        inputcodes,
+        outputclocks.len(),
+        outputwords.len(),
+        n,
+    );
+    if number != 0 {
+        return refused(number, state);
+    }
+    let entries = cpu_opcodes::opcode_table();
+    let end = leap_on(
+        begin_run(state, n),
+        memory,
+        sums,
+        inputclocks,
+        inputcodes,
+        outputclocks,
+        outputwords,
+        &entries,
+        halt,
+    );
+    result_of(end.leaps, end.progress)
 }
 
 // The call for n clocks, which halts after a clock that writes the halt address.
@@ -303,28 +366,49 @@ pub fn run(
         ≡ plainRunOf (machine halt) n (callStart state (now (memory .entry)) (now (inputclocks .entry))
         (now (inputcodes .entry)) (now (outputclocks .entry)) (now (outputwords .entry))) ⌝ }
 {
-    let number = call_refusal(
+    let mut none = [0u16; 0];
+    run_into(
         state,
-        memory.len(),
-        inputclocks,
-        inputcodes,
-        outputclocks.len(),
-        outputwords.len(),
-        n,
-    );
-    if number != 0 {
-        return refused(number, state);
-    }
-    let entries = cpu_opcodes::opcode_table();
-    let end = leap_on(
-        begin_run(state, n),
         memory,
+        &mut none,
         inputclocks,
         inputcodes,
         outputclocks,
         outputwords,
-        &entries,
+        n,
         halt,
-    );
-    result_of(end.leaps, end.progress)
+    )
+}
+
+// The call for n clocks of a memory with its 256 page sums; the list of sums is looked at behind the memory.
+pub fn run_with_sums(
+    state: State,
+    memory: &mut [u8],
+    sums: &mut [u16],
+    inputclocks: &[u32],
+    inputcodes: &[u8],
+    outputclocks: &mut [u32],
+    outputwords: &mut [u32],
+    n: u32,
+    halt: Halt,
+) -> CallResult
+    ensures { λ r. ⌜ handed r (now (memory .exit)) (now (outputclocks .exit)) (now (outputwords .exit))
+        ≡ withSums (now (sums .entry)) (runOf (machine halt) n) (callStart state (now (memory .entry))
+        (now (inputclocks .entry)) (now (inputcodes .entry)) (now (outputclocks .entry)) (now (outputwords .entry))) ⌝ }
+    ensures { λ _. ⌜ now (sums .exit) ≡ sumsAfter (now (sums .entry)) (now (memory .entry)) (now (memory .exit)) ⌝ }
+{
+    if page_list_refused(memory.len(), sums.len()) {
+        return refused(WRONG_PAGE_LIST, state);
+    }
+    run_into(
+        state,
+        memory,
+        sums,
+        inputclocks,
+        inputcodes,
+        outputclocks,
+        outputwords,
+        n,
+        halt,
+    )
 }

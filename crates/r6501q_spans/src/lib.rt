@@ -2,6 +2,7 @@
 // own; it is done on a small record, and the rest of the chip is brought up to date once, at the end.
 ghost use mathlib.Core.Path.{_≡_};
 ghost use Prim.Native.Nat.{_+_, _≤_};
+ghost use Rattle.page_sums.specs.PageSums.{sumsAfter};
 ghost use Rattle.cpu_opcodes.specs.Table.{opcodeTable};
 ghost use Rattle.cpu.specs.Quiet.{WithinSpan};
 ghost use Rattle.r6501q_spans.specs.Spans.{onlyCpu, spanOf, beginWork, workingState, noneWaiting, writesRegister, endsSpan, continuedBy, committedBy, putWork, workPut, memoryPut, InstructionsWorked, WorkedOn};
@@ -116,17 +117,18 @@ fn ends_span(w: Writes, halt: Halt) -> bool
 }
 
 // An instruction that was worked out: it is done where it pushes to memory alone, and not at the halt address.
-fn continue_work(w: Work, worked: Worked, memory: &mut [u8], halt: Halt) -> Working
+fn continue_work(w: Work, worked: Worked, memory: &mut [u8], sums: &mut [u16], halt: Halt) -> Working
     requires { ⌜ (w .gone .0 + w .wait + 1 ≤ 4294967295) × (w .leaps + 1 ≤ 4294967295) ⌝ }
     ensures { λ r. ⌜ r ≡ continuedBy halt w worked ⌝ }
     ensures { λ _. ⌜ now (memory .exit) ≡ committedBy halt (now (memory .entry)) worked ⌝ }
+    ensures { λ _. ⌜ now (sums .exit) ≡ sumsAfter (now (sums .entry)) (now (memory .entry)) (now (memory .exit)) ⌝ }
 {
     let written = worked.written;
     let writes = pushes_of(written);
     if ends_span(writes, halt) {
         return none_waiting(w);
     }
-    commit(memory, writes);
+    commit(memory, sums, writes);
     Working {
         work: next_work(w, worked),
         waiting: waiting_of(written),
@@ -139,12 +141,14 @@ fn work_instructions(
     w: Work,
     span: Clocks,
     memory: &mut [u8],
+    sums: &mut [u16],
     entries: &[u16],
     halt: Halt,
 ) -> Working
     requires { ⌜ WithinSpan w (span .0) ⌝ }
     requires { ⌜ now entries ≡ opcodeTable ⌝ }
     ensures { λ r. ⌜ InstructionsWorked halt (span .0) w (now (memory .entry)) r (now (memory .exit)) ⌝ }
+    ensures { λ _. ⌜ now (sums .exit) ≡ sumsAfter (now (sums .entry)) (now (memory .entry)) (now (memory .exit)) ⌝ }
 {
     let answers = [0u8; 0];
     let stopped = run_instructions(w, span, &answers, memory, entries);
@@ -156,7 +160,7 @@ fn work_instructions(
     match outcome {
         Outcome::Undefined => none_waiting(at),
         Outcome::Asked(_) => none_waiting(at),
-        Outcome::Done(worked) => continue_work(at, worked, memory, halt),
+        Outcome::Done(worked) => continue_work(at, worked, memory, sums, halt),
     }
 }
 
@@ -176,16 +180,17 @@ fn put_work(w: Work) -> Working
 
 // The byte that waits is put, if its clock lies within the span, and it goes neither to a register nor to the halt
 // address.
-fn put_within(w: Work, x: Write, span: Clocks, memory: &mut [u8], halt: Halt) -> Working
+fn put_within(w: Work, x: Write, span: Clocks, memory: &mut [u8], sums: &mut [u16], halt: Halt) -> Working
     requires { ⌜ WithinSpan w (span .0) ⌝ }
     ensures { λ r. ⌜ r ≡ workPut halt (span .0) w x ⌝ }
     ensures { λ _. ⌜ now (memory .exit) ≡ memoryPut halt (span .0) w x (now (memory .entry)) ⌝ }
+    ensures { λ _. ⌜ now (sums .exit) ≡ sumsAfter (now (sums .entry)) (now (memory .entry)) (now (memory .exit)) ⌝ }
 {
     let writes = one_write(x.address, x.value);
     let within = (0 < w.wait) & (w.wait as u32 <= span.0 - w.gone.0);
     if within {
         if !ends_span(writes, halt) {
-            commit(memory, writes);
+            commit(memory, sums, writes);
             return put_work(w);
         }
     }
@@ -201,17 +206,19 @@ pub fn work_once(
     v: Working,
     span: Clocks,
     memory: &mut [u8],
+    sums: &mut [u16],
     entries: &[u16],
     halt: Halt,
 ) -> Working
     requires { ⌜ WithinSpan (v .work) (span .0) ⌝ }
     requires { ⌜ now entries ≡ opcodeTable ⌝ }
     ensures { λ r. ⌜ WorkedOn halt (span .0) (v .work) (v .waiting) (now (memory .entry)) r (now (memory .exit)) ⌝ }
+    ensures { λ _. ⌜ now (sums .exit) ≡ sumsAfter (now (sums .entry)) (now (memory .entry)) (now (memory .exit)) ⌝ }
 {
     let work = v.work;
     let waiting = v.waiting;
     match waiting {
-        Waiting::Nothing => work_instructions(work, span, memory, entries, halt),
-        Waiting::Byte(x) => put_within(work, x, span, memory, halt),
+        Waiting::Nothing => work_instructions(work, span, memory, sums, entries, halt),
+        Waiting::Byte(x) => put_within(work, x, span, memory, sums, halt),
     }
 }

@@ -26,7 +26,7 @@ use Rattle.r6501q_clock.specs.declared.Ended.{Ended}
 use Rattle.r6501q_clock.specs.declared.Clocked.{Clocked}
 use Rattle.r6501q_clock.specs.declared.Clocked.the-variants.{Stopped, Done}
 use Rattle.r6501q_clock.specs.Clock.{haltStop, finished, clockOf}
-use Rattle.r6501q_clock.specs.Commit.{putByte, committed}
+use Rattle.r6501q_clock.specs.Commit.{putWrite, committed}
 use Rattle.r6501q_clock.proofs.Ends.{stop-either}
 use Rattle.r6501q_gaps.specs.Events.{hasInput, eventOf}
 use Rattle.r6501q_gaps.specs.Gaps.{gapOf}
@@ -205,25 +205,25 @@ plains-twelve halt n w on = rw (plains-halt halt n w) (by-test (ltb (clocksBefor
 abbrev pub storedIn : Write → List ℕ → List ℕ
 storedIn x memory = cond (ltb (x .address) 0x40) memory (set memory (x .address) (x .value))
 
-put-stored : (x : Write) (memory : List ℕ) → putByte true x memory ≡ storedIn x memory
-unfolding putByte
+put-stored : (x : Write) (memory : List ℕ) → putWrite true x memory ≡ storedIn x memory
+unfolding putWrite
 put-stored x memory = by-test (ltb (x .address) 0x40)
   where
     by-test : (t : Bool) → cond (true && not t) (set memory (x .address) (x .value)) memory ≡ cond t memory (set memory (x .address) (x .value))
     by-test true = refl
     by-test false = refl
 
-turns-same : (l : List Write) (memory : List ℕ) → inTurn (putByte true) l memory ≡ inTurn storedIn l memory
+turns-same : (l : List Write) (memory : List ℕ) → inTurn (putWrite true) l memory ≡ inTurn storedIn l memory
 turns-same [] memory = refl
-turns-same (x ∷ later) memory = turns-same later (putByte true x memory) ∙ ap (inTurn storedIn later) (put-stored x memory)
+turns-same (x ∷ later) memory = turns-same later (putWrite true x memory) ∙ ap (inTurn storedIn later) (put-stored x memory)
 
-no-put : (x : Write) (memory : List ℕ) → putByte false x memory ≡ memory
-unfolding putByte
+no-put : (x : Write) (memory : List ℕ) → putWrite false x memory ≡ memory
+unfolding putWrite
 no-put x memory = refl
 
 committed-told : (memory : List ℕ) (w : Writes) → committed memory w ≡ inTurn storedIn (told w) memory
 unfolding committed
-committed-told memory w = each-told putByte no-put w memory ∙ turns-same (told w) memory
+committed-told memory w = each-told putWrite no-put w memory ∙ turns-same (told w) memory
 
 -- memory after a clock is memory before it with exactly the writes told, in order
 pub memory-told : (halt : Halt) (w : World) → runningIn w ≡ true → plain halt w .memory ≡ inTurn storedIn (told (toldBy (clockIn w))) (w .memory)

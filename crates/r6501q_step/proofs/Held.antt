@@ -24,7 +24,7 @@ use Rattle.r6501q_state.specs.Control.{modeA, modeB}
 use Rattle.r6501q_state.specs.Pins.{driveA, driveD, drivenWord, levelsOf, rose, fell, edges, withEdges, resetOf, sensedAt, sensed}
 use Rattle.r6501q_cpu.specs.Processor.{processorOf}
 use Rattle.r6501q_clock.specs.Clock.{withInputs, inputsSet, countA, countB, sentBy, heardBy, worked, readyOf, finished, clockOf}
-use Rattle.r6501q_clock.specs.Commit.{putByte, committed}
+use Rattle.r6501q_clock.specs.Commit.{putWrite, committed}
 use Rattle.r6501q_gaps.specs.Events.{hasInput, sameLevels, levelsChange, underflowsA, underflowsB, portsFresh, controlFresh, transmitterIdle, receiverIdle, isReset, resetChanges, cpuStarts, putsByte, eventOf}
 use Rattle.r6501q_gaps.specs.Gaps.{runningA, runningB, toInput, toChange, toUnderflowA, toUnderflowB, toReset, toCpu, gapOf}
 use Rattle.r6501q_gaps.proofs.Gaps.{gap-no-event}
@@ -93,12 +93,12 @@ module _ (halt : Halt) (memory times words : List ℕ) where
   -- ---- one clock
 
   at-underflow : (ifr clock : ℕ) → plain halt (heldIn (heldWith 0 ifr clock)) ≡ heldIn (heldWith 0xFFFF 0x30 (clock + 1))
-  unfolding withBit setWhere flipWhere dueCount ticksOf inForce downA countsA clockA reloadB downB clockB transmitterAsynchronous receiverAsynchronous receiverShifting holdsA receiverClock transmitterClock modeA modeB driveA driveD drivenWord levelsOf rose fell edges withEdges resetOf sensedAt sensed withInputs countA countB sentBy heardBy worked readyOf finished clockOf putByte committed processorOf plainOf putRecord byteWaits
+  unfolding withBit setWhere flipWhere dueCount ticksOf inForce downA countsA clockA reloadB downB clockB transmitterAsynchronous receiverAsynchronous receiverShifting holdsA receiverClock transmitterClock modeA modeB driveA driveD drivenWord levelsOf rose fell edges withEdges resetOf sensedAt sensed withInputs countA countB sentBy heardBy worked readyOf finished clockOf putWrite committed processorOf plainOf putRecord byteWaits
   at-underflow ifr clock = rw (unwritten halt noWrites refl)
 
   counted-down : (count ifr clock : ℕ) → eqb count 0 ≡ false
       → plain halt (heldIn (heldWith count ifr clock)) ≡ heldIn (heldWith (count - 1) 0 (clock + 1))
-  unfolding withBit setWhere flipWhere dueCount ticksOf inForce downA countsA clockA reloadB downB clockB transmitterAsynchronous receiverAsynchronous receiverShifting holdsA receiverClock transmitterClock modeA modeB driveA driveD drivenWord levelsOf rose fell edges withEdges resetOf sensedAt sensed withInputs countA countB sentBy heardBy worked readyOf finished clockOf putByte committed processorOf plainOf putRecord byteWaits
+  unfolding withBit setWhere flipWhere dueCount ticksOf inForce downA countsA clockA reloadB downB clockB transmitterAsynchronous receiverAsynchronous receiverShifting holdsA receiverClock transmitterClock modeA modeB driveA driveD drivenWord levelsOf rose fell edges withEdges resetOf sensedAt sensed withInputs countA countB sentBy heardBy worked readyOf finished clockOf putWrite committed processorOf plainOf putRecord byteWaits
   counted-down count ifr clock some = rw (some, unwritten halt noWrites refl)
 
   -- the next clock
@@ -149,15 +149,15 @@ module _ (halt : Halt) (memory times words : List ℕ) where
   -- ---- event clocks
 
   event-at : (ifr clock : ℕ) → eventIn (r6501q halt) (heldIn (heldWith 0 ifr clock)) ≡ true
-  unfolding eventIn hasInput sameLevels levelsChange underflowsA underflowsB portsFresh controlFresh transmitterIdle receiverIdle isReset resetChanges cpuStarts putsByte eventOf withBit setWhere flipWhere dueCount ticksOf inForce downA countsA clockA reloadB downB clockB transmitterAsynchronous receiverAsynchronous receiverShifting holdsA receiverClock transmitterClock modeA modeB driveA driveD drivenWord levelsOf rose fell edges withEdges resetOf sensedAt sensed withInputs countA countB sentBy heardBy worked readyOf finished clockOf putByte committed processorOf plainOf putRecord byteWaits
+  unfolding eventIn hasInput sameLevels levelsChange underflowsA underflowsB portsFresh controlFresh transmitterIdle receiverIdle isReset resetChanges cpuStarts putsByte eventOf withBit setWhere flipWhere dueCount ticksOf inForce downA countsA clockA reloadB downB clockB transmitterAsynchronous receiverAsynchronous receiverShifting holdsA receiverClock transmitterClock modeA modeB driveA driveD drivenWord levelsOf rose fell edges withEdges resetOf sensedAt sensed withInputs countA countB sentBy heardBy worked readyOf finished clockOf putWrite committed processorOf plainOf putRecord byteWaits
   event-at ifr clock = refl
 
   event-after : (clock : ℕ) → eventIn (r6501q halt) (heldIn (heldWith 0xFFFF 0x30 clock)) ≡ true
-  unfolding eventIn hasInput sameLevels levelsChange underflowsA underflowsB portsFresh controlFresh transmitterIdle receiverIdle isReset resetChanges cpuStarts putsByte eventOf withBit setWhere flipWhere dueCount ticksOf inForce downA countsA clockA reloadB downB clockB transmitterAsynchronous receiverAsynchronous receiverShifting holdsA receiverClock transmitterClock modeA modeB driveA driveD drivenWord levelsOf rose fell edges withEdges resetOf sensedAt sensed withInputs countA countB sentBy heardBy worked readyOf finished clockOf putByte committed processorOf plainOf putRecord byteWaits
+  unfolding eventIn hasInput sameLevels levelsChange underflowsA underflowsB portsFresh controlFresh transmitterIdle receiverIdle isReset resetChanges cpuStarts putsByte eventOf withBit setWhere flipWhere dueCount ticksOf inForce downA countsA clockA reloadB downB clockB transmitterAsynchronous receiverAsynchronous receiverShifting holdsA receiverClock transmitterClock modeA modeB driveA driveD drivenWord levelsOf rose fell edges withEdges resetOf sensedAt sensed withInputs countA countB sentBy heardBy worked readyOf finished clockOf putWrite committed processorOf plainOf putRecord byteWaits
   event-after clock = refl
 
   in-gap : (count clock : ℕ) → 0 < count → 0 < gapOf 1 (heldWith count 0 clock) [] .0
-  unfolding gapOf toInput toChange toUnderflowA toUnderflowB toReset toCpu runningA runningB runsA runsB eventIn hasInput sameLevels levelsChange underflowsA underflowsB portsFresh controlFresh transmitterIdle receiverIdle isReset resetChanges cpuStarts putsByte eventOf withBit setWhere flipWhere dueCount ticksOf inForce downA countsA clockA reloadB downB clockB transmitterAsynchronous receiverAsynchronous receiverShifting holdsA receiverClock transmitterClock modeA modeB driveA driveD drivenWord levelsOf rose fell edges withEdges resetOf sensedAt sensed withInputs countA countB sentBy heardBy worked readyOf finished clockOf putByte committed processorOf plainOf putRecord byteWaits
+  unfolding gapOf toInput toChange toUnderflowA toUnderflowB toReset toCpu runningA runningB runsA runsB eventIn hasInput sameLevels levelsChange underflowsA underflowsB portsFresh controlFresh transmitterIdle receiverIdle isReset resetChanges cpuStarts putsByte eventOf withBit setWhere flipWhere dueCount ticksOf inForce downA countsA clockA reloadB downB clockB transmitterAsynchronous receiverAsynchronous receiverShifting holdsA receiverClock transmitterClock modeA modeB driveA driveD drivenWord levelsOf rose fell edges withEdges resetOf sensedAt sensed withInputs countA countB sentBy heardBy worked readyOf finished clockOf putWrite committed processorOf plainOf putRecord byteWaits
   in-gap count clock some = omega (arith, some)
 
   no-event : (count clock : ℕ) → 0 < count → eventIn (r6501q halt) (heldIn (heldWith count 0 clock)) ≡ false
@@ -165,7 +165,7 @@ module _ (halt : Halt) (memory times words : List ℕ) where
   no-event count clock some = gap-no-event 1 (heldWith count 0 clock) [] (in-gap count clock some)
 
   done-at : (count ifr clock : ℕ) → doneIn (r6501q halt) (heldIn (heldWith count ifr clock)) ≡ true
-  unfolding doneIn withBit setWhere flipWhere dueCount ticksOf inForce downA countsA clockA reloadB downB clockB transmitterAsynchronous receiverAsynchronous receiverShifting holdsA receiverClock transmitterClock modeA modeB driveA driveD drivenWord levelsOf rose fell edges withEdges resetOf sensedAt sensed withInputs countA countB sentBy heardBy worked readyOf finished clockOf putByte committed processorOf plainOf putRecord byteWaits
+  unfolding doneIn withBit setWhere flipWhere dueCount ticksOf inForce downA countsA clockA reloadB downB clockB transmitterAsynchronous receiverAsynchronous receiverShifting holdsA receiverClock transmitterClock modeA modeB driveA driveD drivenWord levelsOf rose fell edges withEdges resetOf sensedAt sensed withInputs countA countB sentBy heardBy worked readyOf finished clockOf putWrite committed processorOf plainOf putRecord byteWaits
   done-at count ifr clock = by-test (eqb count 0) refl
     where
       by-test : (t : Bool) → eqb count 0 ≡ t → doneIn (r6501q halt) (heldIn (heldWith count ifr clock)) ≡ true

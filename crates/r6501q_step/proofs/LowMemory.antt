@@ -21,7 +21,7 @@ use Rattle.r6501q_cpu.specs.Processor.{registersOf, registerFile, performedIn, 
 use Rattle.r6501q_clock.specs.declared.Clocked.{Clocked}
 use Rattle.r6501q_clock.specs.declared.Clocked.the-variants.{Stopped, Done}
 use Rattle.r6501q_clock.specs.Clock.{readyOf, recorded, clockOf}
-use Rattle.r6501q_clock.specs.Commit.{putByte, committed}
+use Rattle.r6501q_clock.specs.Commit.{putWrite, committed}
 use Rattle.leaps.specs.World.{after, dueIn, runningIn, plainOf}
 use Rattle.leaps.proofs.Along.{Unseen}
 use Rattle.cpu_access.specs.declared.halt.Halt.{Halt}
@@ -69,8 +69,8 @@ module _ (low : List ℕ) (whole : length low ≡ registerEnd) where
   low-same m a h = low-byte low m a whole h
 
   -- the writes of a clock touch no byte there
-  put-low : (there : Bool) (w : Write) (m : List ℕ) → putByte there w (withLow low m) ≡ withLow low (putByte there w m)
-  unfolding putByte
+  put-low : (there : Bool) (w : Write) (m : List ℕ) → putWrite there w (withLow low m) ≡ withLow low (putWrite there w m)
+  unfolding putWrite
   put-low there w m = by-place there (isRegister (w .address)) refl
     where
       by-place : (t r : Bool) → isRegister (w .address) ≡ r

@@ -3,6 +3,7 @@ ghost use mathlib.Core.Path.{_≡_};
 ghost use Prim.Native.Nat.{_+_, _≤_, _<_, _^_};
 ghost use lib.ListN.{length, take, drop};
 ghost use Rattle.bits.specs.Bits.{digit};
+ghost use Rattle.page_sums.specs.PageSums.{sumsAfter};
 ghost use Rattle.pin_lists.specs.PinLists.{dueCount};
 ghost use Rattle.refusals.specs.Refusals.{lastClock, refusalOf};
 ghost use Rattle.leaps.specs.World.{putRecord};
@@ -19,6 +20,8 @@ use cpu_access::halt::Halt;
 use cpu_access::halt::halts;
 use cpu_access::stack::Writes;
 use memory::MEMORY_SPAN;
+use page_sums::WRONG_PAGE_LIST;
+use page_sums::page_list_refused;
 use pin_lists::inputs_due;
 use r6501q_clock::Clocked;
 use r6501q_clock::Ended;
@@ -111,6 +114,7 @@ fn complete(
     due: usize,
     ended: Ended,
     memory: &mut [u8],
+    sums: &mut [u16],
     outputclocks: &mut [u32],
     outputwords: &mut [u32],
     halt: Halt,
@@ -122,11 +126,12 @@ fn complete(
         ≡ putRecord (ended .differs) (p .written) (ended .state .clock) (now (outputclocks .entry)) ⌝ }
     ensures { λ _. ⌜ now (outputwords .exit)
         ≡ putRecord (ended .differs) (p .written) (ended .word) (now (outputwords .entry)) ⌝ }
+    ensures { λ _. ⌜ now (sums .exit) ≡ sumsAfter (now (sums .entry)) (now (memory .entry)) (now (memory .exit)) ⌝ }
 {
     let state = ended.state;
     let written = p.written;
     let differs = ended.differs;
-    commit(memory, ended.writes);
+    commit(memory, sums, ended.writes);
     put_record(outputclocks, differs, written, state.clock);
     put_record(outputwords, differs, written, ended.word);
     Progress {
@@ -154,6 +159,7 @@ fn stop_at(number: u8, p: Progress) -> Progress
 pub fn advance(
     p: Progress,
     memory: &mut [u8],
+    sums: &mut [u16],
     inputclocks: &[u32],
     inputcodes: &[u8],
     outputclocks: &mut [u32],
@@ -167,13 +173,14 @@ pub fn advance(
         (now (outputclocks .exit)) (now (outputwords .exit))
         ≡ plain halt (worldOf p (now (memory .entry)) (now (inputclocks .entry)) (now (inputcodes .entry))
         (now (outputclocks .entry)) (now (outputwords .entry))) ⌝ }
+    ensures { λ _. ⌜ now (sums .exit) ≡ sumsAfter (now (sums .entry)) (now (memory .entry)) (now (memory .exit)) ⌝ }
 {
     let due = due_from(inputclocks, p.read, p.state.clock + 1);
     let free = p.written < outputclocks.len();
     let clocked = outcome_from(p, due, memory, inputcodes, free, entries);
     match clocked {
         Clocked::Stopped(number) => stop_at(number, p),
-        Clocked::Done(ended) => complete(p, due, ended, memory, outputclocks, outputwords, halt),
+        Clocked::Done(ended) => complete(p, due, ended, memory, sums, outputclocks, outputwords, halt),
     }
 }
 
@@ -260,10 +267,11 @@ pub fn begin(state: State) -> Progress
     }
 }
 
-// The single-clock call, which says so where its clock writes the halt address.
-pub fn step(
+// One clock of memory and its page sums, however many sums are lent.
+fn step_into(
     state: State,
     memory: &mut [u8],
+    sums: &mut [u16],
     inputclocks: &[u32],
     inputcodes: &[u8],
     outputclocks: &mut [u32],
@@ -273,6 +281,7 @@ pub fn step(
     ensures { λ r. ⌜ handed r (now (memory .exit)) (now (outputclocks .exit)) (now (outputwords .exit))
         ≡ stepOf (machine halt) (callStart state (now (memory .entry)) (now (inputclocks .entry))
         (now (inputcodes .entry)) (now (outputclocks .entry)) (now (outputwords .entry))) ⌝ }
+    ensures { λ _. ⌜ now (sums .exit) ≡ sumsAfter (now (sums .entry)) (now (memory .entry)) (now (memory .exit)) ⌝ }
 {
     let number = call_refusal(
         state,
@@ -290,6 +299,7 @@ pub fn step(
     let end = advance(
         begin(state),
         memory,
+        sums,
         inputclocks,
         inputcodes,
         outputclocks,
@@ -299,4 +309,62 @@ pub fn step(
     );
     let leaps = leaps_from(state.clock, end.state.clock);
     result_of(leaps, end)
+}
+
+// The single-clock call, which says so where its clock writes the halt address.
+pub fn step(
+    state: State,
+    memory: &mut [u8],
+    inputclocks: &[u32],
+    inputcodes: &[u8],
+    outputclocks: &mut [u32],
+    outputwords: &mut [u32],
+    halt: Halt,
+) -> CallResult
+    ensures { λ r. ⌜ handed r (now (memory .exit)) (now (outputclocks .exit)) (now (outputwords .exit))
+        ≡ stepOf (machine halt) (callStart state (now (memory .entry)) (now (inputclocks .entry))
+        (now (inputcodes .entry)) (now (outputclocks .entry)) (now (outputwords .entry))) ⌝ }
+{
+    let mut none = [0u16; 0];
+    step_into(
+        state,
+        memory,
+        &mut none,
+        inputclocks,
+        inputcodes,
+        outputclocks,
+        outputwords,
+        halt,
+    )
+}
+
+// The single-clock call of a memory with its 256 page sums; the list of sums is looked at behind the memory.
+pub fn step_with_sums(
+    state: State,
+    memory: &mut [u8],
+    sums: &mut [u16],
+    inputclocks: &[u32],
+    inputcodes: &[u8],
+    outputclocks: &mut [u32],
+    outputwords: &mut [u32],
+    halt: Halt,
+) -> CallResult
+    ensures { λ r. ⌜ handed r (now (memory .exit)) (now (outputclocks .exit)) (now (outputwords .exit))
+        ≡ withSums (now (sums .entry)) (stepOf (machine halt)) (callStart state (now (memory .entry))
+        (now (inputclocks .entry)) (now (inputcodes .entry)) (now (outputclocks .entry)) (now (outputwords .entry))) ⌝ }
+    ensures { λ _. ⌜ now (sums .exit) ≡ sumsAfter (now (sums .entry)) (now (memory .entry)) (now (memory .exit)) ⌝ }
+{
+    if page_list_refused(memory.len(), sums.len()) {
+        return refused(WRONG_PAGE_LIST, state);
+    }
+    step_into(
+        state,
+        memory,
+        sums,
+        inputclocks,
+        inputcodes,
+        outputclocks,
+        outputwords,
+        halt,
+    )
 }

@@ -1,0 +1,32 @@
+-- Document 02, U7: calls on a chip with its memory and page sums, of any chip.
+use mathlib.Core.Bool.{true, false, cond}
+use mathlib.Core.List.{List, [], _∷_}
+use Prim.Native.Nat.{ℕ}
+use lib.ListN.{length}
+use Rattle.page_sums.specs.PageSums.{pageListRefused, sumsAfter}
+use Rattle.leaps.specs.Chip.{Chip}
+use Rattle.leaps.specs.World.{WorldOf, runningIn}
+use Rattle.leaps.specs.Lists.{Call, callOf, Listed, listed}
+use Rattle.leaps.specs.Calls.{ResultOf, HandedOf, refusedHanded, lentOf, afterCallOf, machineOf}
+
+-- "13: a page list not of 256 sums, like 1 and directly after it", so it hands back what 1 does; "Unless 13 refuses it, a
+-- run with sums moves the machine just as a run lacking them." What becomes of the sums is said of every change of a
+-- memory (`sumsAfter`).
+unfoldable pub withSums : {S : Type 0} → List ℕ → (WorldOf S → HandedOf S) → WorldOf S → HandedOf S
+withSums sums call w = cond (pageListRefused (length (w .memory)) (length sums)) (refusedHanded 13 w) (call w)
+
+-- where a list of calls with sums leads to, the result of each, and the sums
+pub record ListedSums (S : Type 0) : Type 0 where
+  pub listed : Listed (WorldOf S) (ResultOf S)
+  pub sums : List ℕ
+
+-- demand 3's list, each call with the sums that the last one left
+unfoldable pub callsWithSums : {S : Type 0} → Chip S → List Call → List ℕ → WorldOf S → ListedSums S
+callsWithSums C [] sums w = record { listed = record { world = w; results = [] }; sums = sums }
+callsWithSums C (c ∷ cs) sums w =
+    elim (runningIn w) [
+      | true ↦ let h = withSums sums (callOf (machineOf C) c) (lentOf w) in
+          let later = callsWithSums C cs (sumsAfter sums (w .memory) (h .memory)) (afterCallOf w h) in
+          record { listed = listed (h .result) (later .listed); sums = later .sums }
+      | false ↦ record { listed = record { world = w; results = [] }; sums = sums }
+    ]
