@@ -1,4 +1,7 @@
 use mathlib.Core.Path.{refl, sym, _∙_}
+use denote.Ref.{now}
+use native.Mathlib.Omega.{arith}
+use Rattle.page_sums.proofs.Sums.{Words, sums-kept}
 use Rattle.r6501q_spans.specs.Spans.{continuedBy, committedBy}
 use borrow.Author.Needs.{needs}
 use Rattle.r6501q_spans.proofs.continue_work.Statement.{statement}
@@ -12,49 +15,56 @@ use Rattle.r6501q_clock.proofs.commit.commit.Reads as commit-reads
 use Rattle.r6501q_spans.proofs.ends_span.Reads as ends-span-reads
 use Rattle.r6501q_spans.proofs.none_waiting.Reads as none-waiting-reads
 
--- src/lib.rt:125:9
+-- src/lib.rt:127:9
 pushes-of-requires : tie.Need-pushes-of-requires
 pushes-of-requires c κs = search needs
 
--- src/lib.rt:126:8
+-- src/lib.rt:128:8
 ends-span-requires : tie.Need-ends-span-requires
 ends-span-requires c κs = search needs
 
--- src/lib.rt:127:9
+-- src/lib.rt:129:9
 none-waiting-requires : tie.Need-none-waiting-requires
 none-waiting-requires c κs = search needs
 
--- src/lib.rt:127:9
+-- src/lib.rt:129:9
 returns : tie.Need-returns
 unfolding continuedBy committedBy
 returns c =
+    let at = c .before .before .before .before .before .before .args in
+    let words : Words (now (at .sums)) = λ p. omega (arith, c .before .before .before .before .slice-known2 .given p) in
     let w = c .before .before .before .pushes-of .ensures in
     let e = sym (c .before .before .ends-span .ensures) ∙ c .before .if1 .taken in
-    (rw (← w, e) (c .none-waiting .ensures), rw (← w, e) refl)
+    (rw (← w, e) (c .none-waiting .ensures), (rw (← w, e) refl, sums-kept 0 (now (at .sums)) (now (at .memory)) words))
 
--- src/lib.rt:129:5
+-- src/lib.rt:131:5
 commit-requires : tie.Need-commit-requires
 commit-requires c κs = search needs
 
--- src/lib.rt:131:15
+-- src/lib.rt:133:15
 next-work-requires : tie.Need-next-work-requires
 next-work-requires c κs = search needs
 
--- src/lib.rt:132:18
+-- src/lib.rt:134:18
 waiting-of-requires : tie.Need-waiting-of-requires
 waiting-of-requires c κs = search needs
 
--- src/lib.rt:119:1
+-- src/lib.rt:120:1
 same-length : tie.Need-same-length
 same-length c = search needs
 
--- src/lib.rt:119:1
+-- src/lib.rt:120:1
+same-length-2 : tie.Need-same-length-2
+same-length-2 c = search needs
+
+-- src/lib.rt:120:1
 returns-2 : tie.Need-returns-2
 unfolding continuedBy committedBy
 returns-2 c =
-    let w = c .before .before .before .before .before .before .before .before .pushes-of .ensures in
-    let e = sym (c .before .before .before .before .before .before .before .ends-span .ensures) ∙ c .before .before .before .before .before .before .if1 .left in
-    (rw (← w, e, c .before .next-work .ensures, c .waiting-of .ensures) refl, rw (← w, e) (c .before .before .before .before .commit .ensures))
+    let w = c .before .before .before .before .before .before .before .before .before .before .before .pushes-of .ensures in
+    let e = sym (c .before .before .before .before .before .before .before .before .before .before .ends-span .ensures) ∙ c .before .before .before .before .before .before .before .before .before .if1 .left in
+    let put = c .before .before .before .before .before .before .commit .ensures in
+    (rw (← w, e, c .before .next-work .ensures, c .waiting-of .ensures) refl, (rw (← w, e) (put .0), put .1))
 
 pub continue-work-spec : {M : Type 1} → statement M
 continue-work-spec =
@@ -68,4 +78,5 @@ continue-work-spec =
     next-work-requires
     waiting-of-requires
     same-length
+    same-length-2
     returns-2)
