@@ -26,19 +26,24 @@ thirteen-no-stop = refl
 -- ---- one call
 
 module _ {S : Type 0} (sums : List ℕ) (call : WorldOf S → HandedOf S) (w : WorldOf S) where
+  pub list-refused : pageListRefused (length (w .memory)) (length sums) ≡ true → withSums sums call w ≡ refusedHanded 13 w
+  unfolding withSums
+  list-refused wrong = rw wrong
+
+  pub list-accepted : pageListRefused (length (w .memory)) (length sums) ≡ false → withSums sums call w ≡ call w
+  unfolding withSums
+  list-accepted right = rw right
+
   -- 13 comes behind 1
   pub memory-first : (length (w .memory) ≡ memorySpan → ⊥) → withSums sums call w ≡ call w
-  unfolding withSums
-  memory-first m = rw (memory-wrong (length (w .memory)) (length sums) m)
+  memory-first m = list-accepted (memory-wrong (length (w .memory)) (length sums) m)
 
   pub list-next : length (w .memory) ≡ memorySpan → (length sums ≡ pageCount → ⊥) → withSums sums call w ≡ refusedHanded 13 w
-  unfolding withSums
-  list-next m n = rw (list-wrong (length (w .memory)) (length sums) m n)
+  list-next m n = list-refused (list-wrong (length (w .memory)) (length sums) m n)
 
   -- "Unless 13 refuses it, a run with sums moves the machine just as a run lacking them."
   pub moves-alike : length sums ≡ pageCount → withSums sums call w ≡ call w
-  unfolding withSums
-  moves-alike n = rw (list-right (length (w .memory)) (length sums) n)
+  moves-alike n = list-accepted (list-right (length (w .memory)) (length sums) n)
 
 -- ---- a list of calls
 
@@ -105,17 +110,17 @@ module _ {S : Type 0} (C : Chip S) where
           )
 
   -- with another number of sums, and a memory of 65,536 bytes, each is refused by 13 and hands on
-  pub list-refused : (cs : List Call) (sums : List ℕ) (w : WorldOf S) → length (w .memory) ≡ memorySpan
+  pub calls-refused : (cs : List Call) (sums : List ℕ) (w : WorldOf S) → length (w .memory) ≡ memorySpan
       → (length sums ≡ pageCount → ⊥) → Words sums → w .stop ≡ 0
       → callsWithSums C cs sums w ≡ listedSums (record { world = w; results = map (λ (c : Call). refusedWith 13 (w .state)) cs }) sums
   unfolding callsWithSums
-  list-refused [] sums w m n words on = refl
-  list-refused (c ∷ cs) sums w m n words on =
+  calls-refused [] sums w m n words on = refl
+  calls-refused (c ∷ cs) sums w m n words on =
       rw (
         going c cs sums w (rw on refl) (refusedHanded 13 (lentOf w)) (list-next sums (callOf (machineOf C) c) (lentOf w) m n),
         refused-hands-on 13 w thirteen-no-stop on,
         sym (sums-kept 0 sums (w .memory) words),
-        list-refused cs sums w m n words on,
+        calls-refused cs sums w m n words on,
       )
 
 -- DEMAND 3 of a list of calls with 256 sums: what plain clocks say, and the sums changed by exactly what the pages' bytes

@@ -6,6 +6,7 @@ ghost use Rattle.page_sums.specs.PageSums.{sumsAfter};
 ghost use Rattle.leaps.specs.Leaps.{leapOf, leftAfter};
 ghost use Rattle.leaps.specs.Lists.{runOf, plainRunOf};
 ghost use Rattle.leaps.specs.Calls.{callStart};
+ghost use Rattle.leaps.specs.Summed.{withSums};
 ghost use Rattle.cpu_opcodes.specs.Table.{opcodeTable};
 ghost use Rattle.r6501q_gaps.specs.Gaps.{gapOf, clocksOf};
 ghost use Rattle.r6501q_step.specs.R6501q.{chip, machine};

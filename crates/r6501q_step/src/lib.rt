@@ -9,6 +9,7 @@ ghost use Rattle.refusals.specs.Refusals.{lastClock, refusalOf};
 ghost use Rattle.leaps.specs.World.{putRecord};
 ghost use Rattle.leaps.specs.Lists.{stepOf};
 ghost use Rattle.leaps.specs.Calls.{callStart};
+ghost use Rattle.leaps.specs.Summed.{withSums};
 ghost use Rattle.cpu_opcodes.specs.Table.{opcodeTable};
 ghost use Rattle.r6501q_state.specs.State.{wellFormed};
 ghost use Rattle.r6501q_clock.specs.Clock.{clockOf};
