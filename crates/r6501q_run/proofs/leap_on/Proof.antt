@@ -1,9 +1,12 @@
-use borrow.Author.Needs.{needs}
 use denote.Ref.{now}
-use mathlib.Core.Path.{refl, sym, _∙_}
-use Rattle.r6501q_run.proofs.Runs.{Running, goes-some, goes-unstopped, later-run, later-leaping, later-bound, run-ended}
+use mathlib.Core.Path.{_≡_, refl, ap, sym, _∙_}
+use lib.ListN.{length}
 use native.Mathlib.Omega.{arith}
+use Rattle.page_sums.specs.PageSums.{sumsAfter}
+use Rattle.page_sums.proofs.Sums.{Words, sums-kept, sums-then, sums-length}
+use Rattle.r6501q_run.proofs.Runs.{Running, goes-some, goes-unstopped, later-run, later-leaping, later-bound, run-ended}
 use Rattle.r6501q_run.proofs.Spanned.{run-later, leaping-later}
+use borrow.Author.Needs.{needs}
 use Rattle.r6501q_run.proofs.leap_on.Statement.{statement}
 use Rattle.r6501q_run.proofs.leap_on.Tie as tie
 use Rattle.r6501q_run.proofs.leap_on.Reads as reads
@@ -13,88 +16,113 @@ use Rattle.r6501q_run.proofs.leap_once.Reads as leap-once-reads
 use Rattle.r6501q_run.proofs.leap_span.Reads as leap-span-reads
 
 abbrev Inv-loop : tie.InvT-loop
-Inv-loop memory₀ clocks codes times₀ words₀ entries halt at₀ memory times words at = Running halt at₀ memory₀ clocks codes times₀ words₀ memory times words at
+Inv-loop memory₀ sums₀ inputclocks inputcodes outputclocks₀ outputwords₀ entries halt at₀ memory sums outputclocks outputwords at = Running halt at₀ memory₀ inputclocks inputcodes outputclocks₀ outputwords₀ memory outputclocks outputwords at × (sums ≡ sumsAfter sums₀ memory₀ memory)
 
 abbrev μ-loop : tie.MeasureT-loop
-μ-loop memory₀ clocks codes times₀ words₀ entries halt at₀ memory times words at = at .left .0
+μ-loop memory₀ sums₀ inputclocks inputcodes outputclocks₀ outputwords₀ entries halt at₀ memory sums outputclocks outputwords at = at .left .0
 
--- src/lib.rt:144:5
+-- src/lib.rt:277:5
 loop-holds : tie.Need-loop-holds Inv-loop μ-loop
 loop-holds c =
-    let root = c .before .before .before .before .before .before in
-    record { run = refl; leaping = root .pre .0; bound = root .pre .1 .0; memory-kept = refl; times-kept = refl; words-kept = refl }
+    let root = c .before .before .before .before .before .before .before in
+    let at = root .args in
+    let words : Words (now (at .sums)) = λ p. omega (arith, c .before .before .before .before .before .slice-known2 .given p) in
+    (
+      record { run = refl; leaping = root .pre .0; bound = root .pre .1 .0; memory-kept = refl; times-kept = refl; words-kept = refl },
+      sums-kept 0 (now (at .sums)) (now (at .memory)) words,
+    )
 
--- src/lib.rt:144:11
+-- src/lib.rt:277:11
 goes-on-requires : tie.Need-goes-on-requires Inv-loop μ-loop
 goes-on-requires c κs = search needs
 
--- src/lib.rt:145:9
+-- src/lib.rt:278:9
 leap-once-requires : tie.Need-leap-once-requires Inv-loop μ-loop
 leap-once-requires c κs =
-    let at = c .before .before .before .before .before .loop in
-    let on = sym (c .before .before .before .before .goes-on .ensures) ∙ c .before .before .before .if1 .taken in
-    (at .inv .leaping, ((goes-some (at .at) on, goes-unstopped (at .at) on), (at .inv .bound, c .before .before .before .before .before .before .before .before .before .before .before .before .pre .1 .1)))
+    let loop = c .before .before .before .before .before .before .loop in
+    let on = sym (c .before .before .before .before .before .goes-on .ensures) ∙ c .before .before .before .before .if1 .taken in
+    (loop .inv .0 .leaping, ((goes-some (loop .at) on, goes-unstopped (loop .at) on), (loop .inv .0 .bound, c .before .before .before .before .before .before .before .before .before .before .before .before .before .before .pre .1 .1)))
 
--- src/lib.rt:144:5
+-- src/lib.rt:289:9
 leap-span-requires : tie.Need-leap-span-requires Inv-loop μ-loop
 leap-span-requires c κs =
-    let root = c .before .before .before .before .before .before .before .before .before .before .before .before .before .before .before .before .before .before .before .before in
-    let at = c .before .before .before .before .before .before .before .before .before .before .before .before .before .loop in
-    let done = c .before .before .before .before .before .before .before .leap-once in
-    let on = sym (c .before .before .before .before .before .before .before .before .before .before .before .before .goes-on .ensures) ∙ c .before .before .before .before .before .before .before .before .before .before .before .if1 .taken in
-    let some = goes-some (at .at) on in
-    let unstopped = goes-unstopped (at .at) on in
-    let l = later-leaping (root .args .halt) (at .memory) (now (root .args .inputclocks)) (now (root .args .inputcodes)) (at .outputclocks) (at .outputwords) _ _ _ (at .at) (done .result) (at .inv .leaping) some unstopped (at .inv .bound) (done .ensures .0) (done .ensures .1 .0) (done .ensures .1 .1) in
-    ((l .clock, later-bound (root .args .halt) (at .memory) (now (root .args .inputclocks)) (now (root .args .inputcodes)) (at .outputclocks) (at .outputwords) _ _ _ (at .at) (done .result) (at .inv .leaping) some unstopped (at .inv .bound) (done .ensures .0) (done .ensures .1 .0) (done .ensures .1 .1) .0), (l .read, root .pre .1 .1))
+    let root = c .before .before .before .before .before .before .before .before .before .before .before .before .before .before .before .before .before .before .before .before .before .before .before .before .before in
+    let at = root .args in
+    let loop = c .before .before .before .before .before .before .before .before .before .before .before .before .before .before .before .before .before .loop in
+    let done = c .before .before .before .before .before .before .before .before .before .before .leap-once in
+    let on = sym (c .before .before .before .before .before .before .before .before .before .before .before .before .before .before .before .before .goes-on .ensures) ∙ c .before .before .before .before .before .before .before .before .before .before .before .before .before .before .before .if1 .taken in
+    let some = goes-some (loop .at) on in
+    let unstopped = goes-unstopped (loop .at) on in
+    let l = later-leaping (at .halt) (loop .memory) (now (at .inputclocks)) (now (at .inputcodes)) (loop .outputclocks) (loop .outputwords) _ _ _ (loop .at) (done .result) (loop .inv .0 .leaping) some unstopped (loop .inv .0 .bound) (done .ensures .0) (done .ensures .1 .0) (done .ensures .1 .1 .0) in
+    let fits = later-bound (at .halt) (loop .memory) (now (at .inputclocks)) (now (at .inputcodes)) (loop .outputclocks) (loop .outputwords) _ _ _ (loop .at) (done .result) (loop .inv .0 .leaping) some unstopped (loop .inv .0 .bound) (done .ensures .0) (done .ensures .1 .0) (done .ensures .1 .1 .0) in
+    ((l .clock, fits .0), (l .read, root .pre .1 .1))
 
--- src/lib.rt:144:5
+-- src/lib.rt:277:5
 loop-less : tie.Need-loop-less Inv-loop μ-loop
 loop-less c =
-    let root = c .before .before .before .before .before .before .before .before .before .before .before .before .before .before .before .before .before .before .before .before .before .before .before in
-    let at = c .before .before .before .before .before .before .before .before .before .before .before .before .before .before .before .before .loop in
-    let done = c .before .before .before .before .before .before .before .before .before .before .leap-once in
-    let on = sym (c .before .before .before .before .before .before .before .before .before .before .before .before .before .before .before .goes-on .ensures) ∙ c .before .before .before .before .before .before .before .before .before .before .before .before .before .before .if1 .taken in
-    let some = goes-some (at .at) on in
-    let unstopped = goes-unstopped (at .at) on in
-    omega (arith, c .before .before .leap-span .ensures .left, later-bound (root .args .halt) (at .memory) (now (root .args .inputclocks)) (now (root .args .inputcodes)) (at .outputclocks) (at .outputwords) _ _ _ (at .at) (done .result) (at .inv .leaping) some unstopped (at .inv .bound) (done .ensures .0) (done .ensures .1 .0) (done .ensures .1 .1) .1)
+    let root = c .before .before .before .before .before .before .before .before .before .before .before .before .before .before .before .before .before .before .before .before .before .before .before .before .before .before .before .before .before .before in
+    let at = root .args in
+    let loop = c .before .before .before .before .before .before .before .before .before .before .before .before .before .before .before .before .before .before .before .before .before .before .loop in
+    let done = c .before .before .before .before .before .before .before .before .before .before .before .before .before .before .before .leap-once in
+    let on = sym (c .before .before .before .before .before .before .before .before .before .before .before .before .before .before .before .before .before .before .before .before .before .goes-on .ensures) ∙ c .before .before .before .before .before .before .before .before .before .before .before .before .before .before .before .before .before .before .before .before .if1 .taken in
+    let some = goes-some (loop .at) on in
+    let unstopped = goes-unstopped (loop .at) on in
+    let fits = later-bound (at .halt) (loop .memory) (now (at .inputclocks)) (now (at .inputcodes)) (loop .outputclocks) (loop .outputwords) _ _ _ (loop .at) (done .result) (loop .inv .0 .leaping) some unstopped (loop .inv .0 .bound) (done .ensures .0) (done .ensures .1 .0) (done .ensures .1 .1 .0) in
+    omega (arith, c .before .before .before .before .leap-span .ensures .0 .left, fits .1)
 
--- src/lib.rt:144:5
+-- src/lib.rt:277:5
 loop-again : tie.Need-loop-again Inv-loop μ-loop
 loop-again c =
-    let root = c .before .before .before .before .before .before .before .before .before .before .before .before .before .before .before .before .before .before .before .before .before .before .before in
-    let at = c .before .before .before .before .before .before .before .before .before .before .before .before .before .before .before .before .loop in
-    let done = c .before .before .before .before .before .before .before .before .before .before .leap-once in
-    let on = sym (c .before .before .before .before .before .before .before .before .before .before .before .before .before .before .before .goes-on .ensures) ∙ c .before .before .before .before .before .before .before .before .before .before .before .before .before .before .if1 .taken in
-    let some = goes-some (at .at) on in
-    let unstopped = goes-unstopped (at .at) on in
-    let span = c .before .before .leap-span in
-    record {
-      run = run-later (root .args .halt) (done .result) (span .result) _ _ (now (root .args .inputclocks)) (now (root .args .inputcodes)) _ _ (span .ensures) ∙ later-run (root .args .halt) (at .memory) (now (root .args .inputclocks)) (now (root .args .inputcodes)) (at .outputclocks) (at .outputwords) _ _ _ (at .at) (done .result) (at .inv .leaping) some unstopped (at .inv .bound) (done .ensures .0) (done .ensures .1 .0) (done .ensures .1 .1) ∙ at .inv .run;
-      leaping = leaping-later (root .args .halt) (done .result) (span .result) _ _ (now (root .args .inputclocks)) (now (root .args .inputcodes)) _ _ (span .ensures) (later-leaping (root .args .halt) (at .memory) (now (root .args .inputclocks)) (now (root .args .inputcodes)) (at .outputclocks) (at .outputwords) _ _ _ (at .at) (done .result) (at .inv .leaping) some unstopped (at .inv .bound) (done .ensures .0) (done .ensures .1 .0) (done .ensures .1 .1));
-      bound = omega (arith, span .ensures .bound, later-bound (root .args .halt) (at .memory) (now (root .args .inputclocks)) (now (root .args .inputcodes)) (at .outputclocks) (at .outputwords) _ _ _ (at .at) (done .result) (at .inv .leaping) some unstopped (at .inv .bound) (done .ensures .0) (done .ensures .1 .0) (done .ensures .1 .1) .0);
-      memory-kept = span .kept .1 .0 ∙ done .kept .1 .0 ∙ at .inv .memory-kept;
-      times-kept = done .kept .1 .1 .1 .1 .0 ∙ at .inv .times-kept;
-      words-kept = done .kept .1 .1 .1 .1 .1 .0 ∙ at .inv .words-kept;
-    }
+    let root = c .before .before .before .before .before .before .before .before .before .before .before .before .before .before .before .before .before .before .before .before .before .before .before .before .before .before .before .before .before .before in
+    let at = root .args in
+    let loop = c .before .before .before .before .before .before .before .before .before .before .before .before .before .before .before .before .before .before .before .before .before .before .loop in
+    let done = c .before .before .before .before .before .before .before .before .before .before .before .before .before .before .before .leap-once in
+    let on = sym (c .before .before .before .before .before .before .before .before .before .before .before .before .before .before .before .before .before .before .before .before .before .goes-on .ensures) ∙ c .before .before .before .before .before .before .before .before .before .before .before .before .before .before .before .before .before .before .before .before .if1 .taken in
+    let some = goes-some (loop .at) on in
+    let unstopped = goes-unstopped (loop .at) on in
+    let span = c .before .before .before .before .leap-span in
+    let l = later-leaping (at .halt) (loop .memory) (now (at .inputclocks)) (now (at .inputcodes)) (loop .outputclocks) (loop .outputwords) _ _ _ (loop .at) (done .result) (loop .inv .0 .leaping) some unstopped (loop .inv .0 .bound) (done .ensures .0) (done .ensures .1 .0) (done .ensures .1 .1 .0) in
+    let fits = later-bound (at .halt) (loop .memory) (now (at .inputclocks)) (now (at .inputcodes)) (loop .outputclocks) (loop .outputwords) _ _ _ (loop .at) (done .result) (loop .inv .0 .leaping) some unstopped (loop .inv .0 .bound) (done .ensures .0) (done .ensures .1 .0) (done .ensures .1 .1 .0) in
+    let sums = now (at .sums) in
+    let memory = now (at .memory) in
+    (
+      record {
+        run = run-later (at .halt) (done .result) (span .result) _ _ (now (at .inputclocks)) (now (at .inputcodes)) _ _ (span .ensures .0) ∙ later-run (at .halt) (loop .memory) (now (at .inputclocks)) (now (at .inputcodes)) (loop .outputclocks) (loop .outputwords) _ _ _ (loop .at) (done .result) (loop .inv .0 .leaping) some unstopped (loop .inv .0 .bound) (done .ensures .0) (done .ensures .1 .0) (done .ensures .1 .1 .0) ∙ loop .inv .0 .run;
+        leaping = leaping-later (at .halt) (done .result) (span .result) _ _ (now (at .inputclocks)) (now (at .inputcodes)) _ _ (span .ensures .0) l;
+        bound = omega (arith, span .ensures .0 .bound, fits .0);
+        memory-kept = span .kept .1 .0 ∙ done .kept .1 .0 ∙ loop .inv .0 .memory-kept;
+        times-kept = done .kept .1 .1 .1 .1 .1 .0 ∙ loop .inv .0 .times-kept;
+        words-kept = done .kept .1 .1 .1 .1 .1 .1 .0 ∙ loop .inv .0 .words-kept;
+      },
+      sums-then 0 sums memory (done .last .1 .0) (span .last .1 .0)
+      (sums-then 0 sums memory (loop .memory) (done .last .1 .0) (loop .inv .1) (done .ensures .1 .1 .1)) (span .ensures .1),
+    )
 
--- src/lib.rt:129:1
+-- src/lib.rt:255:1
 same-length : tie.Need-same-length Inv-loop μ-loop
-same-length c = c .before .before .loop .inv .memory-kept
+same-length c = c .before .before .loop .inv .0 .memory-kept
 
--- src/lib.rt:129:1
+-- src/lib.rt:255:1
 same-length-2 : tie.Need-same-length-2 Inv-loop μ-loop
-same-length-2 c = c .before .before .loop .inv .times-kept
+same-length-2 c =
+    let at = c .before .before .before .before .before .before .before .before .before .before .args in
+    ap length (c .before .before .loop .inv .1) ∙ sums-length 0 (now (at .sums)) (now (at .memory)) (c .before .before .loop .memory)
 
--- src/lib.rt:129:1
+-- src/lib.rt:255:1
 same-length-3 : tie.Need-same-length-3 Inv-loop μ-loop
-same-length-3 c = c .before .before .loop .inv .words-kept
+same-length-3 c = c .before .before .loop .inv .0 .times-kept
 
--- src/lib.rt:129:1
+-- src/lib.rt:255:1
+same-length-4 : tie.Need-same-length-4 Inv-loop μ-loop
+same-length-4 c = c .before .before .loop .inv .0 .words-kept
+
+-- src/lib.rt:255:1
 returns : tie.Need-returns Inv-loop μ-loop
 returns c =
-    let at = c .before .before .loop in
+    let at = c .before .before .before .before .before .before .before .before .before .before .args in
+    let loop = c .before .before .loop in
     let over = sym (c .before .goes-on .ensures) ∙ c .if1 .left in
-    run-ended (c .before .before .before .before .before .before .before .before .before .args .halt) (at .at) (at .memory) (now (c .before .before .before .before .before .before .before .before .before .args .inputclocks)) (now (c .before .before .before .before .before .before .before .before .before .args .inputcodes)) (at .outputclocks) (at .outputwords) over ∙ at .inv .run
+    (run-ended (at .halt) (loop .at) (loop .memory) (now (at .inputclocks)) (now (at .inputcodes)) (loop .outputclocks) (loop .outputwords) over ∙ loop .inv .0 .run, loop .inv .1)
 
 pub leap-on-spec : {M : Type 1} → statement M
 leap-on-spec =
@@ -111,4 +139,5 @@ leap-on-spec =
     same-length
     same-length-2
     same-length-3
+    same-length-4
     returns)
