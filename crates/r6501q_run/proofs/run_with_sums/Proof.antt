@@ -1,0 +1,81 @@
+use mathlib.Core.Path.{_≡_, sym, _∙_}
+use mathlib.Core.Bool.{true, false}
+use denote.Ref.{now}
+use lib.ListN.{length}
+use native.Mathlib.Omega.{arith}
+use Rattle.page_sums.specs.PageSums.{pageListRefused}
+use Rattle.page_sums.proofs.Sums.{Words, sums-kept}
+use Rattle.leaps.specs.Lists.{runOf}
+use Rattle.leaps.specs.Calls.{callStart}
+use Rattle.leaps.proofs.Summed.{list-refused, list-accepted}
+use Rattle.r6501q_step.specs.R6501q.{World, machine}
+use borrow.Author.Needs.{needs}
+use Rattle.r6501q_run.proofs.run_with_sums.Statement.{statement}
+use Rattle.r6501q_run.proofs.run_with_sums.Tie as tie
+use Rattle.r6501q_run.proofs.run_with_sums.Reads as reads
+use Rattle.r6501q_run.proofs.run_with_sums.Lts as lts
+use Rattle.page_sums.proofs.page_list_refused.Reads as page-list-refused-reads
+use Rattle.r6501q_run.proofs.run_into.Reads as run-into-reads
+use Rattle.r6501q_step.proofs.refused.Reads as refused-reads
+
+-- src/lib.rt:401:8
+page-list-refused-requires : tie.Need-page-list-refused-requires
+page-list-refused-requires c κs = search needs
+
+-- src/lib.rt:402:9
+refused-requires : tie.Need-refused-requires
+refused-requires c κs = search needs
+
+-- src/lib.rt:402:9
+returns : tie.Need-returns
+returns c =
+    let at = c .before .before .before .before .before .before .before .before .before .args in
+    let start : World = callStart (at .state) (now (at .memory)) (now (at .inputclocks)) (now (at .inputcodes)) (now (at .outputclocks)) (now (at .outputwords)) in
+    let words : Words (now (at .sums)) = λ p. omega (arith, c .before .before .before .before .before .before .before .slice-known2 .given p) in
+    let told : c .before .before .page-list-refused .result ≡ pageListRefused (length (now (at .memory))) (length (now (at .sums))) = c .before .before .page-list-refused .ensures in
+    let wrong : pageListRefused (length (now (at .memory))) (length (now (at .sums))) ≡ true = sym told ∙ c .before .if1 .taken in
+    (rw (c .refused .ensures) (sym (list-refused (now (at .sums)) (runOf (machine (at .halt)) (at .n)) start wrong)), sums-kept 0 (now (at .sums)) (now (at .memory)) words)
+
+-- src/lib.rt:404:5
+run-into-requires : tie.Need-run-into-requires
+run-into-requires c κs = search needs
+
+-- src/lib.rt:385:1
+same-length : tie.Need-same-length
+same-length c = search needs
+
+-- src/lib.rt:385:1
+same-length-2 : tie.Need-same-length-2
+same-length-2 c = search needs
+
+-- src/lib.rt:385:1
+same-length-3 : tie.Need-same-length-3
+same-length-3 c = search needs
+
+-- src/lib.rt:385:1
+same-length-4 : tie.Need-same-length-4
+same-length-4 c = search needs
+
+-- src/lib.rt:385:1
+returns-2 : tie.Need-returns-2
+returns-2 c =
+    let at = c .before .before .before .before .before .before .before .before .before .before .before .before .before .before .before .before .before .before .before .before .before .args in
+    let start : World = callStart (at .state) (now (at .memory)) (now (at .inputclocks)) (now (at .inputcodes)) (now (at .outputclocks)) (now (at .outputwords)) in
+    let told : c .before .before .before .before .before .before .before .before .before .before .before .before .before .before .page-list-refused .result ≡ pageListRefused (length (now (at .memory))) (length (now (at .sums))) = c .before .before .before .before .before .before .before .before .before .before .before .before .before .before .page-list-refused .ensures in
+    let right : pageListRefused (length (now (at .memory))) (length (now (at .sums))) ≡ false = sym told ∙ c .before .before .before .before .before .before .before .before .before .before .before .before .before .if1 .left in
+    let went = c .before .before .before .before .before .before .before .before .run-into .ensures in
+    (went .0 ∙ sym (list-accepted (now (at .sums)) (runOf (machine (at .halt)) (at .n)) start right), went .1 .1)
+
+pub run-with-sums-spec : {M : Type 1} → statement M
+run-with-sums-spec =
+    tie.close
+    (tie.spec
+    page-list-refused-requires
+    refused-requires
+    returns
+    run-into-requires
+    same-length
+    same-length-2
+    same-length-3
+    same-length-4
+    returns-2)
