@@ -4,3 +4,4 @@ pub mod World
 pub mod Lists
 pub mod Calls
 pub mod Summed
+pub mod Shifted

@@ -1,0 +1,173 @@
+-- The theorem of the shifted clock, of calls and of lists of calls.
+use mathlib.Core.Path.{_≡_, refl, sym, ap, _∙_}
+use mathlib.Core.Bool.{Bool, true, false, _&&_, _||_, not, cond, false≢true}
+use mathlib.Core.List.{List, [], _∷_, map}
+use Prim.Native.Nat.{ℕ, _+_, _-_, _≤_, _<_}
+use native.Mathlib.Omega.{arith}
+use lib.Dec.{ltb, eqb}
+use lib.ListN.{length, take, length-map}
+use borrow.Author.Tests.{ltb-true, ltb-false, lt-ltb, le-ltb, eqb-true, eqb-false, eq-eqb, ne-eqb}
+use Rattle.bits.proofs.Cond.{and-left, and-right}
+use Rattle.pin_lists.specs.PinLists.{pinsRight}
+use Rattle.refusals.specs.declared.Limits.{Limits}
+use Rattle.refusals.specs.Refusals.{lastClock, firstOf, refusalOf}
+use Rattle.leaps.specs.Chip.{Chip}
+use Rattle.leaps.specs.Leaps.{Run, plains, movedOf, run, leapCount}
+use Rattle.leaps.specs.World.{WorldOf, plainOf, runningIn, systemOf}
+use Rattle.leaps.specs.Lists.{Machine, Call, countOf, Listed, stepOf, handedRun, runOf, calls, clocksAccepted, resultsBy}
+use Rattle.leaps.specs.Calls.{ResultOf, HandedOf, callStart, handedBackOf, refusedHanded, refusalIn, refusedCall, machineOf, Room}
+use Rattle.leaps.specs.Shifted.{shiftedClocks, ShiftedRecords, shiftedResult, ShiftedWorld, ShiftedHanded, clockRefusal, RefusedAlike, clocksFit}
+use Rattle.leaps.proofs.Chips.{ChipLaws}
+use Rattle.leaps.proofs.Calls as theory
+use Rattle.leaps.proofs.Shifted.{ShiftLaws, ShiftedRun, pins-shifted, shifted-clock, running-shifted, plain-shifted, plains-shifted, moved-shifted, count-shifted, run-shifted}
+
+-- ---- refusals
+
+-- the table's rows, of which only the fourth differs, and is so at the later clock where it is at the earlier
+rows-alike : (one two three late early five : Bool) → (early ≡ true → late ≡ true)
+    → (firstOf ((1, one) ∷ (2, two) ∷ (3, three) ∷ (4, late) ∷ (5, five) ∷ []) ≡ clockRefusal
+    → firstOf ((1, one) ∷ (2, two) ∷ (3, three) ∷ (4, early) ∷ (5, five) ∷ []) ≡ clockRefusal)
+    → firstOf ((1, one) ∷ (2, two) ∷ (3, three) ∷ (4, late) ∷ (5, five) ∷ [])
+    ≡ firstOf ((1, one) ∷ (2, two) ∷ (3, three) ∷ (4, early) ∷ (5, five) ∷ [])
+rows-alike true two three late early five up alike = refl
+rows-alike false true three late early five up alike = refl
+rows-alike false false true late early five up alike = refl
+rows-alike false false false true true five up alike = refl
+rows-alike false false false true false five up alike = sym (alike refl)
+rows-alike false false false false true five up alike = absurd (false≢true (up refl))
+rows-alike false false false false false five up alike = refl
+
+-- the table of a call, of which memory and lists are those of the earlier, but for the clocks
+module _ (limits : Limits) (formed : Bool) (clock span : ℕ) (clocks codes : List ℕ) (times words n k : ℕ) where
+  abbrev rows : Bool → ℕ
+  rows late =
+      firstOf ((1, not (eqb span (limits .memory))) ∷ (2, not formed)
+      ∷ (3, not (eqb (length clocks) (length codes)) || not (eqb times words)) ∷ (4, late)
+      ∷ (5, not (pinsRight (limits .pin) clock clocks codes)) ∷ [])
+
+  rows-shifted : refusalOf limits formed (clock + k) span (shiftedClocks k clocks) codes times words n ≡ rows (ltb lastClock (clock + k + n))
+  unfolding refusalOf
+  rows-shifted = rw (length-map clocks (λ (t : ℕ). t + k), pins-shifted (limits .pin) k clock clocks codes)
+
+  refusal-alike : (refusalOf limits formed (clock + k) span (shiftedClocks k clocks) codes times words n ≡ clockRefusal
+      → refusalOf limits formed clock span clocks codes times words n ≡ clockRefusal)
+      → refusalOf limits formed (clock + k) span (shiftedClocks k clocks) codes times words n
+      ≡ refusalOf limits formed clock span clocks codes times words n
+  unfolding refusalOf
+  refusal-alike alike =
+      rows-shifted
+      ∙ rows-alike (not (eqb span (limits .memory))) (not formed) (not (eqb (length clocks) (length codes)) || not (eqb times words))
+      (ltb lastClock (clock + k + n)) (ltb lastClock (clock + n)) (not (pinsRight (limits .pin) clock clocks codes))
+      (λ h. lt-ltb lastClock (clock + k + n) (omega (arith, ltb-true lastClock (clock + n) h)))
+      (λ e. alike (rows-shifted ∙ e))
+
+-- clocks that fit are not refused with 4
+fit-number : (limits : Limits) (formed : Bool) (clock span : ℕ) (clocks codes : List ℕ) (times words n : ℕ) → clock + n ≤ lastClock
+    → refusalOf limits formed clock span clocks codes times words n ≡ clockRefusal → ⊥
+unfolding refusalOf
+fit-number limits formed clock span clocks codes times words n h e =
+    other (not (eqb span (limits .memory))) (not formed) (not (eqb (length clocks) (length codes)) || not (eqb times words))
+    (not (pinsRight (limits .pin) clock clocks codes)) (rw (le-ltb lastClock (clock + n) h) at e)
+  where
+    other : (one two three five : Bool) → firstOf ((1, one) ∷ (2, two) ∷ (3, three) ∷ (4, false) ∷ (5, five) ∷ []) ≡ clockRefusal → ⊥
+    other true two three five e = omega arith
+    other false true three five e = omega arith
+    other false false true five e = omega arith
+    other false false false true e = omega arith
+    other false false false false e = omega arith
+
+module _ {S : Type 0} (C : Chip S) (shift : ℕ → S → S) (L : ShiftLaws C shift) (k : ℕ) where
+  abbrev Alike : WorldOf S → WorldOf S → Type 0
+  Alike = ShiftedWorld shift k
+
+  abbrev M : Machine (WorldOf S) (HandedOf S) (ResultOf S)
+  M = machineOf C
+
+  -- 4 is the only refusal that can differ: all others are alike
+  pub refusal-shifted : (n : ℕ) (w v : WorldOf S) → Alike w v → RefusedAlike C n w v → refusalIn C n v ≡ refusalIn C n w
+  refusal-shifted n w v r alike =
+      by-parts (C .wellFormed (v .state)) (C .clock (v .state)) (length (v .memory)) (v .inputClocks) (v .inputCodes)
+      (length (v .outputClocks)) (length (v .outputWords)) (ap (C .wellFormed) (r .state) ∙ L .formed k (w .state)) (shifted-clock C shift L k w v r)
+      (ap length (r .memory)) (r .inputClocks) (r .inputCodes) (r .records .clockSpace) (r .records .wordSpace) alike
+    where
+      by-parts : (formed : Bool) (clock span : ℕ) (clocks codes : List ℕ) (times words : ℕ)
+          → formed ≡ C .wellFormed (w .state) → clock ≡ C .clock (w .state) + k → span ≡ length (w .memory)
+          → clocks ≡ shiftedClocks k (w .inputClocks) → codes ≡ w .inputCodes
+          → times ≡ length (w .outputClocks) → words ≡ length (w .outputWords)
+          → (refusalOf (C .limits) formed clock span clocks codes times words n ≡ clockRefusal → refusalIn C n w ≡ clockRefusal)
+          → refusalOf (C .limits) formed clock span clocks codes times words n ≡ refusalIn C n w
+      by-parts formed clock span clocks codes times words a b c d e f g =
+          rw (a, b, c, d, e, f, g)
+          (refusal-alike (C .limits) (C .wellFormed (w .state)) (C .clock (w .state)) (length (w .memory)) (w .inputClocks) (w .inputCodes)
+          (length (w .outputClocks)) (length (w .outputWords)) n k)
+
+  -- clocks that fit at the later clock are refused with 4 in neither
+  pub fit-alike : (n : ℕ) (w v : WorldOf S) → C .clock (v .state) + n ≤ lastClock → RefusedAlike C n w v
+  fit-alike n w v h e =
+      absurd
+      (fit-number (C .limits) (C .wellFormed (v .state)) (C .clock (v .state)) (length (v .memory)) (v .inputClocks) (v .inputCodes)
+      (length (v .outputClocks)) (length (v .outputWords)) n h e)
+
+  -- ---- one call
+
+  handed-shifted : (w v : WorldOf S) (leaps leaps' : ℕ) → Alike w v → leaps' ≡ leaps
+      → ShiftedHanded shift k (handedBackOf leaps w) (handedBackOf leaps' v)
+  handed-shifted w v leaps leaps' r e = record {
+    result = rw (r .stop, r .state, e, r .read, r .written);
+    memory = r .memory;
+    records = r .records;
+  }
+
+  refused-shifted : (w v : WorldOf S) (number number' : ℕ) → Alike w v → number' ≡ number
+      → ShiftedHanded shift k (refusedHanded number w) (refusedHanded number' v)
+  refused-shifted w v number number' r e = record {
+    result = rw (r .state, e);
+    memory = r .memory;
+    records = record {
+      clockSpace = r .records .clockSpace;
+      wordSpace = r .records .wordSpace;
+      recordClocks = refl;
+      recordWords = refl;
+    };
+  }
+
+  -- a call, by its refusal
+  call-shifted : (n : ℕ) (w v : WorldOf S) (h g : HandedOf S) → Alike w v → RefusedAlike C n w v → ShiftedHanded shift k h g
+      → ShiftedHanded shift k (cond (eqb (refusalIn C n w) 0) h (refusedCall C n w)) (cond (eqb (refusalIn C n v) 0) g (refusedCall C n v))
+  call-shifted n w v h g r alike done =
+      by-number (refusalIn C n w) (refusalIn C n v) (refusal-shifted n w v r alike) (eqb (refusalIn C n w) 0) refl
+    where
+      by-number : (a b : ℕ) → b ≡ a → (t : Bool) → eqb a 0 ≡ t
+          → ShiftedHanded shift k (cond (eqb a 0) h (refusedHanded a w)) (cond (eqb b 0) g (refusedHanded b v))
+      by-number a b e true t = rw (e, t) done
+      by-number a b e false t = rw (e, t) (refused-shifted w v a a r refl)
+
+  pub step-shifted : (w v : WorldOf S) → Alike w v → RefusedAlike C 1 w v → ShiftedHanded shift k (stepOf M w) (stepOf M v)
+  unfolding stepOf
+  step-shifted w v r alike =
+      let p = plain-shifted C shift L k w v r in
+      call-shifted 1 w v _ _ r alike
+      (handed-shifted (plainOf C w) (plainOf C v) _ _ p (moved-shifted C shift L k w v (plainOf C w) (plainOf C v) r p))
+
+  pub run-call-shifted : (n : ℕ) (w v : WorldOf S) → Alike w v → RefusedAlike C n w v → ShiftedHanded shift k (runOf M n w) (runOf M n v)
+  unfolding runOf
+  run-call-shifted n w v r alike =
+      let p = run-shifted C shift L k n w v r in
+      call-shifted n w v _ _ r alike
+      (handed-shifted (run (systemOf C) n w .world) (run (systemOf C) n v .world) _ _ (p .world) (p .leaps))
+
+  -- a start: any state and lists, and the same k clocks later, with output lists of the same lengths
+  pub start-shifted : (s : S) (memory inputClocks inputCodes times words times' words' : List ℕ)
+      → length times' ≡ length times → length words' ≡ length words
+      → Alike (callStart s memory inputClocks inputCodes times words)
+      (callStart (shift k s) memory (shiftedClocks k inputClocks) inputCodes times' words')
+  start-shifted s memory inputClocks inputCodes times words times' words' a b = record {
+    state = refl;
+    memory = refl;
+    inputClocks = refl;
+    inputCodes = refl;
+    records = record { clockSpace = a; wordSpace = b; recordClocks = refl; recordWords = refl };
+    read = refl;
+    written = refl;
+    stop = refl;
+  }
