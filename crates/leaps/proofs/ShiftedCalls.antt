@@ -6,7 +6,7 @@ use Prim.Native.Nat.{ℕ, _+_, _-_, _≤_, _<_}
 use native.Mathlib.Omega.{arith}
 use lib.Dec.{ltb, eqb}
 use lib.ListN.{length, take, length-map}
-use borrow.Author.Tests.{ltb-true, ltb-false, lt-ltb, le-ltb, eqb-true, eqb-false, eq-eqb, ne-eqb}
+use borrow.Author.Tests.{ltb-true, ltb-false, lt-ltb, le-ltb, eqb-true, eqb-false, eq-eqb, ne-eqb, not-true}
 use Rattle.bits.proofs.Cond.{and-left, and-right}
 use Rattle.pin_lists.specs.PinLists.{pinsRight}
 use Rattle.refusals.specs.declared.Limits.{Limits}
@@ -15,8 +15,8 @@ use Rattle.leaps.specs.Chip.{Chip}
 use Rattle.leaps.specs.Leaps.{Run, plains, movedOf, run, leapCount}
 use Rattle.leaps.specs.World.{WorldOf, plainOf, runningIn, systemOf}
 use Rattle.leaps.specs.Lists.{Machine, Call, countOf, Listed, stepOf, handedRun, runOf, calls, clocksAccepted, resultsBy}
-use Rattle.leaps.specs.Calls.{ResultOf, HandedOf, callStart, handedBackOf, refusedHanded, refusalIn, refusedCall, machineOf, Room}
-use Rattle.leaps.specs.Shifted.{shiftedClocks, ShiftedRecords, shiftedResult, ShiftedWorld, ShiftedHanded, clockRefusal, RefusedAlike, clocksFit}
+use Rattle.leaps.specs.Calls.{ResultOf, HandedOf, callStart, handedBackOf, refusedWith, refusedHanded, resultByOf, refusalIn, refusedCall, machineOf, Room}
+use Rattle.leaps.specs.Shifted.{shiftedClocks, ShiftedRecords, shiftedResult, ShiftedWorld, ShiftedHanded, ShiftedListed, clockRefusal, RefusedAlike, clocksFit}
 use Rattle.leaps.proofs.Chips.{ChipLaws}
 use Rattle.leaps.proofs.Calls as theory
 use Rattle.leaps.proofs.Shifted.{ShiftLaws, ShiftedRun, pins-shifted, shifted-clock, running-shifted, plain-shifted, plains-shifted, moved-shifted, count-shifted, run-shifted}
@@ -171,3 +171,133 @@ module _ {S : Type 0} (C : Chip S) (shift : ℕ → S → S) (L : ShiftLaws C sh
     written = refl;
     stop = refl;
   }
+
+  -- ---- lists of calls, by plain clocks
+
+  fit-behind : (r : ResultOf S) (rs : List (ResultOf S)) → clocksFit (r ∷ rs) ≡ true → clocksFit rs ≡ true
+  unfolding clocksFit
+  fit-behind r rs fit = and-right (not (eqb (r .number) clockRefusal)) (clocksFit rs) fit
+
+  -- what the first call of a list comes to, by whether nothing has stopped and whether it is not refused
+  module _ (c : Call) (cs : List Call) (x : WorldOf S) where
+    abbrev counted : Bool → Bool → ℕ
+    counted true true = countOf c + clocksAccepted M cs (plains (systemOf C) (countOf c) x)
+    counted true false = clocksAccepted M cs x
+    counted false accepted = 0
+
+    abbrev resulted : Bool → Bool → List (ResultOf S)
+    resulted true true =
+        let y = plains (systemOf C) (countOf c) x in
+        resultByOf (leapCount (systemOf C) (countOf c) x) x y ∷ resultsBy M cs y
+    resulted true false = refusedWith (refusalIn C (countOf c) x) (x .state) ∷ resultsBy M cs x
+    resulted false accepted = []
+
+    counted-by : (on accepted : Bool) → runningIn x ≡ on → eqb (refusalIn C (countOf c) x) 0 ≡ accepted
+        → clocksAccepted M (c ∷ cs) x ≡ counted on accepted
+    unfolding clocksAccepted
+    counted-by true true e d = rw (e, clocksAccepted) (rw d)
+    counted-by true false e d = rw (e, clocksAccepted) (rw d)
+    counted-by false accepted e d = rw (e, clocksAccepted)
+
+    resulted-by : (on accepted : Bool) → runningIn x ≡ on → eqb (refusalIn C (countOf c) x) 0 ≡ accepted
+        → resultsBy M (c ∷ cs) x ≡ resulted on accepted
+    unfolding resultsBy
+    resulted-by true true e d = rw (e, resultsBy) (rw d)
+    resulted-by true false e d = rw (e, resultsBy) (rw d)
+    resulted-by false accepted e d = rw (e, resultsBy)
+
+    -- a call that is made, and not refused with 4
+    unlate : (accepted : Bool) → eqb (refusalIn C (countOf c) x) 0 ≡ accepted → clocksFit (resulted true accepted) ≡ true
+        → refusalIn C (countOf c) x ≡ clockRefusal → ⊥
+    unfolding clocksFit
+    unlate true d fit four = let none = eqb-true (refusalIn C (countOf c) x) 0 d in omega arith
+    unlate false d fit four =
+        eqb-false (refusalIn C (countOf c) x) clockRefusal
+        (not-true _ (and-left (not (eqb (refusalIn C (countOf c) x) clockRefusal)) (clocksFit (resultsBy M cs x)) fit)) four
+
+  result-shifted : (w v x y : WorldOf S) (leaps leaps' : ℕ) → Alike w v → Alike x y → leaps' ≡ leaps
+      → resultByOf leaps' v y ≡ shiftedResult shift k (resultByOf leaps w x)
+  result-shifted w v x y leaps leaps' r s e = rw (s .stop, s .state, e, s .read, s .written, r .read, r .written)
+
+  refused-alike : (s t : S) (number number' : ℕ) → t ≡ shift k s → number' ≡ number
+      → refusedWith number' t ≡ shiftedResult shift k (refusedWith number s)
+  refused-alike s t number number' a b = rw (a, b)
+
+  each : (a b : ResultOf S) (l m : List (ResultOf S)) → a ≡ b → l ≡ m → a ∷ l ≡ b ∷ m
+  each a b l m e f = rw (e, f)
+
+  -- the clocks of the calls that are not refused, and the result of each call
+  record Plainly (cs : List Call) (w v : WorldOf S) : Type 0 where
+    count : clocksAccepted M cs v ≡ clocksAccepted M cs w
+    results : resultsBy M cs v ≡ map (shiftedResult shift k) (resultsBy M cs w)
+
+  abbrev Plain : List Call → Type 0
+  Plain cs = (w v : WorldOf S) → Alike w v → clocksFit (resultsBy M cs v) ≡ true → Plainly cs w v
+
+  module _ (c : Call) (cs : List Call) (w v : WorldOf S) (r : Alike w v) where
+    plain-by : (on accepted : Bool) → runningIn v ≡ on → eqb (refusalIn C (countOf c) v) 0 ≡ accepted
+        → clocksFit (resulted c cs v on accepted) ≡ true → Plain cs → Plainly (c ∷ cs) w v
+    plain-by false accepted e d fit later =
+        let on = sym (running-shifted C shift L k w v r) ∙ e in
+        record {
+          count = counted-by c cs v false _ e refl ∙ sym (counted-by c cs w false _ on refl);
+          results = resulted-by c cs v false _ e refl ∙ ap (map (shiftedResult shift k)) (sym (resulted-by c cs w false _ on refl));
+        }
+    plain-by true true e d fit later =
+        let n = countOf c in
+        let on = sym (running-shifted C shift L k w v r) ∙ e in
+        let same = refusal-shifted n w v r (λ four. absurd (unlate c cs v true d fit four)) in
+        let accepted = ap (λ (number : ℕ). eqb number 0) (sym same) ∙ d in
+        let p = plains-shifted C shift L k n w v r in
+        let x = plains (systemOf C) n w in
+        let y = plains (systemOf C) n v in
+        let rest = later x y p (fit-behind _ (resultsBy M cs y) fit) in
+        record {
+          count = counted-by c cs v true true e d ∙ ap (λ (m : ℕ). n + m) (rest .count) ∙ sym (counted-by c cs w true true on accepted);
+          results =
+              resulted-by c cs v true true e d
+              ∙ each _ _ _ _ (result-shifted w v x y _ _ r p (count-shifted C shift L k n w v r)) (rest .results)
+              ∙ ap (map (shiftedResult shift k)) (sym (resulted-by c cs w true true on accepted));
+        }
+    plain-by true false e d fit later =
+        let n = countOf c in
+        let on = sym (running-shifted C shift L k w v r) ∙ e in
+        let same = refusal-shifted n w v r (λ four. absurd (unlate c cs v false d fit four)) in
+        let refused = ap (λ (number : ℕ). eqb number 0) (sym same) ∙ d in
+        let rest = later w v r (fit-behind _ (resultsBy M cs v) fit) in
+        record {
+          count = counted-by c cs v true false e d ∙ rest .count ∙ sym (counted-by c cs w true false on refused);
+          results =
+              resulted-by c cs v true false e d
+              ∙ each _ _ _ _ (refused-alike (w .state) (v .state) _ _ (r .state) same) (rest .results)
+              ∙ ap (map (shiftedResult shift k)) (sym (resulted-by c cs w true false on refused));
+        }
+
+  list-plain : (cs : List Call) → Plain cs
+  unfolding clocksAccepted resultsBy
+  list-plain [] w v r fit = record { count = refl; results = refl }
+  list-plain (c ∷ cs) w v r fit =
+      plain-by c cs w v r (runningIn v) (eqb (refusalIn C (countOf c) v) 0) refl refl
+      (sym (ap clocksFit (resulted-by c cs v (runningIn v) (eqb (refusalIn C (countOf c) v) 0) refl refl)) ∙ fit) (list-plain cs)
+
+  -- ---- lists of calls
+
+  room-shifted : (w v : WorldOf S) → Alike w v → Room w → Room v
+  room-shifted w v r room = record {
+    outputClocks = omega (arith, r .written, r .records .clockSpace, room .outputClocks);
+    outputWords = omega (arith, r .written, r .records .wordSpace, room .outputWords);
+  }
+
+  -- A list of calls of which none at the later clock is refused with 4: the worlds that they leave are alike but for the
+  -- clock, and so is the result of each.
+  pub list-shifted : ChipLaws C → (cs : List Call) (w v : WorldOf S) → Alike w v → Room w → clocksFit (calls M cs v .results) ≡ true
+      → ShiftedListed shift k (calls M cs w) (calls M cs v)
+  list-shifted laws cs w v r room fit =
+      let before = theory.fair C laws cs w room in
+      let after = theory.fair C laws cs v (room-shifted w v r room) in
+      let plainly = list-plain cs w v r (sym (ap (λ (l : Listed (WorldOf S) (ResultOf S)). clocksFit (l .results)) after) ∙ fit) in
+      rw (before, after)
+      (record {
+        world = rw (plainly .count) (plains-shifted C shift L k (clocksAccepted M cs w) w v r);
+        results = plainly .results;
+      })

@@ -8,6 +8,7 @@ use lib.Dec.{eqb}
 use lib.ListN.{length, take}
 use Rattle.leaps.specs.Chip.{Chip, ClockEnd, ClockOutcome, stopped, ended}
 use Rattle.leaps.specs.World.{WorldOf}
+use Rattle.leaps.specs.Lists.{Listed}
 use Rattle.leaps.specs.Calls.{ResultOf, HandedOf, refusalIn}
 
 -- a list of clocks, each k later
@@ -64,6 +65,11 @@ module _ {S : Type 0} (shift : ℕ → S → S) (k : ℕ) where
     pub result : g .result ≡ shiftedResult (h .result)
     pub memory : g .memory ≡ h .memory
     pub records : ShiftedRecords k (h .result .written) (h .outputClocks) (h .outputWords) (g .outputClocks) (g .outputWords)
+
+  -- `m` is what a list of calls leads to that leads to `l`, k clocks later
+  pub record ShiftedListed (l m : Listed (WorldOf S) (ResultOf S)) : Type 0 where
+    pub world : ShiftedWorld (l .world) (m .world)
+    pub results : m .results ≡ map shiftedResult (l .results)
 
 -- 01, What is handed back: "4 | clock + n above 4,294,967,295", the one number that goes by the clock's value
 abbrev pub clockRefusal : ℕ
