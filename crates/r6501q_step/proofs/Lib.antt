@@ -11,3 +11,4 @@ pub mod Held
 pub mod ReleaseLists
 pub mod Released
 pub mod StoreClocks
+pub mod Shifted
