@@ -14,7 +14,7 @@ use Rattle.refusals.specs.Refusals.{lastClock, firstOf, refusalOf}
 use Rattle.leaps.specs.Chip.{Chip}
 use Rattle.leaps.specs.Leaps.{Run, plains, movedOf, run, leapCount}
 use Rattle.leaps.specs.World.{WorldOf, plainOf, runningIn, systemOf}
-use Rattle.leaps.specs.Lists.{Machine, Call, countOf, Listed, stepOf, handedRun, runOf, calls, clocksAccepted, resultsBy}
+use Rattle.leaps.specs.Lists.{Machine, Call, countOf, Listed, stepOf, handedRun, runOf, plainRunOf, calls, clocksAccepted, resultsBy}
 use Rattle.leaps.specs.Calls.{ResultOf, HandedOf, callStart, handedBackOf, refusedWith, refusedHanded, resultByOf, refusalIn, refusedCall, machineOf, Room}
 use Rattle.leaps.specs.Shifted.{shiftedClocks, ShiftedRecords, shiftedResult, ShiftedWorld, ShiftedHanded, ShiftedListed, clockRefusal, RefusedAlike, clocksFit}
 use Rattle.leaps.proofs.Chips.{ChipLaws}
@@ -288,16 +288,25 @@ module _ {S : Type 0} (C : Chip S) (shift : ℕ → S → S) (L : ShiftLaws C sh
     outputWords = omega (arith, r .written, r .records .wordSpace, room .outputWords);
   }
 
-  -- A list of calls of which none at the later clock is refused with 4: the worlds that they leave are alike but for the
-  -- clock, and so is the result of each.
-  pub list-shifted : ChipLaws C → (cs : List Call) (w v : WorldOf S) → Alike w v → Room w → clocksFit (calls M cs v .results) ≡ true
-      → ShiftedListed shift k (calls M cs w) (calls M cs v)
-  list-shifted laws cs w v r room fit =
-      let before = theory.fair C laws cs w room in
-      let after = theory.fair C laws cs v (room-shifted w v r room) in
-      let plainly = list-plain cs w v r (sym (ap (λ (l : Listed (WorldOf S) (ResultOf S)). clocksFit (l .results)) after) ∙ fit) in
-      rw (before, after)
-      (record {
-        world = rw (plainly .count) (plains-shifted C shift L k (clocksAccepted M cs w) w v r);
-        results = plainly .results;
-      })
+  module _ (laws : ChipLaws C) (w v : WorldOf S) (r : Alike w v) (room : Room w) where
+    -- A list of calls of which none at the later clock is refused with 4: the worlds that they leave are alike but for the
+    -- clock, and so is the result of each.
+    pub list-shifted : (cs : List Call) → clocksFit (calls M cs v .results) ≡ true → ShiftedListed shift k (calls M cs w) (calls M cs v)
+    list-shifted cs fit =
+        let before = theory.fair C laws cs w room in
+        let after = theory.fair C laws cs v (room-shifted w v r room) in
+        let plainly = list-plain cs w v r (sym (ap (λ (l : Listed (WorldOf S) (ResultOf S)). clocksFit (l .results)) after) ∙ fit) in
+        rw (before, after)
+        (record {
+          world = rw (plainly .count) (plains-shifted C shift L k (clocksAccepted M cs w) w v r);
+          results = plainly .results;
+        })
+
+    -- A run at the earlier clock that is not refused hands back what n plain clocks at the later one leave, and document
+    -- 01's leaps, though no call could do them: the later clock may be past the last.
+    pub run-past-shifted : (n : ℕ) → refusalIn C n w ≡ 0
+        → ShiftedHanded shift k (runOf M n w) (handedBackOf (leapCount (systemOf C) n v) (plains (systemOf C) n v))
+    unfolding plainRunOf
+    run-past-shifted n accepted =
+        rw (theory.runs-plainly C laws n w room, eq-eqb (refusalIn C n w) 0 accepted)
+        (handed-shifted (plains (systemOf C) n w) (plains (systemOf C) n v) _ _ (plains-shifted C shift L k n w v r) (count-shifted C shift L k n w v r))

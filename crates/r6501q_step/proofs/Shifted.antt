@@ -2,22 +2,31 @@
 use mathlib.Core.Path.{_≡_, refl, sym, ap, _∙_}
 use mathlib.Core.Bool.{Bool, true, false, not, cond, _&&_}
 use mathlib.Core.List.{List, [], _∷_}
-use Prim.Native.Nat.{ℕ, _+_, _-_, min}
+use Prim.Native.Nat.{ℕ, _+_, _-_, _≤_}
 use native.Mathlib.Omega.{arith}
 use lib.Dec.{ltb, eqb}
+use lib.ListN.{length}
+use borrow.Author.Tests.{eq-eqb}
 use Rattle.bits.proofs.Cond.{cond-map, cond-along}
 use Rattle.cpu_access.specs.declared.halt.Halt.{Halt}
 use Rattle.cpu_access.specs.declared.waiting.Waiting.{Waiting}
 use Rattle.cpu_access.specs.declared.waiting.Waiting.the-variants.{Nothing, Byte}
 use Rattle.cpu_access.specs.declared.stack.Write.{Write}
 use Rattle.cpu.specs.Sequence.{Ending, undefined, leaves, instructionAccesses}
-use Rattle.leaps.specs.Chip.{ClockOutcome}
-use Rattle.leaps.specs.Shifted.{shiftedClocks, shiftedOutcome}
+use Rattle.memory.specs.Memory.{memorySpan}
+use Rattle.pin_lists.specs.PinLists.{pinsRight}
+use Rattle.refusals.specs.Refusals.{lastClock, refusalOf}
+use Rattle.leaps.specs.Leaps.{plains, leapCount}
+use Rattle.leaps.specs.Lists.{stepOf, runOf}
+use Rattle.leaps.specs.Calls.{callStart, refusalIn}
+use Rattle.leaps.specs.Shifted.{shiftedClocks, shiftedOutcome, ShiftedWorld, ShiftedHanded, clockRefusal, RefusedAlike}
+use Rattle.leaps.proofs.Shifted as theory
 use Rattle.leaps.proofs.Shifted.{ShiftLaws}
+use Rattle.leaps.proofs.ShiftedCalls as calls
 use Rattle.r6501q_state.specs.declared.state.State.{State}
 use Rattle.r6501q_state.specs.declared.state.Levels.{Levels}
 use Rattle.r6501q_state.specs.declared.state.Peripherals.{Peripherals}
-use Rattle.r6501q_state.specs.State.{wellFormed}
+use Rattle.r6501q_state.specs.State.{fresh, wellFormed}
 use Rattle.r6501q_state.specs.Pins.{drivenWord, levelsOf, withEdges, resetOf, sensedAt, sensed}
 use Rattle.r6501q_cpu.specs.declared.Next.{Next}
 use Rattle.r6501q_cpu.specs.declared.Processed.{Processed}
@@ -27,7 +36,7 @@ use Rattle.r6501q_clock.specs.declared.Clocked.the-variants.{Stopped, Done}
 use Rattle.r6501q_clock.specs.Clock.{inputsSet, readyOf, fullStop, endedWith, finished, recorded, clockOf}
 use Rattle.r6501q_gaps.specs.Events.{levelsChange, underflowsA, underflowsB, resetChanges, cpuStarts, putsByte, isReset, eventOf}
 use Rattle.r6501q_gaps.specs.Gaps.{clocksOf, toInput, toChange, toUnderflowA, toUnderflowB, toReset, toCpu, gapOf, passOf}
-use Rattle.r6501q_step.specs.R6501q.{clockOutcome, r6501q}
+use Rattle.r6501q_step.specs.R6501q.{World, clockOutcome, r6501q, chip, machine}
 use Rattle.r6501q_step.specs.Shifted.{shiftedState}
 
 module _ (k : ℕ) where
@@ -138,3 +147,53 @@ shift-laws halt = record {
   gap = gap-shifted;
   pass = pass-shifted;
 }
+
+-- ---- The theorem of the shifted clock. From two worlds that are alike but for their clocks, the second k clocks later:
+
+module _ (halt : Halt) (k : ℕ) (w v : World) (r : ShiftedWorld shiftedState k w v) where
+  -- any number of plain clocks leaves two such worlds, in as many leaps by document 01's count;
+  pub plains-shifted : (n : ℕ) → ShiftedWorld shiftedState k (plains (chip halt) n w) (plains (chip halt) n v)
+  plains-shifted n = theory.plains-shifted (r6501q halt) shiftedState (shift-laws halt) k n w v r
+
+  pub count-shifted : (n : ℕ) → leapCount (chip halt) n v ≡ leapCount (chip halt) n w
+  count-shifted n = theory.count-shifted (r6501q halt) shiftedState (shift-laws halt) k n w v r
+
+  -- the single-clock call and the run hand back the same but for the clock, leaps too, refused or not, where 4 is told at
+  -- both clocks or at neither;
+  pub step-shifted : RefusedAlike (r6501q halt) 1 w v → ShiftedHanded shiftedState k (stepOf (machine halt) w) (stepOf (machine halt) v)
+  step-shifted alike = calls.step-shifted (r6501q halt) shiftedState (shift-laws halt) k w v r alike
+
+  pub run-shifted : (n : ℕ) → RefusedAlike (r6501q halt) n w v
+      → ShiftedHanded shiftedState k (runOf (machine halt) n w) (runOf (machine halt) n v)
+  run-shifted n alike = calls.run-call-shifted (r6501q halt) shiftedState (shift-laws halt) k n w v r alike
+
+  -- which is so where the n clocks fit at the later clock.
+  pub fit-alike : (n : ℕ) → v .state .clock + n ≤ lastClock → RefusedAlike (r6501q halt) n w v
+  fit-alike n fits = calls.fit-alike (r6501q halt) shiftedState (shift-laws halt) k n w v fits
+
+-- The same of calls, by what they are given: any state, memory and inputs, any output lists of the same lengths.
+module _ (halt : Halt) (k : ℕ) (s : State) (memory clocks codes times words times' words' : List ℕ)
+    (clockSpace : length times' ≡ length times) (wordSpace : length words' ≡ length words) where
+  abbrev earlier : World
+  earlier = callStart s memory clocks codes times words
+
+  abbrev later : World
+  later = callStart (shiftedState k s) memory (shiftedClocks k clocks) codes times' words'
+
+  pub start-alike : ShiftedWorld shiftedState k earlier later
+  start-alike =
+      calls.start-shifted (r6501q halt) shiftedState (shift-laws halt) k s memory clocks codes times words times' words' clockSpace wordSpace
+
+  pub step-later : s .clock + k + 1 ≤ lastClock → ShiftedHanded shiftedState k (stepOf (machine halt) earlier) (stepOf (machine halt) later)
+  step-later fits = step-shifted halt k earlier later start-alike (fit-alike halt k earlier later start-alike 1 fits)
+
+  pub run-later : (n : ℕ) → s .clock + k + n ≤ lastClock
+      → ShiftedHanded shiftedState k (runOf (machine halt) n earlier) (runOf (machine halt) n later)
+  run-later n fits = run-shifted halt k earlier later start-alike n (fit-alike halt k earlier later start-alike n fits)
+
+-- 4 does differ: a fresh chip may do a clock, and at the last clock none
+pub four-differs : (halt : Halt) (memory : List ℕ) → length memory ≡ memorySpan
+    → (refusalIn (r6501q halt) 1 (callStart fresh memory [] [] [] []) ≡ 0)
+    × (refusalIn (r6501q halt) 1 (callStart (shiftedState lastClock fresh) memory [] [] [] []) ≡ clockRefusal)
+unfolding refusalOf wellFormed fresh pinsRight
+four-differs halt memory whole = (rw (eq-eqb (length memory) memorySpan whole), rw (eq-eqb (length memory) memorySpan whole))
