@@ -6,3 +6,4 @@ pub mod Halted
 pub mod Held
 pub mod Table
 pub mod LowMemory
+pub mod Shifted

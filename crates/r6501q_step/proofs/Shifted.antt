@@ -12,6 +12,7 @@ use Rattle.cpu_access.specs.declared.halt.Halt.{Halt}
 use Rattle.cpu_access.specs.declared.waiting.Waiting.{Waiting}
 use Rattle.cpu_access.specs.declared.waiting.Waiting.the-variants.{Nothing, Byte}
 use Rattle.cpu_access.specs.declared.stack.Write.{Write}
+use Rattle.cpu_access.specs.Waiting.{byteWaits}
 use Rattle.cpu.specs.Sequence.{Ending, undefined, leaves, instructionAccesses}
 use Rattle.memory.specs.Memory.{memorySpan}
 use Rattle.pin_lists.specs.PinLists.{pinsRight}
@@ -195,5 +196,5 @@ module _ (halt : Halt) (k : ℕ) (s : State) (memory clocks codes times words ti
 pub four-differs : (halt : Halt) (memory : List ℕ) → length memory ≡ memorySpan
     → (refusalIn (r6501q halt) 1 (callStart fresh memory [] [] [] []) ≡ 0)
     × (refusalIn (r6501q halt) 1 (callStart (shiftedState lastClock fresh) memory [] [] [] []) ≡ clockRefusal)
-unfolding refusalOf wellFormed fresh pinsRight
+unfolding refusalOf wellFormed fresh pinsRight byteWaits
 four-differs halt memory whole = (rw (eq-eqb (length memory) memorySpan whole), rw (eq-eqb (length memory) memorySpan whole))
