@@ -120,22 +120,23 @@ module _ (k : ℕ) where
       (ap (λ (t : State). processorOf t memory) (ready-shifted s codes) ∙ processor-shifted (readyOf s codes) memory)
       ∙ recorded-shifted halt memory word free (processorOf (readyOf s codes) memory)
 
-  event-shifted : (s : State) (codes : List ℕ) → eventOf (shiftedState k s) codes ≡ eventOf s codes
+  event-shifted : (halt : Halt) (s : State) (codes : List ℕ) → r6501q halt .event (shiftedState k s) codes ≡ r6501q halt .event s codes
   unfolding eventOf levelsChange underflowsA underflowsB resetChanges isReset cpuStarts putsByte levelsOf withEdges
-  event-shifted s codes = rw (inputs-shifted s codes, sensed-shifted (inputsSet s codes))
+  event-shifted halt s codes = rw (inputs-shifted s codes, sensed-shifted (inputsSet s codes)) refl
 
   input-shifted : (n clock : ℕ) (clocks : List ℕ) → toInput n (clock + k) (shiftedClocks k clocks) ≡ toInput n clock clocks
   unfolding toInput
   input-shifted n clock [] = refl
   input-shifted n clock (t ∷ ts) = omega arith
 
-  gap-shifted : (n : ℕ) (s : State) (clocks : List ℕ) → gapOf n (shiftedState k s) (shiftedClocks k clocks) .0 ≡ gapOf n s clocks .0
+  gap-shifted : (halt : Halt) (n : ℕ) (s : State) (clocks : List ℕ)
+      → r6501q halt .gap n (shiftedState k s) (shiftedClocks k clocks) ≡ r6501q halt .gap n s clocks
   unfolding gapOf toChange toUnderflowA toUnderflowB toReset toCpu levelsChange levelsOf resetChanges isReset
-  gap-shifted n s clocks = rw (input-shifted n (s .clock) clocks)
+  gap-shifted halt n s clocks = rw (input-shifted n (s .clock) clocks) refl
 
-  pass-shifted : (g : ℕ) (s : State) → passOf (shiftedState k s) (clocksOf g) ≡ shiftedState k (passOf s (clocksOf g))
+  pass-shifted : (halt : Halt) (g : ℕ) (s : State) → r6501q halt .pass g (shiftedState k s) ≡ shiftedState k (r6501q halt .pass g s)
   unfolding passOf
-  pass-shifted g s = let e : s .clock + k + g ≡ s .clock + g + k = omega arith in rw e
+  pass-shifted halt g s = let e : s .clock + k + g ≡ s .clock + g + k = omega arith in rw e refl
 
 -- with any halt address or none
 pub shift-laws : (halt : Halt) → ShiftLaws (r6501q halt) shiftedState
@@ -144,9 +145,9 @@ shift-laws halt = record {
   clock = λ k s. refl;
   formed = λ k s. refl;
   outcome = λ k. outcome-shifted k halt;
-  event = event-shifted;
-  gap = gap-shifted;
-  pass = pass-shifted;
+  event = λ k. event-shifted k halt;
+  gap = λ k. gap-shifted k halt;
+  pass = λ k. pass-shifted k halt;
 }
 
 -- ---- The theorem of the shifted clock. From two worlds that are alike but for their clocks, the second k clocks later:
