@@ -1,22 +1,21 @@
 -- The theorem of the shifted clock, of every chip whose rules do not look at the clock's value: from worlds that are
 -- alike but for their clocks, plain clocks, leaps and calls lead to such worlds, in as many leaps.
 use mathlib.Core.Path.{_≡_, refl, sym, ap, _∙_}
-use mathlib.Core.Bool.{Bool, true, false, _&&_, _||_, not, cond, false≢true}
+use mathlib.Core.Bool.{Bool, true, false, _&&_, cond}
 use mathlib.Core.List.{List, [], _∷_, _++_, map}
-use Prim.Native.Nat.{ℕ, zero, suc, _+_, _-_, _≤_, _<_}
+use Prim.Native.Nat.{ℕ, zero, suc, _+_, _-_}
 use native.Mathlib.Numerals.{add-one}
 use native.Mathlib.Nat.{add-zero}
 use native.Mathlib.Omega.{arith}
 use lib.Dec.{ltb, eqb}
-use lib.ListN.{length, take, drop, set, length-map, length-set}
+use lib.ListN.{length, take, drop, set, length-set}
 use borrow.Author.Tests.{ltb-true, ltb-false, eqb-true, eqb-false, lt-ltb, le-ltb, eq-eqb, ne-eqb}
 use Rattle.bits.specs.Bits.{digit}
-use Rattle.pin_lists.specs.PinLists.{pinOf, codeRight, entryRight, restRight, pinsRight, dueCount}
-use Rattle.leaps.specs.Chip.{Chip, ClockEnd, ClockOutcome, stopped, ended}
-use Rattle.leaps.specs.Leaps.{System, Run, plains, leapOf, movedOf, leftAfter, leapsOf, run, trace, leapCount}
+use Rattle.pin_lists.specs.PinLists.{pinOf, entryRight, restRight, pinsRight, dueCount}
+use Rattle.leaps.specs.Chip.{Chip, ClockOutcome, stopped, ended}
+use Rattle.leaps.specs.Leaps.{Run, plains, leapOf, movedOf, leftAfter, leapsOf, run, trace, leapCount}
 use Rattle.leaps.specs.World.{WorldOf, putRecord, after, dueIn, outcomeIn, plainOf, runningIn, isDone, doneIn, eventIn, passIn, systemOf}
 use Rattle.leaps.specs.Shifted.{shiftedClocks, ShiftedRecords, shiftedOutcome, ShiftedWorld}
-use Rattle.leaps.proofs.Chips.{record-length}
 
 -- what is asked of a chip: `shift k s` is `s` with its clock k later, and no rule looks at the clock's value
 pub record ShiftLaws {S : Type 0} (C : Chip S) (shift : ℕ → S → S) : Type 0 where
@@ -99,9 +98,11 @@ take-set (suc n) x (y ∷ l) =
     suc-ltb false e = e ∙ sym (le-ltb (suc n) (suc (length l)) (omega (arith, ltb-false n (length l) e)))
 
 -- a record put: it is one of those written
-module _ (k written time word : ℕ) (times words times' words' : List ℕ) (r : ShiftedRecords k written times words times' words') where
+module _ (k written time word : ℕ) (times words times' words' : List ℕ)
+    (r : ShiftedRecords k written times words times' words') where
   put-shifted : (differs : Bool)
-      → ShiftedRecords k (written + digit differs) (putRecord differs written time times) (putRecord differs written word words)
+      → ShiftedRecords k (written + digit differs) (putRecord differs written time times)
+      (putRecord differs written word words)
       (putRecord differs written (time + k) times') (putRecord differs written word words')
   unfolding putRecord
   put-shifted true = record {
@@ -152,14 +153,18 @@ module _ {S : Type 0} (C : Chip S) (shift : ℕ → S → S) (L : ShiftLaws C sh
 
     outcome-shifted : (due : ℕ) → outcomeIn C v due ≡ shiftedOutcome shift k (outcomeIn C w due)
     outcome-shifted due =
-        by-parts (v .state) (v .inputCodes) (v .memory) (v .written) (length (v .outputClocks)) (r .state) (r .inputCodes) (r .memory) (r .written)
+        by-parts (v .state) (v .inputCodes) (v .memory) (v .written) (length (v .outputClocks)) (r .state)
+        (r .inputCodes) (r .memory) (r .written)
         (r .records .clockSpace)
       where
-        by-parts : (s : S) (codes memory : List ℕ) (written space : ℕ) → s ≡ shift k (w .state) → codes ≡ w .inputCodes → memory ≡ w .memory
+        by-parts : (s : S) (codes memory : List ℕ) (written space : ℕ) → s ≡ shift k (w .state) → codes ≡ w .inputCodes
+            → memory ≡ w .memory
             → written ≡ w .written → space ≡ length (w .outputClocks)
             → C .outcome s (take due codes) memory (ltb written space) ≡ shiftedOutcome shift k (outcomeIn C w due)
         by-parts s codes memory written space a b c d e =
-            rw (a, b, c, d, e) (L .outcome k (w .state) (take due (w .inputCodes)) (w .memory) (ltb (w .written) (length (w .outputClocks))))
+            rw (a, b, c, d, e)
+            (L .outcome k (w .state) (take due (w .inputCodes)) (w .memory)
+            (ltb (w .written) (length (w .outputClocks))))
 
     after-shifted : (due : ℕ) (o : ClockOutcome S) → Alike (after C w due o) (after C v due (shiftedOutcome shift k o))
     after-shifted due (stopped number) = record {
@@ -179,8 +184,8 @@ module _ {S : Type 0} (C : Chip S) (shift : ℕ → S → S) (L : ShiftLaws C sh
       inputCodes = ap (drop due) (r .inputCodes);
       records =
           rw (r .written, L .clock k (d .state))
-          (put-shifted k (w .written) (C .clock (d .state)) (d .word) (w .outputClocks) (w .outputWords) (v .outputClocks) (v .outputWords)
-          (r .records) (d .differs));
+          (put-shifted k (w .written) (C .clock (d .state)) (d .word) (w .outputClocks) (w .outputWords)
+          (v .outputClocks) (v .outputWords) (r .records) (d .differs));
       read = ap (λ (n : ℕ). n + due) (r .read);
       written = ap (λ (n : ℕ). n + digit (d .differs)) (r .written);
       stop = refl;
@@ -246,12 +251,14 @@ module _ {S : Type 0} (C : Chip S) (shift : ℕ → S → S) (L : ShiftLaws C sh
   unfolding trace
   trace-shifted zero w v r = refl
   trace-shifted (suc n) w v r =
-      by-done (doneIn C w) (doneIn C v) (done-shifted w v r) (trace-shifted n (plainOf C w) (plainOf C v) (plain-shifted w v r))
+      by-done (doneIn C w) (doneIn C v) (done-shifted w v r)
+      (trace-shifted n (plainOf C w) (plainOf C v) (plain-shifted w v r))
     where
       from : Bool → WorldOf S → List Bool
       from d x = elim d [ true ↦ eventIn C x ∷ trace (systemOf C) n (plainOf C x) | false ↦ [] ]
 
-      by-done : (d e : Bool) → e ≡ d → trace (systemOf C) n (plainOf C v) ≡ trace (systemOf C) n (plainOf C w) → from e v ≡ from d w
+      by-done : (d e : Bool) → e ≡ d → trace (systemOf C) n (plainOf C v) ≡ trace (systemOf C) n (plainOf C w)
+          → from e v ≡ from d w
       by-done true e f later = rw (f, event-shifted w v r, later)
       by-done false e f later = rw f
 
@@ -267,18 +274,22 @@ module _ {S : Type 0} (C : Chip S) (shift : ℕ → S → S) (L : ShiftLaws C sh
   leap-shifted n w v r =
       by-gap (C .gap n (w .state) (w .inputClocks)) (C .gap n (v .state) (v .inputClocks)) (gap-shifted w v r n)
     where
-      by-test : (g : ℕ) (t : Bool) → Alike (cond t (plainOf C (passIn C g w)) (passIn C g w)) (cond t (plainOf C (passIn C g v)) (passIn C g v))
+      by-test : (g : ℕ) (t : Bool)
+          → Alike (cond t (plainOf C (passIn C g w)) (passIn C g w)) (cond t (plainOf C (passIn C g v)) (passIn C g v))
       by-test g true = plain-shifted (passIn C g w) (passIn C g v) (pass-shifted w v r g)
       by-test g false = pass-shifted w v r g
 
       by-gap : (g h : ℕ) → h ≡ g
-          → Alike (cond (ltb g n) (plainOf C (passIn C g w)) (passIn C g w)) (cond (ltb h n) (plainOf C (passIn C h v)) (passIn C h v))
+          → Alike (cond (ltb g n) (plainOf C (passIn C g w)) (passIn C g w))
+          (cond (ltb h n) (plainOf C (passIn C h v)) (passIn C h v))
       by-gap g h e = rw e (by-test g (ltb g n))
 
-  pub moved-shifted : (w v x y : WorldOf S) → Alike w v → Alike x y → movedOf (systemOf C) v y ≡ movedOf (systemOf C) w x
+  pub moved-shifted : (w v x y : WorldOf S) → Alike w v → Alike x y
+      → movedOf (systemOf C) v y ≡ movedOf (systemOf C) w x
   unfolding movedOf
   moved-shifted w v x y r s =
-      rw (shifted-clock w v r, shifted-clock x y s) (ap digit (shifted-ltb k (C .clock (w .state)) (C .clock (x .state))))
+      rw (shifted-clock w v r, shifted-clock x y s)
+      (ap digit (shifted-ltb k (C .clock (w .state)) (C .clock (x .state))))
 
   leaps-shifted : (most n : ℕ) (w v : WorldOf S) → Alike w v
       → ShiftedRun shift k (leapsOf (systemOf C) most n w) (leapsOf (systemOf C) most n v)
@@ -287,7 +298,8 @@ module _ {S : Type 0} (C : Chip S) (shift : ℕ → S → S) (L : ShiftLaws C sh
   leaps-shifted (suc most) n w v r =
       again (ltb 0 n && runningIn w) (ltb 0 n && runningIn v) (ap (λ (b : Bool). ltb 0 n && b) (running-shifted w v r))
       (leftAfter (systemOf C) n v) (ap (λ (g : ℕ). n - (g + 1)) (gap-shifted w v r n))
-      (leaps-shifted most (leftAfter (systemOf C) n w) (leapOf (systemOf C) n w) (leapOf (systemOf C) n v) (leap-shifted n w v r))
+      (leaps-shifted most (leftAfter (systemOf C) n w) (leapOf (systemOf C) n w) (leapOf (systemOf C) n v)
+      (leap-shifted n w v r))
     where
       from : Bool → ℕ → WorldOf S → Run (WorldOf S)
       from t left x =
@@ -305,11 +317,16 @@ module _ {S : Type 0} (C : Chip S) (shift : ℕ → S → S) (L : ShiftLaws C sh
           rw (e, f)
           (record {
             world = later .world;
-            leaps = rw (moved-shifted w v (leapOf (systemOf C) n w) (leapOf (systemOf C) n v) r (leap-shifted n w v r), later .leaps);
+            leaps =
+                rw (
+                  moved-shifted w v (leapOf (systemOf C) n w) (leapOf (systemOf C) n v) r (leap-shifted n w v r),
+                  later .leaps,
+                );
           })
       again false u e left f later = rw e (record { world = r; leaps = refl })
 
   -- the run: world and leaps
-  pub run-shifted : (n : ℕ) (w v : WorldOf S) → Alike w v → ShiftedRun shift k (run (systemOf C) n w) (run (systemOf C) n v)
+  pub run-shifted : (n : ℕ) (w v : WorldOf S) → Alike w v
+      → ShiftedRun shift k (run (systemOf C) n w) (run (systemOf C) n v)
   unfolding run
   run-shifted n w v r = leaps-shifted n n w v r

@@ -1,25 +1,25 @@
 -- The theorem of the shifted clock, of calls and of lists of calls.
 use mathlib.Core.Path.{_≡_, refl, sym, ap, _∙_}
-use mathlib.Core.Bool.{Bool, true, false, _&&_, _||_, not, cond, false≢true}
+use mathlib.Core.Bool.{Bool, true, false, _||_, not, cond, false≢true}
 use mathlib.Core.List.{List, [], _∷_, map}
-use Prim.Native.Nat.{ℕ, _+_, _-_, _≤_, _<_}
+use Prim.Native.Nat.{ℕ, _+_, _≤_}
 use native.Mathlib.Omega.{arith}
 use lib.Dec.{ltb, eqb}
-use lib.ListN.{length, take, length-map}
-use borrow.Author.Tests.{ltb-true, ltb-false, lt-ltb, le-ltb, eqb-true, eqb-false, eq-eqb, ne-eqb, not-true}
+use lib.ListN.{length, length-map}
+use borrow.Author.Tests.{ltb-true, lt-ltb, le-ltb, eqb-true, eqb-false, eq-eqb, not-true}
 use Rattle.bits.proofs.Cond.{and-left, and-right}
 use Rattle.pin_lists.specs.PinLists.{pinsRight}
 use Rattle.refusals.specs.declared.Limits.{Limits}
 use Rattle.refusals.specs.Refusals.{lastClock, firstOf, refusalOf}
 use Rattle.leaps.specs.Chip.{Chip}
-use Rattle.leaps.specs.Leaps.{Run, plains, movedOf, run, leapCount}
+use Rattle.leaps.specs.Leaps.{plains, run, leapCount}
 use Rattle.leaps.specs.World.{WorldOf, plainOf, runningIn, systemOf}
-use Rattle.leaps.specs.Lists.{Machine, Call, countOf, Listed, stepOf, handedRun, runOf, plainRunOf, calls, clocksAccepted, resultsBy}
+use Rattle.leaps.specs.Lists.{Machine, Call, countOf, Listed, stepOf, runOf, plainRunOf, calls, clocksAccepted, resultsBy}
 use Rattle.leaps.specs.Calls.{ResultOf, HandedOf, callStart, handedBackOf, refusedWith, refusedHanded, resultByOf, refusalIn, refusedCall, machineOf, Room}
-use Rattle.leaps.specs.Shifted.{shiftedClocks, ShiftedRecords, shiftedResult, ShiftedWorld, ShiftedHanded, ShiftedListed, clockRefusal, RefusedAlike, clocksFit}
+use Rattle.leaps.specs.Shifted.{shiftedClocks, shiftedResult, ShiftedWorld, ShiftedHanded, ShiftedListed, clockRefusal, RefusedAlike, clocksFit}
 use Rattle.leaps.proofs.Chips.{ChipLaws}
 use Rattle.leaps.proofs.Calls as theory
-use Rattle.leaps.proofs.Shifted.{ShiftLaws, ShiftedRun, pins-shifted, shifted-clock, running-shifted, plain-shifted, plains-shifted, moved-shifted, count-shifted, run-shifted}
+use Rattle.leaps.proofs.Shifted.{ShiftLaws, pins-shifted, shifted-clock, running-shifted, plain-shifted, plains-shifted, moved-shifted, count-shifted, run-shifted}
 
 -- ---- refusals
 
@@ -45,7 +45,8 @@ module _ (limits : Limits) (formed : Bool) (clock span : ℕ) (clocks codes : Li
       ∷ (3, not (eqb (length clocks) (length codes)) || not (eqb times words)) ∷ (4, late)
       ∷ (5, not (pinsRight (limits .pin) clock clocks codes)) ∷ [])
 
-  rows-shifted : refusalOf limits formed (clock + k) span (shiftedClocks k clocks) codes times words n ≡ rows (ltb lastClock (clock + k + n))
+  rows-shifted : refusalOf limits formed (clock + k) span (shiftedClocks k clocks) codes times words n
+      ≡ rows (ltb lastClock (clock + k + n))
   unfolding refusalOf
   rows-shifted = rw (length-map clocks (λ (t : ℕ). t + k), pins-shifted (limits .pin) k clock clocks codes)
 
@@ -56,20 +57,24 @@ module _ (limits : Limits) (formed : Bool) (clock span : ℕ) (clocks codes : Li
   unfolding refusalOf
   refusal-alike alike =
       rows-shifted
-      ∙ rows-alike (not (eqb span (limits .memory))) (not formed) (not (eqb (length clocks) (length codes)) || not (eqb times words))
+      ∙ rows-alike (not (eqb span (limits .memory))) (not formed)
+      (not (eqb (length clocks) (length codes)) || not (eqb times words))
       (ltb lastClock (clock + k + n)) (ltb lastClock (clock + n)) (not (pinsRight (limits .pin) clock clocks codes))
       (λ h. lt-ltb lastClock (clock + k + n) (omega (arith, ltb-true lastClock (clock + n) h)))
       (λ e. alike (rows-shifted ∙ e))
 
 -- clocks that fit are not refused with 4
-fit-number : (limits : Limits) (formed : Bool) (clock span : ℕ) (clocks codes : List ℕ) (times words n : ℕ) → clock + n ≤ lastClock
+fit-number : (limits : Limits) (formed : Bool) (clock span : ℕ) (clocks codes : List ℕ) (times words n : ℕ)
+    → clock + n ≤ lastClock
     → refusalOf limits formed clock span clocks codes times words n ≡ clockRefusal → ⊥
 unfolding refusalOf
 fit-number limits formed clock span clocks codes times words n h e =
-    other (not (eqb span (limits .memory))) (not formed) (not (eqb (length clocks) (length codes)) || not (eqb times words))
+    other (not (eqb span (limits .memory))) (not formed)
+    (not (eqb (length clocks) (length codes)) || not (eqb times words))
     (not (pinsRight (limits .pin) clock clocks codes)) (rw (le-ltb lastClock (clock + n) h) at e)
   where
-    other : (one two three five : Bool) → firstOf ((1, one) ∷ (2, two) ∷ (3, three) ∷ (4, false) ∷ (5, five) ∷ []) ≡ clockRefusal → ⊥
+    other : (one two three five : Bool)
+        → firstOf ((1, one) ∷ (2, two) ∷ (3, three) ∷ (4, false) ∷ (5, five) ∷ []) ≡ clockRefusal → ⊥
     other true two three five e = omega arith
     other false true three five e = omega arith
     other false false true five e = omega arith
@@ -87,26 +92,28 @@ module _ {S : Type 0} (C : Chip S) (shift : ℕ → S → S) (L : ShiftLaws C sh
   pub refusal-shifted : (n : ℕ) (w v : WorldOf S) → Alike w v → RefusedAlike C n w v → refusalIn C n v ≡ refusalIn C n w
   refusal-shifted n w v r alike =
       by-parts (C .wellFormed (v .state)) (C .clock (v .state)) (length (v .memory)) (v .inputClocks) (v .inputCodes)
-      (length (v .outputClocks)) (length (v .outputWords)) (ap (C .wellFormed) (r .state) ∙ L .formed k (w .state)) (shifted-clock C shift L k w v r)
+      (length (v .outputClocks)) (length (v .outputWords)) (ap (C .wellFormed) (r .state) ∙ L .formed k (w .state))
+      (shifted-clock C shift L k w v r)
       (ap length (r .memory)) (r .inputClocks) (r .inputCodes) (r .records .clockSpace) (r .records .wordSpace) alike
     where
       by-parts : (formed : Bool) (clock span : ℕ) (clocks codes : List ℕ) (times words : ℕ)
           → formed ≡ C .wellFormed (w .state) → clock ≡ C .clock (w .state) + k → span ≡ length (w .memory)
           → clocks ≡ shiftedClocks k (w .inputClocks) → codes ≡ w .inputCodes
           → times ≡ length (w .outputClocks) → words ≡ length (w .outputWords)
-          → (refusalOf (C .limits) formed clock span clocks codes times words n ≡ clockRefusal → refusalIn C n w ≡ clockRefusal)
+          → (refusalOf (C .limits) formed clock span clocks codes times words n ≡ clockRefusal
+          → refusalIn C n w ≡ clockRefusal)
           → refusalOf (C .limits) formed clock span clocks codes times words n ≡ refusalIn C n w
       by-parts formed clock span clocks codes times words a b c d e f g =
           rw (a, b, c, d, e, f, g)
-          (refusal-alike (C .limits) (C .wellFormed (w .state)) (C .clock (w .state)) (length (w .memory)) (w .inputClocks) (w .inputCodes)
-          (length (w .outputClocks)) (length (w .outputWords)) n k)
+          (refusal-alike (C .limits) (C .wellFormed (w .state)) (C .clock (w .state)) (length (w .memory))
+          (w .inputClocks) (w .inputCodes) (length (w .outputClocks)) (length (w .outputWords)) n k)
 
   -- clocks that fit at the later clock are refused with 4 in neither
   pub fit-alike : (n : ℕ) (w v : WorldOf S) → C .clock (v .state) + n ≤ lastClock → RefusedAlike C n w v
   fit-alike n w v h e =
       absurd
-      (fit-number (C .limits) (C .wellFormed (v .state)) (C .clock (v .state)) (length (v .memory)) (v .inputClocks) (v .inputCodes)
-      (length (v .outputClocks)) (length (v .outputWords)) n h e)
+      (fit-number (C .limits) (C .wellFormed (v .state)) (C .clock (v .state)) (length (v .memory))
+      (v .inputClocks) (v .inputCodes) (length (v .outputClocks)) (length (v .outputWords)) n h e)
 
   -- ---- one call
 
@@ -132,8 +139,10 @@ module _ {S : Type 0} (C : Chip S) (shift : ℕ → S → S) (L : ShiftLaws C sh
   }
 
   -- a call, by its refusal
-  call-shifted : (n : ℕ) (w v : WorldOf S) (h g : HandedOf S) → Alike w v → RefusedAlike C n w v → ShiftedHanded shift k h g
-      → ShiftedHanded shift k (cond (eqb (refusalIn C n w) 0) h (refusedCall C n w)) (cond (eqb (refusalIn C n v) 0) g (refusedCall C n v))
+  call-shifted : (n : ℕ) (w v : WorldOf S) (h g : HandedOf S) → Alike w v → RefusedAlike C n w v
+      → ShiftedHanded shift k h g
+      → ShiftedHanded shift k (cond (eqb (refusalIn C n w) 0) h (refusedCall C n w))
+      (cond (eqb (refusalIn C n v) 0) g (refusedCall C n v))
   call-shifted n w v h g r alike done =
       by-number (refusalIn C n w) (refusalIn C n v) (refusal-shifted n w v r alike) (eqb (refusalIn C n w) 0) refl
     where
@@ -142,14 +151,16 @@ module _ {S : Type 0} (C : Chip S) (shift : ℕ → S → S) (L : ShiftLaws C sh
       by-number a b e true t = rw (e, t) done
       by-number a b e false t = rw (e, t) (refused-shifted w v a a r refl)
 
-  pub step-shifted : (w v : WorldOf S) → Alike w v → RefusedAlike C 1 w v → ShiftedHanded shift k (stepOf M w) (stepOf M v)
+  pub step-shifted : (w v : WorldOf S) → Alike w v → RefusedAlike C 1 w v
+      → ShiftedHanded shift k (stepOf M w) (stepOf M v)
   unfolding stepOf
   step-shifted w v r alike =
       let p = plain-shifted C shift L k w v r in
       call-shifted 1 w v _ _ r alike
       (handed-shifted (plainOf C w) (plainOf C v) _ _ p (moved-shifted C shift L k w v (plainOf C w) (plainOf C v) r p))
 
-  pub run-call-shifted : (n : ℕ) (w v : WorldOf S) → Alike w v → RefusedAlike C n w v → ShiftedHanded shift k (runOf M n w) (runOf M n v)
+  pub run-call-shifted : (n : ℕ) (w v : WorldOf S) → Alike w v → RefusedAlike C n w v
+      → ShiftedHanded shift k (runOf M n w) (runOf M n v)
   unfolding runOf
   run-call-shifted n w v r alike =
       let p = run-shifted C shift L k n w v r in
@@ -207,13 +218,15 @@ module _ {S : Type 0} (C : Chip S) (shift : ℕ → S → S) (L : ShiftLaws C sh
     resulted-by false accepted e d = rw (e, resultsBy)
 
     -- a call that is made, and not refused with 4
-    unlate : (accepted : Bool) → eqb (refusalIn C (countOf c) x) 0 ≡ accepted → clocksFit (resulted true accepted) ≡ true
+    unlate : (accepted : Bool) → eqb (refusalIn C (countOf c) x) 0 ≡ accepted
+        → clocksFit (resulted true accepted) ≡ true
         → refusalIn C (countOf c) x ≡ clockRefusal → ⊥
     unfolding clocksFit
     unlate true d fit four = let none = eqb-true (refusalIn C (countOf c) x) 0 d in omega arith
     unlate false d fit four =
         eqb-false (refusalIn C (countOf c) x) clockRefusal
-        (not-true _ (and-left (not (eqb (refusalIn C (countOf c) x) clockRefusal)) (clocksFit (resultsBy M cs x)) fit)) four
+        (not-true _
+        (and-left (not (eqb (refusalIn C (countOf c) x) clockRefusal)) (clocksFit (resultsBy M cs x)) fit)) four
 
   result-shifted : (w v x y : WorldOf S) (leaps leaps' : ℕ) → Alike w v → Alike x y → leaps' ≡ leaps
       → resultByOf leaps' v y ≡ shiftedResult shift k (resultByOf leaps w x)
@@ -241,7 +254,9 @@ module _ {S : Type 0} (C : Chip S) (shift : ℕ → S → S) (L : ShiftLaws C sh
         let on = sym (running-shifted C shift L k w v r) ∙ e in
         record {
           count = counted-by c cs v false _ e refl ∙ sym (counted-by c cs w false _ on refl);
-          results = resulted-by c cs v false _ e refl ∙ ap (map (shiftedResult shift k)) (sym (resulted-by c cs w false _ on refl));
+          results =
+              resulted-by c cs v false _ e refl
+              ∙ ap (map (shiftedResult shift k)) (sym (resulted-by c cs w false _ on refl));
         }
     plain-by true true e d fit later =
         let n = countOf c in
@@ -253,7 +268,9 @@ module _ {S : Type 0} (C : Chip S) (shift : ℕ → S → S) (L : ShiftLaws C sh
         let y = plains (systemOf C) n v in
         let rest = later x y p (fit-behind _ (resultsBy M cs y) fit) in
         record {
-          count = counted-by c cs v true true e d ∙ ap (λ (m : ℕ). n + m) (rest .count) ∙ sym (counted-by c cs w true true on accepted);
+          count =
+              counted-by c cs v true true e d ∙ ap (λ (m : ℕ). n + m) (rest .count)
+              ∙ sym (counted-by c cs w true true on accepted);
           results =
               resulted-by c cs v true true e d
               ∙ each _ _ _ _ (result-shifted w v x y _ _ r p (count-shifted C shift L k n w v r)) (rest .results)
@@ -278,7 +295,8 @@ module _ {S : Type 0} (C : Chip S) (shift : ℕ → S → S) (L : ShiftLaws C sh
   list-plain [] w v r fit = record { count = refl; results = refl }
   list-plain (c ∷ cs) w v r fit =
       plain-by c cs w v r (runningIn v) (eqb (refusalIn C (countOf c) v) 0) refl refl
-      (sym (ap clocksFit (resulted-by c cs v (runningIn v) (eqb (refusalIn C (countOf c) v) 0) refl refl)) ∙ fit) (list-plain cs)
+      (sym (ap clocksFit (resulted-by c cs v (runningIn v) (eqb (refusalIn C (countOf c) v) 0) refl refl)) ∙ fit)
+      (list-plain cs)
 
   -- ---- lists of calls
 
@@ -289,24 +307,27 @@ module _ {S : Type 0} (C : Chip S) (shift : ℕ → S → S) (L : ShiftLaws C sh
   }
 
   module _ (laws : ChipLaws C) (w v : WorldOf S) (r : Alike w v) (room : Room w) where
-    -- A list of calls of which none at the later clock is refused with 4: the worlds that they leave are alike but for the
-    -- clock, and so is the result of each.
-    pub list-shifted : (cs : List Call) → clocksFit (calls M cs v .results) ≡ true → ShiftedListed shift k (calls M cs w) (calls M cs v)
+    -- A list of calls of which none at the later clock is refused with 4: the worlds that they leave are alike but for
+    -- the clock, and so is the result of each.
+    pub list-shifted : (cs : List Call) → clocksFit (calls M cs v .results) ≡ true
+        → ShiftedListed shift k (calls M cs w) (calls M cs v)
     list-shifted cs fit =
         let before = theory.fair C laws cs w room in
         let after = theory.fair C laws cs v (room-shifted w v r room) in
-        let plainly = list-plain cs w v r (sym (ap (λ (l : Listed (WorldOf S) (ResultOf S)). clocksFit (l .results)) after) ∙ fit) in
+        let fitting = sym (ap (λ (l : Listed (WorldOf S) (ResultOf S)). clocksFit (l .results)) after) ∙ fit in
+        let plainly = list-plain cs w v r fitting in
         rw (before, after)
         (record {
           world = rw (plainly .count) (plains-shifted C shift L k (clocksAccepted M cs w) w v r);
           results = plainly .results;
         })
 
-    -- A run at the earlier clock that is not refused hands back what n plain clocks at the later one leave, and document
-    -- 01's leaps, though no call could do them: the later clock may be past the last.
+    -- A run at the earlier clock that is not refused hands back what n plain clocks at the later one leave, and
+    -- document 01's leaps, though no call might do them: the later clock may be past the last.
     pub run-past-shifted : (n : ℕ) → refusalIn C n w ≡ 0
         → ShiftedHanded shift k (runOf M n w) (handedBackOf (leapCount (systemOf C) n v) (plains (systemOf C) n v))
     unfolding plainRunOf
     run-past-shifted n accepted =
         rw (theory.runs-plainly C laws n w room, eq-eqb (refusalIn C n w) 0 accepted)
-        (handed-shifted (plains (systemOf C) n w) (plains (systemOf C) n v) _ _ (plains-shifted C shift L k n w v r) (count-shifted C shift L k n w v r))
+        (handed-shifted (plains (systemOf C) n w) (plains (systemOf C) n v) _ _ (plains-shifted C shift L k n w v r)
+        (count-shifted C shift L k n w v r))

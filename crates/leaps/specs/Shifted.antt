@@ -15,8 +15,8 @@ use Rattle.leaps.specs.Calls.{ResultOf, HandedOf, refusalIn}
 abbrev pub shiftedClocks : ℕ → List ℕ → List ℕ
 shiftedClocks k clocks = map (λ (t : ℕ). t + k) clocks
 
--- The records written are alike but for their clocks, and there is as much output space. In entries that are not written
--- anything may stand.
+-- The records written are alike but for their clocks, and there is as much output space. In entries that are not
+-- written anything may stand.
 pub record ShiftedRecords (k written : ℕ) (times words times' words' : List ℕ) : Type 0 where
   pub clockSpace : length times' ≡ length times
   pub wordSpace : length words' ≡ length words
@@ -64,7 +64,8 @@ module _ {S : Type 0} (shift : ℕ → S → S) (k : ℕ) where
   pub record ShiftedHanded (h g : HandedOf S) : Type 0 where
     pub result : g .result ≡ shiftedResult (h .result)
     pub memory : g .memory ≡ h .memory
-    pub records : ShiftedRecords k (h .result .written) (h .outputClocks) (h .outputWords) (g .outputClocks) (g .outputWords)
+    pub records : ShiftedRecords k (h .result .written) (h .outputClocks) (h .outputWords)
+        (g .outputClocks) (g .outputWords)
 
   -- `m` is what a list of calls leads to that leads to `l`, k clocks later
   pub record ShiftedListed (l m : Listed (WorldOf S) (ResultOf S)) : Type 0 where

@@ -15,8 +15,8 @@ use Rattle.r6501q_step.proofs.Shifted.{shift-laws}
 use Rattle.r6501q_run.proofs.Laws.{laws}
 
 module _ (halt : Halt) (k : ℕ) (w v : World) (r : ShiftedWorld shiftedState k w v) (room : Room w) where
-  -- Any list of single clocks and runs, refused ones included, of which none at the later clock is refused with 4: state,
-  -- memory, records, stop and counts, and each call's result, are alike but for the clock.
+  -- Any list of single clocks and runs, refused ones included, of which none at the later clock is refused with 4:
+  -- state, memory, records, stop and counts, and each call's result, are alike but for the clock.
   pub list-shifted : (cs : List Call) → clocksFit (calls (machine halt) cs v .results) ≡ true
       → ShiftedListed shiftedState k (calls (machine halt) cs w) (calls (machine halt) cs v)
   list-shifted = theory.list-shifted (r6501q halt) shiftedState (shift-laws halt) k (laws halt) w v r room
@@ -24,5 +24,6 @@ module _ (halt : Halt) (k : ℕ) (w v : World) (r : ShiftedWorld shiftedState k 
   -- A run at the earlier clock that is not refused is, but for the clock, n plain clocks at the later one with document
   -- 01's leaps, wherever that clock is: past the last one too, where a call is refused.
   pub run-past-last : (n : ℕ) → refusalIn (r6501q halt) n w ≡ 0
-      → ShiftedHanded shiftedState k (runOf (machine halt) n w) (handedBackOf (leapCount (chip halt) n v) (plains (chip halt) n v))
+      → ShiftedHanded shiftedState k (runOf (machine halt) n w)
+      (handedBackOf (leapCount (chip halt) n v) (plains (chip halt) n v))
   run-past-last = theory.run-past-shifted (r6501q halt) shiftedState (shift-laws halt) k (laws halt) w v r room

@@ -2,7 +2,7 @@
 use mathlib.Core.Path.{_≡_, refl, sym, ap, _∙_}
 use mathlib.Core.Bool.{Bool, true, false, not, cond, _&&_}
 use mathlib.Core.List.{List, [], _∷_}
-use Prim.Native.Nat.{ℕ, _+_, _-_, _≤_}
+use Prim.Native.Nat.{ℕ, _+_, _≤_}
 use native.Mathlib.Omega.{arith}
 use lib.Dec.{ltb, eqb}
 use lib.ListN.{length}
@@ -25,18 +25,17 @@ use Rattle.leaps.proofs.Shifted as theory
 use Rattle.leaps.proofs.Shifted.{ShiftLaws}
 use Rattle.leaps.proofs.ShiftedCalls as calls
 use Rattle.r6501q_state.specs.declared.state.State.{State}
-use Rattle.r6501q_state.specs.declared.state.Levels.{Levels}
 use Rattle.r6501q_state.specs.declared.state.Peripherals.{Peripherals}
 use Rattle.r6501q_state.specs.State.{fresh, wellFormed}
 use Rattle.r6501q_state.specs.Pins.{drivenWord, levelsOf, withEdges, resetOf, sensedAt, sensed}
 use Rattle.r6501q_cpu.specs.declared.Next.{Next}
 use Rattle.r6501q_cpu.specs.declared.Processed.{Processed}
 use Rattle.r6501q_cpu.specs.declared.Processed.the-variants as processed
-use Rattle.r6501q_cpu.specs.Processor.{registersOf, performedIn, processedBy, irqDue, wholeInstruction, resetStart, nmiStart, irqStart, startOf, withoutWrites, waitLess, bytePut, waitedBy, processorOf}
+use Rattle.r6501q_cpu.specs.Processor.{registersOf, performedIn, processedBy, irqDue, wholeInstruction, resetStart, nmiStart, irqStart, startOf, withoutWrites, bytePut, waitedBy, processorOf}
 use Rattle.r6501q_clock.specs.declared.Clocked.the-variants.{Stopped, Done}
 use Rattle.r6501q_clock.specs.Clock.{inputsSet, readyOf, fullStop, endedWith, finished, recorded, clockOf}
 use Rattle.r6501q_gaps.specs.Events.{levelsChange, underflowsA, underflowsB, resetChanges, cpuStarts, putsByte, isReset, eventOf}
-use Rattle.r6501q_gaps.specs.Gaps.{clocksOf, toInput, toChange, toUnderflowA, toUnderflowB, toReset, toCpu, gapOf, passOf}
+use Rattle.r6501q_gaps.specs.Gaps.{toInput, toChange, toUnderflowA, toUnderflowB, toReset, toCpu, gapOf, passOf}
 use Rattle.r6501q_step.specs.R6501q.{World, clockOutcome, r6501q, chip, machine}
 use Rattle.r6501q_step.specs.Shifted.{shiftedState}
 
@@ -47,7 +46,8 @@ module _ (k : ℕ) where
   unfolding sensed sensedAt levelsOf withEdges resetOf
   sensed-shifted s = sym (cond-map (shiftedState k) (s .external .res) _ _)
 
-  inputs-shifted : (s : State) (codes : List ℕ) → inputsSet (shiftedState k s) codes ≡ shiftedState k (inputsSet s codes)
+  inputs-shifted : (s : State) (codes : List ℕ)
+      → inputsSet (shiftedState k s) codes ≡ shiftedState k (inputsSet s codes)
   inputs-shifted s codes = let e : s .clock + k + 1 ≡ s .clock + 1 + k = omega arith in rw e
 
   ready-shifted : (s : State) (codes : List ℕ) → readyOf (shiftedState k s) codes ≡ shiftedState k (readyOf s codes)
@@ -67,14 +67,16 @@ module _ (k : ℕ) where
       → wholeInstruction (shiftedState k s) memory ≡ shiftedProcessed (wholeInstruction s memory)
   unfolding wholeInstruction
   instruction-shifted s memory =
-      let x = performedIn s memory (instructionAccesses (registersOf (s .cpu))) in by-end (x .peripherals) (x .writes) (x .end)
+      let x = performedIn s memory (instructionAccesses (registersOf (s .cpu))) in
+      by-end (x .peripherals) (x .writes) (x .end)
     where
       by-end : (p : Peripherals) (pushes : List Write) (end : Ending)
           → processedBy (shiftedState k s) p pushes end ≡ shiftedProcessed (processedBy s p pushes end)
       by-end p pushes undefined = refl
       by-end p pushes (leaves l) = refl
 
-  start-shifted : (s : State) (memory : List ℕ) → startOf (shiftedState k s) memory ≡ shiftedProcessed (startOf s memory)
+  start-shifted : (s : State) (memory : List ℕ)
+      → startOf (shiftedState k s) memory ≡ shiftedProcessed (startOf s memory)
   unfolding startOf resetStart nmiStart irqStart irqDue
   start-shifted s memory =
       sym (cond-along shiftedProcessed (s .due .reset) (processed.Done (resetStart s memory)) _ refl
@@ -87,7 +89,8 @@ module _ (k : ℕ) where
   waited-shifted s Nothing = refl
   waited-shifted s (Byte w) = sym (cond-map shiftedProcessed (eqb (s .cpu .wait) 1) _ _)
 
-  processor-shifted : (s : State) (memory : List ℕ) → processorOf (shiftedState k s) memory ≡ shiftedProcessed (processorOf s memory)
+  processor-shifted : (s : State) (memory : List ℕ)
+      → processorOf (shiftedState k s) memory ≡ shiftedProcessed (processorOf s memory)
   unfolding processorOf
   processor-shifted s memory =
       sym (cond-along shiftedProcessed (s .last .res) _ (withoutWrites s)
@@ -102,11 +105,13 @@ module _ (k : ℕ) where
   unfolding finished
   recorded-shifted halt memory before free processed.Undefined = refl
   recorded-shifted halt memory before free (processed.Done n) =
-      let word = drivenWord (n .state .peripherals) in by-test word (not (eqb word before)) (not (eqb word before) && not free)
+      let word = drivenWord (n .state .peripherals) in
+      by-test word (not (eqb word before)) (not (eqb word before) && not free)
     where
       by-test : (word : ℕ) (differs full : Bool)
           → clockOutcome halt memory (cond full (Stopped fullStop) (Done (endedWith (shiftedNext n) word differs)))
-          ≡ shiftedOutcome shiftedState k (clockOutcome halt memory (cond full (Stopped fullStop) (Done (endedWith n word differs))))
+          ≡ shiftedOutcome shiftedState k
+          (clockOutcome halt memory (cond full (Stopped fullStop) (Done (endedWith n word differs))))
       by-test word differs true = refl
       by-test word differs false = refl
 
@@ -120,11 +125,13 @@ module _ (k : ℕ) where
       (ap (λ (t : State). processorOf t memory) (ready-shifted s codes) ∙ processor-shifted (readyOf s codes) memory)
       ∙ recorded-shifted halt memory word free (processorOf (readyOf s codes) memory)
 
-  event-shifted : (halt : Halt) (s : State) (codes : List ℕ) → r6501q halt .event (shiftedState k s) codes ≡ r6501q halt .event s codes
+  event-shifted : (halt : Halt) (s : State) (codes : List ℕ)
+      → r6501q halt .event (shiftedState k s) codes ≡ r6501q halt .event s codes
   unfolding eventOf levelsChange underflowsA underflowsB resetChanges isReset cpuStarts putsByte levelsOf withEdges
   event-shifted halt s codes = rw (inputs-shifted s codes, sensed-shifted (inputsSet s codes)) refl
 
-  input-shifted : (n clock : ℕ) (clocks : List ℕ) → toInput n (clock + k) (shiftedClocks k clocks) ≡ toInput n clock clocks
+  input-shifted : (n clock : ℕ) (clocks : List ℕ)
+      → toInput n (clock + k) (shiftedClocks k clocks) ≡ toInput n clock clocks
   unfolding toInput
   input-shifted n clock [] = refl
   input-shifted n clock (t ∷ ts) = omega arith
@@ -134,7 +141,8 @@ module _ (k : ℕ) where
   unfolding gapOf toChange toUnderflowA toUnderflowB toReset toCpu levelsChange levelsOf resetChanges isReset
   gap-shifted halt n s clocks = rw (input-shifted n (s .clock) clocks) refl
 
-  pass-shifted : (halt : Halt) (g : ℕ) (s : State) → r6501q halt .pass g (shiftedState k s) ≡ shiftedState k (r6501q halt .pass g s)
+  pass-shifted : (halt : Halt) (g : ℕ) (s : State)
+      → r6501q halt .pass g (shiftedState k s) ≡ shiftedState k (r6501q halt .pass g s)
   unfolding passOf
   pass-shifted halt g s = let e : s .clock + k + g ≡ s .clock + g + k = omega arith in rw e refl
 
@@ -150,7 +158,7 @@ shift-laws halt = record {
   pass = λ k. pass-shifted k halt;
 }
 
--- ---- The theorem of the shifted clock. From two worlds that are alike but for their clocks, the second k clocks later:
+-- ---- The theorem of the shifted clock. From two worlds that are alike but for their clocks, the second k later:
 
 module _ (halt : Halt) (k : ℕ) (w v : World) (r : ShiftedWorld shiftedState k w v) where
   -- any number of plain clocks leaves two such worlds, in as many leaps by document 01's count;
@@ -160,9 +168,10 @@ module _ (halt : Halt) (k : ℕ) (w v : World) (r : ShiftedWorld shiftedState k 
   pub count-shifted : (n : ℕ) → leapCount (chip halt) n v ≡ leapCount (chip halt) n w
   count-shifted n = theory.count-shifted (r6501q halt) shiftedState (shift-laws halt) k n w v r
 
-  -- the single-clock call and the run hand back the same but for the clock, leaps too, refused or not, where 4 is told at
-  -- both clocks or at neither;
-  pub step-shifted : RefusedAlike (r6501q halt) 1 w v → ShiftedHanded shiftedState k (stepOf (machine halt) w) (stepOf (machine halt) v)
+  -- the single-clock call and the run hand back the same but for the clock, leaps too, refused or not, where 4 is told
+  -- at both clocks or at neither;
+  pub step-shifted : RefusedAlike (r6501q halt) 1 w v
+      → ShiftedHanded shiftedState k (stepOf (machine halt) w) (stepOf (machine halt) v)
   step-shifted alike = calls.step-shifted (r6501q halt) shiftedState (shift-laws halt) k w v r alike
 
   pub run-shifted : (n : ℕ) → RefusedAlike (r6501q halt) n w v
@@ -184,9 +193,11 @@ module _ (halt : Halt) (k : ℕ) (s : State) (memory clocks codes times words ti
 
   pub start-alike : ShiftedWorld shiftedState k earlier later
   start-alike =
-      calls.start-shifted (r6501q halt) shiftedState (shift-laws halt) k s memory clocks codes times words times' words' clockSpace wordSpace
+      calls.start-shifted (r6501q halt) shiftedState (shift-laws halt) k
+      s memory clocks codes times words times' words' clockSpace wordSpace
 
-  pub step-later : s .clock + k + 1 ≤ lastClock → ShiftedHanded shiftedState k (stepOf (machine halt) earlier) (stepOf (machine halt) later)
+  pub step-later : s .clock + k + 1 ≤ lastClock
+      → ShiftedHanded shiftedState k (stepOf (machine halt) earlier) (stepOf (machine halt) later)
   step-later fits = step-shifted halt k earlier later start-alike (fit-alike halt k earlier later start-alike 1 fits)
 
   pub run-later : (n : ℕ) → s .clock + k + n ≤ lastClock
@@ -198,4 +209,5 @@ pub four-differs : (halt : Halt) (memory : List ℕ) → length memory ≡ memor
     → (refusalIn (r6501q halt) 1 (callStart fresh memory [] [] [] []) ≡ 0)
     × (refusalIn (r6501q halt) 1 (callStart (shiftedState lastClock fresh) memory [] [] [] []) ≡ clockRefusal)
 unfolding refusalOf wellFormed fresh pinsRight byteWaits
-four-differs halt memory whole = (rw (eq-eqb (length memory) memorySpan whole), rw (eq-eqb (length memory) memorySpan whole))
+four-differs halt memory whole =
+    (rw (eq-eqb (length memory) memorySpan whole), rw (eq-eqb (length memory) memorySpan whole))
