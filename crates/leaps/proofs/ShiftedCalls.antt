@@ -191,39 +191,39 @@ module _ {S : Type 0} (C : Chip S) (shift : ℕ → S → S) (L : ShiftLaws C sh
 
   -- what the first call of a list comes to, by whether nothing has stopped and whether it is not refused
   module _ (c : Call) (cs : List Call) (x : WorldOf S) where
-    abbrev counted : Bool → Bool → ℕ
-    counted true true = countOf c + clocksAccepted M cs (plains (systemOf C) (countOf c) x)
-    counted true false = clocksAccepted M cs x
-    counted false accepted = 0
+    abbrev acceptedFrom : Bool → Bool → ℕ
+    acceptedFrom true true = countOf c + clocksAccepted M cs (plains (systemOf C) (countOf c) x)
+    acceptedFrom true false = clocksAccepted M cs x
+    acceptedFrom false accepted = 0
 
-    abbrev resulted : Bool → Bool → List (ResultOf S)
-    resulted true true =
+    abbrev resultsFrom : Bool → Bool → List (ResultOf S)
+    resultsFrom true true =
         let y = plains (systemOf C) (countOf c) x in
         resultByOf (leapCount (systemOf C) (countOf c) x) x y ∷ resultsBy M cs y
-    resulted true false = refusedWith (refusalIn C (countOf c) x) (x .state) ∷ resultsBy M cs x
-    resulted false accepted = []
+    resultsFrom true false = refusedWith (refusalIn C (countOf c) x) (x .state) ∷ resultsBy M cs x
+    resultsFrom false accepted = []
 
-    counted-by : (on accepted : Bool) → runningIn x ≡ on → eqb (refusalIn C (countOf c) x) 0 ≡ accepted
-        → clocksAccepted M (c ∷ cs) x ≡ counted on accepted
+    accepted-from : (on accepted : Bool) → runningIn x ≡ on → eqb (refusalIn C (countOf c) x) 0 ≡ accepted
+        → clocksAccepted M (c ∷ cs) x ≡ acceptedFrom on accepted
     unfolding clocksAccepted
-    counted-by true true e d = rw (e, clocksAccepted) (rw d)
-    counted-by true false e d = rw (e, clocksAccepted) (rw d)
-    counted-by false accepted e d = rw (e, clocksAccepted)
+    accepted-from true true e d = rw (e, clocksAccepted) (rw d)
+    accepted-from true false e d = rw (e, clocksAccepted) (rw d)
+    accepted-from false accepted e d = rw (e, clocksAccepted)
 
-    resulted-by : (on accepted : Bool) → runningIn x ≡ on → eqb (refusalIn C (countOf c) x) 0 ≡ accepted
-        → resultsBy M (c ∷ cs) x ≡ resulted on accepted
+    results-from : (on accepted : Bool) → runningIn x ≡ on → eqb (refusalIn C (countOf c) x) 0 ≡ accepted
+        → resultsBy M (c ∷ cs) x ≡ resultsFrom on accepted
     unfolding resultsBy
-    resulted-by true true e d = rw (e, resultsBy) (rw d)
-    resulted-by true false e d = rw (e, resultsBy) (rw d)
-    resulted-by false accepted e d = rw (e, resultsBy)
+    results-from true true e d = rw (e, resultsBy) (rw d)
+    results-from true false e d = rw (e, resultsBy) (rw d)
+    results-from false accepted e d = rw (e, resultsBy)
 
     -- a call that is made, and not refused with 4
-    unlate : (accepted : Bool) → eqb (refusalIn C (countOf c) x) 0 ≡ accepted
-        → clocksFit (resulted true accepted) ≡ true
+    number-not-four : (accepted : Bool) → eqb (refusalIn C (countOf c) x) 0 ≡ accepted
+        → clocksFit (resultsFrom true accepted) ≡ true
         → refusalIn C (countOf c) x ≡ clockRefusal → ⊥
     unfolding clocksFit
-    unlate true d fit four = let none = eqb-true (refusalIn C (countOf c) x) 0 d in omega arith
-    unlate false d fit four =
+    number-not-four true d fit four = let none = eqb-true (refusalIn C (countOf c) x) 0 d in omega arith
+    number-not-four false d fit four =
         eqb-false (refusalIn C (countOf c) x) clockRefusal
         (not-true _
         (and-left (not (eqb (refusalIn C (countOf c) x) clockRefusal)) (clocksFit (resultsBy M cs x)) fit)) four
@@ -236,8 +236,8 @@ module _ {S : Type 0} (C : Chip S) (shift : ℕ → S → S) (L : ShiftLaws C sh
       → refusedWith number' t ≡ shiftedResult shift k (refusedWith number s)
   refused-alike s t number number' a b = rw (a, b)
 
-  each : (a b : ResultOf S) (l m : List (ResultOf S)) → a ≡ b → l ≡ m → a ∷ l ≡ b ∷ m
-  each a b l m e f = rw (e, f)
+  results-both : (a b : ResultOf S) (l m : List (ResultOf S)) → a ≡ b → l ≡ m → a ∷ l ≡ b ∷ m
+  results-both a b l m e f = rw (e, f)
 
   -- the clocks of the calls that are not refused, and the result of each call
   record Plainly (cs : List Call) (w v : WorldOf S) : Type 0 where
@@ -249,19 +249,19 @@ module _ {S : Type 0} (C : Chip S) (shift : ℕ → S → S) (L : ShiftLaws C sh
 
   module _ (c : Call) (cs : List Call) (w v : WorldOf S) (r : Alike w v) where
     plain-by : (on accepted : Bool) → runningIn v ≡ on → eqb (refusalIn C (countOf c) v) 0 ≡ accepted
-        → clocksFit (resulted c cs v on accepted) ≡ true → Plain cs → Plainly (c ∷ cs) w v
+        → clocksFit (resultsFrom c cs v on accepted) ≡ true → Plain cs → Plainly (c ∷ cs) w v
     plain-by false accepted e d fit later =
         let on = sym (running-shifted C shift L k w v r) ∙ e in
         record {
-          count = counted-by c cs v false _ e refl ∙ sym (counted-by c cs w false _ on refl);
+          count = accepted-from c cs v false _ e refl ∙ sym (accepted-from c cs w false _ on refl);
           results =
-              resulted-by c cs v false _ e refl
-              ∙ ap (map (shiftedResult shift k)) (sym (resulted-by c cs w false _ on refl));
+              results-from c cs v false _ e refl
+              ∙ ap (map (shiftedResult shift k)) (sym (results-from c cs w false _ on refl));
         }
     plain-by true true e d fit later =
         let n = countOf c in
         let on = sym (running-shifted C shift L k w v r) ∙ e in
-        let same = refusal-shifted n w v r (λ four. absurd (unlate c cs v true d fit four)) in
+        let same = refusal-shifted n w v r (λ four. absurd (number-not-four c cs v true d fit four)) in
         let accepted = ap (λ (number : ℕ). eqb number 0) (sym same) ∙ d in
         let p = plains-shifted C shift L k n w v r in
         let x = plains (systemOf C) n w in
@@ -269,25 +269,25 @@ module _ {S : Type 0} (C : Chip S) (shift : ℕ → S → S) (L : ShiftLaws C sh
         let rest = later x y p (fit-behind _ (resultsBy M cs y) fit) in
         record {
           count =
-              counted-by c cs v true true e d ∙ ap (λ (m : ℕ). n + m) (rest .count)
-              ∙ sym (counted-by c cs w true true on accepted);
+              accepted-from c cs v true true e d ∙ ap (λ (m : ℕ). n + m) (rest .count)
+              ∙ sym (accepted-from c cs w true true on accepted);
           results =
-              resulted-by c cs v true true e d
-              ∙ each _ _ _ _ (result-shifted w v x y _ _ r p (count-shifted C shift L k n w v r)) (rest .results)
-              ∙ ap (map (shiftedResult shift k)) (sym (resulted-by c cs w true true on accepted));
+              results-from c cs v true true e d
+              ∙ results-both _ _ _ _ (result-shifted w v x y _ _ r p (count-shifted C shift L k n w v r)) (rest .results)
+              ∙ ap (map (shiftedResult shift k)) (sym (results-from c cs w true true on accepted));
         }
     plain-by true false e d fit later =
         let n = countOf c in
         let on = sym (running-shifted C shift L k w v r) ∙ e in
-        let same = refusal-shifted n w v r (λ four. absurd (unlate c cs v false d fit four)) in
+        let same = refusal-shifted n w v r (λ four. absurd (number-not-four c cs v false d fit four)) in
         let refused = ap (λ (number : ℕ). eqb number 0) (sym same) ∙ d in
         let rest = later w v r (fit-behind _ (resultsBy M cs v) fit) in
         record {
-          count = counted-by c cs v true false e d ∙ rest .count ∙ sym (counted-by c cs w true false on refused);
+          count = accepted-from c cs v true false e d ∙ rest .count ∙ sym (accepted-from c cs w true false on refused);
           results =
-              resulted-by c cs v true false e d
-              ∙ each _ _ _ _ (refused-alike (w .state) (v .state) _ _ (r .state) same) (rest .results)
-              ∙ ap (map (shiftedResult shift k)) (sym (resulted-by c cs w true false on refused));
+              results-from c cs v true false e d
+              ∙ results-both _ _ _ _ (refused-alike (w .state) (v .state) _ _ (r .state) same) (rest .results)
+              ∙ ap (map (shiftedResult shift k)) (sym (results-from c cs w true false on refused));
         }
 
   list-plain : (cs : List Call) → Plain cs
@@ -295,7 +295,7 @@ module _ {S : Type 0} (C : Chip S) (shift : ℕ → S → S) (L : ShiftLaws C sh
   list-plain [] w v r fit = record { count = refl; results = refl }
   list-plain (c ∷ cs) w v r fit =
       plain-by c cs w v r (runningIn v) (eqb (refusalIn C (countOf c) v) 0) refl refl
-      (sym (ap clocksFit (resulted-by c cs v (runningIn v) (eqb (refusalIn C (countOf c) v) 0) refl refl)) ∙ fit)
+      (sym (ap clocksFit (results-from c cs v (runningIn v) (eqb (refusalIn C (countOf c) v) 0) refl refl)) ∙ fit)
       (list-plain cs)
 
   -- ---- lists of calls

@@ -9,6 +9,7 @@ use lib.ListN.{length}
 use borrow.Author.Tests.{eq-eqb}
 use Rattle.bits.proofs.Cond.{cond-map, cond-along}
 use Rattle.cpu_access.specs.declared.halt.Halt.{Halt}
+use Rattle.cpu_access.specs.declared.halt.Halt.the-variants.{At}
 use Rattle.cpu_access.specs.declared.waiting.Waiting.{Waiting}
 use Rattle.cpu_access.specs.declared.waiting.Waiting.the-variants.{Nothing, Byte}
 use Rattle.cpu_access.specs.declared.stack.Write.{Write}
@@ -27,6 +28,7 @@ use Rattle.leaps.proofs.ShiftedCalls as calls
 use Rattle.r6501q_state.specs.declared.state.State.{State}
 use Rattle.r6501q_state.specs.declared.state.Peripherals.{Peripherals}
 use Rattle.r6501q_state.specs.State.{fresh, wellFormed}
+use Rattle.r6501q_state.specs.Inputs.{resHigh}
 use Rattle.r6501q_state.specs.Pins.{drivenWord, levelsOf, withEdges, resetOf, sensedAt, sensed}
 use Rattle.r6501q_cpu.specs.declared.Next.{Next}
 use Rattle.r6501q_cpu.specs.declared.Processed.{Processed}
@@ -38,6 +40,7 @@ use Rattle.r6501q_gaps.specs.Events.{levelsChange, underflowsA, underflowsB, re
 use Rattle.r6501q_gaps.specs.Gaps.{toInput, toChange, toUnderflowA, toUnderflowB, toReset, toCpu, gapOf, passOf}
 use Rattle.r6501q_step.specs.R6501q.{World, clockOutcome, r6501q, chip, machine}
 use Rattle.r6501q_step.specs.Shifted.{shiftedState}
+use Rattle.r6501q_step.proofs.Examples.{startWith, tapeMemory, tapeStart, reached, halt-reached, halt-leaps}
 
 module _ (k : ℕ) where
   -- ---- steps 1 to 3
@@ -185,24 +188,28 @@ module _ (halt : Halt) (k : ℕ) (w v : World) (r : ShiftedWorld shiftedState k 
 -- The same of calls, by what they are given: any state, memory and inputs, any output lists of the same lengths.
 module _ (halt : Halt) (k : ℕ) (s : State) (memory clocks codes times words times' words' : List ℕ)
     (clockSpace : length times' ≡ length times) (wordSpace : length words' ≡ length words) where
-  abbrev earlier : World
-  earlier = callStart s memory clocks codes times words
+  abbrev earlierStart : World
+  earlierStart = callStart s memory clocks codes times words
 
-  abbrev later : World
-  later = callStart (shiftedState k s) memory (shiftedClocks k clocks) codes times' words'
+  abbrev laterStart : World
+  laterStart = callStart (shiftedState k s) memory (shiftedClocks k clocks) codes times' words'
 
-  pub start-alike : ShiftedWorld shiftedState k earlier later
+  pub start-alike : ShiftedWorld shiftedState k earlierStart laterStart
   start-alike =
       calls.start-shifted (r6501q halt) shiftedState (shift-laws halt) k
       s memory clocks codes times words times' words' clockSpace wordSpace
 
-  pub step-later : s .clock + k + 1 ≤ lastClock
-      → ShiftedHanded shiftedState k (stepOf (machine halt) earlier) (stepOf (machine halt) later)
-  step-later fits = step-shifted halt k earlier later start-alike (fit-alike halt k earlier later start-alike 1 fits)
+  pub step-start-shifted : s .clock + k + 1 ≤ lastClock
+      → ShiftedHanded shiftedState k (stepOf (machine halt) earlierStart) (stepOf (machine halt) laterStart)
+  step-start-shifted fits =
+      step-shifted halt k earlierStart laterStart start-alike
+      (fit-alike halt k earlierStart laterStart start-alike 1 fits)
 
-  pub run-later : (n : ℕ) → s .clock + k + n ≤ lastClock
-      → ShiftedHanded shiftedState k (runOf (machine halt) n earlier) (runOf (machine halt) n later)
-  run-later n fits = run-shifted halt k earlier later start-alike n (fit-alike halt k earlier later start-alike n fits)
+  pub run-start-shifted : (n : ℕ) → s .clock + k + n ≤ lastClock
+      → ShiftedHanded shiftedState k (runOf (machine halt) n earlierStart) (runOf (machine halt) n laterStart)
+  run-start-shifted n fits =
+      run-shifted halt k earlierStart laterStart start-alike n
+      (fit-alike halt k earlierStart laterStart start-alike n fits)
 
 -- 4 does differ: a fresh chip may do a clock, and at the last clock none
 pub four-differs : (halt : Halt) (memory : List ℕ) → length memory ≡ memorySpan
@@ -211,3 +218,28 @@ pub four-differs : (halt : Halt) (memory : List ℕ) → length memory ≡ memor
 unfolding refusalOf wellFormed fresh pinsRight byteWaits
 four-differs halt memory whole =
     (rw (eq-eqb (length memory) memorySpan whole), rw (eq-eqb (length memory) memorySpan whole))
+
+-- 02, U4: document 01's tape with the halt address 0000h (`halt-reached`, `halt-leaps`), from fresh but for its clock,
+-- any k: stop 12 behind twelve clocks, after one record, in 4 leaps
+abbrev tapeAt : ℕ → World
+tapeAt k = startWith (shiftedState k fresh) tapeMemory ((1 + k) ∷ []) (resHigh ∷ []) (0 ∷ []) (0 ∷ [])
+
+tape-alike : (k : ℕ) → ShiftedWorld shiftedState k (tapeStart 1) (tapeAt k)
+tape-alike k =
+    start-alike (At 0) k fresh tapeMemory (1 ∷ []) (resHigh ∷ []) (0 ∷ []) (0 ∷ []) (0 ∷ []) (0 ∷ []) refl refl
+
+pub tape-reached : (k : ℕ) → reached (plains (chip (At 0)) 100 (tapeAt k)) ≡ 12 ∷ (12 + k) ∷ 0 ∷ 1 ∷ []
+tape-reached k =
+    by-fields (plains (chip (At 0)) 100 (tapeStart 1)) (plains (chip (At 0)) 100 (tapeAt k))
+    (plains-shifted (At 0) k (tapeStart 1) (tapeAt k) (tape-alike k) 100) ∙ ap clockShifted halt-reached
+  where
+    clockShifted : List ℕ → List ℕ
+    clockShifted [] = []
+    clockShifted (stop ∷ []) = stop ∷ []
+    clockShifted (stop ∷ clock ∷ l) = stop ∷ (clock + k) ∷ l
+
+    by-fields : (w v : World) → ShiftedWorld shiftedState k w v → reached v ≡ clockShifted (reached w)
+    by-fields w v r = rw (r .stop, r .state, r .written)
+
+pub tape-leaps : (k : ℕ) → leapCount (chip (At 0)) 100 (tapeAt k) ≡ 4
+tape-leaps k = count-shifted (At 0) k (tapeStart 1) (tapeAt k) (tape-alike k) 100 ∙ halt-leaps
