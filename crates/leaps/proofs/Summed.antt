@@ -12,9 +12,9 @@ use Rattle.page_sums.proofs.Refused.{memory-wrong, list-wrong, list-right}
 use Rattle.leaps.specs.Leaps.{plains}
 use Rattle.leaps.specs.Chip.{Chip}
 use Rattle.leaps.specs.World.{WorldOf, runningIn, systemOf}
-use Rattle.leaps.specs.Lists.{Call, callOf, Listed, listed, calls, clocksAccepted, resultsBy}
-use Rattle.leaps.specs.Calls.{ResultOf, HandedOf, refusedWith, refusedHanded, stopOf, lentOf, afterCallOf, machineOf, Room}
-use Rattle.leaps.specs.Summed.{withSums, ListedSums, callsWithSums}
+use Rattle.leaps.specs.Lists.{Call, callOf, listed, calls, clocksAccepted, resultsBy}
+use Rattle.leaps.specs.Calls.{HandedOf, refusedWith, refusedHanded, stopOf, lentOf, afterCallOf, machineOf, Room}
+use Rattle.leaps.specs.Summed.{withSums, listedSums, callsWithSums}
 use Rattle.leaps.proofs.Chips.{ChipLaws}
 use Rattle.leaps.proofs.Calls.{fair, refused-hands-on}
 
@@ -46,9 +46,6 @@ module _ {S : Type 0} (sums : List ℕ) (call : WorldOf S → HandedOf S) (w : W
   moves-alike n = list-accepted (list-right (length (w .memory)) (length sums) n)
 
 -- ---- a list of calls
-
-abbrev listedSums : {S : Type 0} → Listed (WorldOf S) (ResultOf S) → List ℕ → ListedSums S
-listedSums l sums = record { listed = l; sums = sums }
 
 module _ {S : Type 0} (C : Chip S) where
   module _ (c : Call) (cs : List Call) (sums : List ℕ) (w : WorldOf S) where

@@ -20,13 +20,16 @@ pub record ListedSums (S : Type 0) : Type 0 where
   pub listed : Listed (WorldOf S) (ResultOf S)
   pub sums : List ℕ
 
+abbrev pub listedSums : {S : Type 0} → Listed (WorldOf S) (ResultOf S) → List ℕ → ListedSums S
+listedSums l sums = record { listed = l; sums = sums }
+
 -- demand 3's list, each call with the sums that the last one left
 unfoldable pub callsWithSums : {S : Type 0} → Chip S → List Call → List ℕ → WorldOf S → ListedSums S
-callsWithSums C [] sums w = record { listed = record { world = w; results = [] }; sums = sums }
+callsWithSums C [] sums w = listedSums (record { world = w; results = [] }) sums
 callsWithSums C (c ∷ cs) sums w =
     elim (runningIn w) [
       | true ↦ let h = withSums sums (callOf (machineOf C) c) (lentOf w) in
           let later = callsWithSums C cs (sumsAfter sums (w .memory) (h .memory)) (afterCallOf w h) in
-          record { listed = listed (h .result) (later .listed); sums = later .sums }
-      | false ↦ record { listed = record { world = w; results = [] }; sums = sums }
+          listedSums (listed (h .result) (later .listed)) (later .sums)
+      | false ↦ listedSums (record { world = w; results = [] }) sums
     ]

@@ -7,3 +7,4 @@ pub mod Held
 pub mod Table
 pub mod LowMemory
 pub mod Shifted
+pub mod Summed

@@ -117,7 +117,13 @@ fn ends_span(w: Writes, halt: Halt) -> bool
 }
 
 // An instruction that was worked out: it is done where it pushes to memory alone, and not at the halt address.
-fn continue_work(w: Work, worked: Worked, memory: &mut [u8], sums: &mut [u16], halt: Halt) -> Working
+fn continue_work(
+    w: Work,
+    worked: Worked,
+    memory: &mut [u8],
+    sums: &mut [u16],
+    halt: Halt,
+) -> Working
     requires { ⌜ (w .gone .0 + w .wait + 1 ≤ 4294967295) × (w .leaps + 1 ≤ 4294967295) ⌝ }
     ensures { λ r. ⌜ r ≡ continuedBy halt w worked ⌝ }
     ensures { λ _. ⌜ now (memory .exit) ≡ committedBy halt (now (memory .entry)) worked ⌝ }
@@ -180,7 +186,14 @@ fn put_work(w: Work) -> Working
 
 // The byte that waits is put, if its clock lies within the span, and it goes neither to a register nor to the halt
 // address.
-fn put_within(w: Work, x: Write, span: Clocks, memory: &mut [u8], sums: &mut [u16], halt: Halt) -> Working
+fn put_within(
+    w: Work,
+    x: Write,
+    span: Clocks,
+    memory: &mut [u8],
+    sums: &mut [u16],
+    halt: Halt,
+) -> Working
     requires { ⌜ WithinSpan w (span .0) ⌝ }
     ensures { λ r. ⌜ r ≡ workPut halt (span .0) w x ⌝ }
     ensures { λ _. ⌜ now (memory .exit) ≡ memoryPut halt (span .0) w x (now (memory .entry)) ⌝ }

@@ -181,7 +181,16 @@ pub fn advance(
     let clocked = outcome_from(p, due, memory, inputcodes, free, entries);
     match clocked {
         Clocked::Stopped(number) => stop_at(number, p),
-        Clocked::Done(ended) => complete(p, due, ended, memory, sums, outputclocks, outputwords, halt),
+        Clocked::Done(ended) => complete(
+            p,
+            due,
+            ended,
+            memory,
+            sums,
+            outputclocks,
+            outputwords,
+            halt,
+        ),
     }
 }
 

@@ -45,10 +45,9 @@ returns c =
     let root = c .before .before .before .before .before .before .before .before .before .before .before .before .before .before .before .before .before .before .before .before .before .before .before .before in
     let at = root .args in
     let went = c .before .before .before .before .before .before .before .before .advance .ensures in
-    let start : World = worldOf (at .p) (now (at .memory)) (now (at .inputclocks)) (now (at .inputcodes)) (now (at .outputclocks)) (now (at .outputwords)) in
-    (
+    let start : World = worldOf (at .p) (now (at .memory)) (now (at .inputclocks)) (now (at .inputcodes)) (now (at .outputclocks)) (now (at .outputwords)) in (
       rw (went .0, c .before .before .before .before .before .before .before .before .before .before .before .before .before .before .before .before .pass-progress .ensures)
-      (leap-reaches (at .halt) (at .left .0) start (at .gap) (root .pre .1 .1 .0) (c .before .before .before .before .before .before .before .before .before .before .before .before .before .if1 .taken)),
+          (leap-reaches (at .halt) (at .left .0) start (at .gap) (root .pre .1 .1 .0) (c .before .before .before .before .before .before .before .before .before .before .before .before .before .if1 .taken)),
       went .1,
     )
 
@@ -58,10 +57,9 @@ returns-2 c =
     let root = c .before .before .before .before .before .before .before .before .before .before .before in
     let at = root .args in
     let words : Words (now (at .sums)) = λ p. omega (arith, c .before .before .before .before .before .before .before .before .before .slice-known2 .given p) in
-    let start : World = worldOf (at .p) (now (at .memory)) (now (at .inputclocks)) (now (at .inputcodes)) (now (at .outputclocks)) (now (at .outputwords)) in
-    (
+    let start : World = worldOf (at .p) (now (at .memory)) (now (at .inputclocks)) (now (at .inputcodes)) (now (at .outputclocks)) (now (at .outputwords)) in (
       rw (c .before .before .before .pass-progress .ensures)
-      (leap-falls-short (at .halt) (at .left .0) start (at .gap) (root .pre .1 .1 .0) (c .if1 .left)),
+          (leap-falls-short (at .halt) (at .left .0) start (at .gap) (root .pre .1 .1 .0) (c .if1 .left)),
       sums-kept 0 (now (at .sums)) (now (at .memory)) words,
     )
 

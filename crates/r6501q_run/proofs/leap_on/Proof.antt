@@ -26,8 +26,7 @@ loop-holds : tie.Need-loop-holds Inv-loop μ-loop
 loop-holds c =
     let root = c .before .before .before .before .before .before .before in
     let at = root .args in
-    let words : Words (now (at .sums)) = λ p. omega (arith, c .before .before .before .before .before .slice-known2 .given p) in
-    (
+    let words : Words (now (at .sums)) = λ p. omega (arith, c .before .before .before .before .before .slice-known2 .given p) in (
       record { run = refl; leaping = root .pre .0; bound = root .pre .1 .0; memory-kept = refl; times-kept = refl; words-kept = refl },
       sums-kept 0 (now (at .sums)) (now (at .memory)) words,
     )
@@ -84,8 +83,7 @@ loop-again c =
     let l = later-leaping (at .halt) (loop .memory) (now (at .inputclocks)) (now (at .inputcodes)) (loop .outputclocks) (loop .outputwords) _ _ _ (loop .at) (done .result) (loop .inv .0 .leaping) some unstopped (loop .inv .0 .bound) (done .ensures .0) (done .ensures .1 .0) (done .ensures .1 .1 .0) in
     let fits = later-bound (at .halt) (loop .memory) (now (at .inputclocks)) (now (at .inputcodes)) (loop .outputclocks) (loop .outputwords) _ _ _ (loop .at) (done .result) (loop .inv .0 .leaping) some unstopped (loop .inv .0 .bound) (done .ensures .0) (done .ensures .1 .0) (done .ensures .1 .1 .0) in
     let sums = now (at .sums) in
-    let memory = now (at .memory) in
-    (
+    let memory = now (at .memory) in (
       record {
         run = run-later (at .halt) (done .result) (span .result) _ _ (now (at .inputclocks)) (now (at .inputcodes)) _ _ (span .ensures .0) ∙ later-run (at .halt) (loop .memory) (now (at .inputclocks)) (now (at .inputcodes)) (loop .outputclocks) (loop .outputwords) _ _ _ (loop .at) (done .result) (loop .inv .0 .leaping) some unstopped (loop .inv .0 .bound) (done .ensures .0) (done .ensures .1 .0) (done .ensures .1 .1 .0) ∙ loop .inv .0 .run;
         leaping = leaping-later (at .halt) (done .result) (span .result) _ _ (now (at .inputclocks)) (now (at .inputcodes)) _ _ (span .ensures .0) l;
@@ -95,7 +93,7 @@ loop-again c =
         words-kept = done .kept .1 .1 .1 .1 .1 .1 .0 ∙ loop .inv .0 .words-kept;
       },
       sums-then 0 sums memory (done .last .1 .0) (span .last .1 .0)
-      (sums-then 0 sums memory (loop .memory) (done .last .1 .0) (loop .inv .1) (done .ensures .1 .1 .1)) (span .ensures .1),
+          (sums-then 0 sums memory (loop .memory) (done .last .1 .0) (loop .inv .1) (done .ensures .1 .1 .1)) (span .ensures .1),
     )
 
 -- src/lib.rt:255:1

@@ -31,8 +31,7 @@ loop-holds : tie.Need-loop-holds Inv-loop μ-loop
 loop-holds c =
     let root = c .before .before .before .before .before in
     let at = root .args in
-    let words : Words (now (at .sums)) = λ p. omega (arith, c .before .before .before .slice-known2 .given p) in
-    (
+    let words : Words (now (at .sums)) = λ p. omega (arith, c .before .before .before .slice-known2 .given p) in (
       rw (c .begin-work .ensures) (within-begins (at .halt) (at .at) (now (at .inputclocks)) (at .span .0) (span-begun (at .at) (now (at .inputclocks)) (at .span) (root .pre .1 .0 .0) (root .pre .1 .0 .1)) (now (at .memory))),
       sums-kept 0 (now (at .sums)) (now (at .memory)) words,
     )
@@ -55,10 +54,9 @@ loop-again c =
     let root = c .before .before .before .before .before .before .before .before .before .before .before .before .before .before .before .before in
     let at = root .args in
     let loop = c .before .before .before .before .before .before .before .before .before .before .loop in
-    let done = c .before .before .before .before .before .before .work-once in
-    (
+    let done = c .before .before .before .before .before .before .work-once in (
       within-goes (at .halt) (at .at) (now (at .inputclocks)) (at .span .0) (span-begun (at .at) (now (at .inputclocks)) (at .span) (root .pre .1 .0 .0) (root .pre .1 .0 .1))
-      (now (at .memory)) (loop .memory) _ (loop .v) _ (loop .inv .0) (done .ensures .0) (done .kept .1 .1 .0),
+          (now (at .memory)) (loop .memory) _ (loop .v) _ (loop .inv .0) (done .ensures .0) (done .kept .1 .1 .0),
       sums-then 0 (now (at .sums)) (now (at .memory)) (loop .memory) (done .last .1 .1 .0) (loop .inv .1) (done .ensures .1),
     )
 
@@ -86,10 +84,9 @@ returns : tie.Need-returns Inv-loop μ-loop
 returns c =
     let root = c .before .before .before .before .before .before .before .before in
     let at = root .args in
-    let loop = c .before .before .loop in
-    (
+    let loop = c .before .before .loop in (
       rw (c .spanned-to .ensures)
-      (within-ends (at .halt) (at .at) (now (at .inputclocks)) (at .span .0) (span-begun (at .at) (now (at .inputclocks)) (at .span) (root .pre .1 .0 .0) (root .pre .1 .0 .1)) (now (at .memory)) (loop .memory) (loop .v) (loop .inv .0)),
+          (within-ends (at .halt) (at .at) (now (at .inputclocks)) (at .span .0) (span-begun (at .at) (now (at .inputclocks)) (at .span) (root .pre .1 .0 .0) (root .pre .1 .0 .1)) (now (at .memory)) (loop .memory) (loop .v) (loop .inv .0)),
       loop .inv .1,
     )
 

@@ -54,7 +54,7 @@ complete-requires c κs =
     let codes = now (root .args .inputcodes) in
     let due = c .before .before .before .before .before .before .before .before .before .before .due-from in
     let fits : root .args .p .read + due .result ≤ length codes =
-        rw (due .ensures) (due-fits _ _ clocks codes (going .read) (going .inputs)) in
+    rw (due .ensures) (due-fits _ _ clocks codes (going .read) (going .inputs)) in
     (omega (arith, fits, root .good), omega (arith, going .written, root .good))
 
 -- src/lib.rt:160:1
@@ -67,8 +67,7 @@ returns c =
     let root = c .before .before .before .before .before .before .before .before .before .before .before .before .before .before .before .before in
     let at = root .args in
     let words : Words (now (at .sums)) = λ p. omega (arith, c .before .before .before .before .before .before .before .before .before .before .before .before .before .before .slice-known2 .given p) in
-    let outcome = sym (c .before .before .before .before .outcome-from .ensures) ∙ c .before .before .clocked .given .1 in
-    (
+    let outcome = sym (c .before .before .before .before .outcome-from .ensures) ∙ c .before .before .clocked .given .1 in (
       rw (c .stop-at .ensures) (plain-stops (at .halt) _ _ _ (root .pre .0 .stop) (c .before .before .before .before .before .before .before .due-from .ensures) _ outcome refl),
       sums-kept 0 (now (at .sums)) (now (at .memory)) words,
     )
@@ -98,10 +97,9 @@ returns-2 c =
     let due = c .before .before .before .before .before .before .before .before .before .before .before .before .before .before .before .before .before .before .before .due-from in
     let outcome = sym (c .before .before .before .before .before .before .before .before .before .before .before .before .before .before .before .before .outcome-from .ensures) ∙ c .before .before .before .before .before .before .before .before .before .before .before .before .before .before .clocked2 .given .1 in
     let clocks = drop-drop (due .result) (at .p .read) (now (at .inputclocks)) in
-    let codes = drop-drop (due .result) (at .p .read) (now (at .inputcodes)) in
-    (
+    let codes = drop-drop (due .result) (at .p .read) (now (at .inputcodes)) in (
       rw (done .0, done .1 .0, done .1 .1 .0, done .1 .1 .1 .0, ← clocks, ← codes)
-      (plain-moves (at .halt) _ _ _ (root .pre .0 .stop) (due .ensures) _ outcome refl),
+          (plain-moves (at .halt) _ _ _ (root .pre .0 .stop) (due .ensures) _ outcome refl),
       done .1 .1 .1 .1,
     )
 

@@ -59,11 +59,10 @@ returns-2 c =
     let second = c .before .before .before .before .before .before .before .before .before .before .before .before .put-write2 in
     let third = c .before .before .before .before .put-write3 in
     let sums = now (at .sums) in
-    let memory = now (at .memory) in
-    (
+    let memory = now (at .memory) in (
       rw (third .ensures .0, second .ensures .0, first .ensures .0) refl,
       sums-then 0 sums memory (second .last .0) (third .last .0)
-      (sums-then 0 sums memory (first .last .0) (second .last .0) (first .ensures .1) (second .ensures .1)) (third .ensures .1),
+          (sums-then 0 sums memory (first .last .0) (second .last .0) (first .ensures .1) (second .ensures .1)) (third .ensures .1),
     )
 
 pub commit-spec : {M : Type 1} → statement M
