@@ -4,6 +4,7 @@ use mathlib.Core.Bool.{Bool, true, false, _&&_, cond}
 use mathlib.Core.List.{List}
 use Prim.Native.Nat.{ℕ}
 use lib.ListN.{length}
+use Rattle.page_sums.specs.PageSums.{totalCall}
 use Rattle.bit_rate.specs.BitRate.{latchFor}
 use Rattle.refusals.specs.Refusals.{refusalOf}
 use Rattle.leaps.specs.World as leaps
@@ -11,12 +12,13 @@ use Rattle.leaps.specs.Calls as calls
 use Rattle.leaps.specs.Calls.{refusedHanded}
 use Rattle.r6501q_state.specs.State.{wellFormed}
 use Rattle.r6501q_step.specs.R6501q.{World, Handed, Result, r6501qLimits}
-use Rattle.tape.specs.Tapes.{loadOf}
+use Rattle.tape.specs.Tapes.{loadOf, loadWithSumsOf}
 use Rattle.r6501q.specs.declared.host.HostState.{HostState}
 use Rattle.r6501q.specs.declared.host.HostResult.{HostResult}
 use Rattle.r6501q.specs.declared.host.HostLoadResult.{HostLoadResult}
 use Rattle.r6501q.specs.declared.host.HostLatchResult.{HostLatchResult}
-use Rattle.r6501q.specs.Host.{stateFromHost, flagsFit, hostState, hostLoadResult, hostLatchResult}
+use Rattle.r6501q.specs.declared.host.HostTotalResult.{HostTotalResult}
+use Rattle.r6501q.specs.Host.{stateFromHost, flagsFit, hostState, hostLoadResult, hostTotalResult, hostLatchResult}
 
 -- "Well-formed: every field is within its range here", the flags too
 abbrev pub hostWellFormed : HostState → Bool
@@ -107,6 +109,14 @@ hostLoaded r memory = record { result = r; memory = memory }
 -- a load by the host
 abbrev pub hostLoad : List ℕ → List ℕ → HostLoaded
 hostLoad tape memory = hostLoaded (hostLoadResult (loadOf tape memory .result)) (loadOf tape memory .memory)
+
+-- 02, U7: a load with page sums by the host, and the call for the total
+abbrev pub hostLoadWithSums : List ℕ → List ℕ → List ℕ → HostLoaded
+hostLoadWithSums tape memory sums =
+    let l = loadWithSumsOf tape memory sums in hostLoaded (hostLoadResult (l .result)) (l .memory)
+
+abbrev pub hostTotal : List ℕ → HostTotalResult
+hostTotal sums = hostTotalResult (totalCall sums)
 
 -- 02, U2 and U9: the latch call by the host
 abbrev pub hostLatch : ℕ → ℕ → ℕ → HostLatchResult

@@ -2,6 +2,7 @@
 use mathlib.Core.Bool.{Bool, true, false, _&&_, _||_, cond}
 use Prim.Native.Nat.{ℕ}
 use lib.Dec.{leb, eqb}
+use Rattle.page_sums.specs.declared.TotalResult.{TotalResult}
 use Rattle.bits.specs.Bits.{digit}
 use Rattle.bit_rate.specs.declared.Found.{Found}
 use Rattle.bit_rate.specs.declared.Found.the-variants.{Fits, Nothing, Refused}
@@ -32,6 +33,7 @@ use Rattle.r6501q.specs.declared.host.HostState.{HostState}
 use Rattle.r6501q.specs.declared.host.HostResult.{HostResult}
 use Rattle.r6501q.specs.declared.host.HostLoadResult.{HostLoadResult}
 use Rattle.r6501q.specs.declared.host.HostLatchResult.{HostLatchResult}
+use Rattle.r6501q.specs.declared.host.HostTotalResult.{HostTotalResult}
 
 -- ---- from the host: "(yes or no)" is a byte of 1 or 0
 
@@ -178,6 +180,10 @@ hostRefused number h = record { number = number; state = h; leaps = 0; read = 0;
 
 abbrev pub hostLoadResult : LoadResult → HostLoadResult
 hostLoadResult l = record { number = l .number; place = l .place }
+
+-- 02, U7
+abbrev pub hostTotalResult : TotalResult → HostTotalResult
+hostTotalResult t = record { number = t .number; total = t .total }
 
 -- 02, U2: the answer's number, whether a latch value was found, and the value; without one both are 0
 abbrev pub hostLatchResult : Found → HostLatchResult

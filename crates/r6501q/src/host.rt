@@ -1,7 +1,7 @@
 // The state and what is handed back as the host, a program in C or Rust, holds them: each flag and level is a byte, 0
 // or 1, and no byte waiting is 0, 0, 0.
 ghost use mathlib.Core.Path.{_≡_};
-ghost use Rattle.r6501q.specs.Host.{waitingFromHost, cpuFromHost, waitingFits, hostWaiting, hostCpu, dueFromHost, counterBFromHost, receiverFromHost, levelsFromHost, peripheralsFromHost, stateFromHost, flagsFit, haltOf, hostDue, hostCounterB, hostReceiver, hostLevels, hostPeripherals, hostState, hostResult, hostLoadResult, hostLatchResult};
+ghost use Rattle.r6501q.specs.Host.{waitingFromHost, cpuFromHost, waitingFits, hostWaiting, hostCpu, dueFromHost, counterBFromHost, receiverFromHost, levelsFromHost, peripheralsFromHost, stateFromHost, flagsFit, haltOf, hostDue, hostCounterB, hostReceiver, hostLevels, hostPeripherals, hostState, hostResult, hostLoadResult, hostTotalResult, hostLatchResult};
 use bit_rate::Found;
 use bits::digit8;
 use counters::a::CounterA;
@@ -9,6 +9,7 @@ use counters::b::CounterB;
 use cpu_access::halt::Halt;
 use cpu_access::stack::Write;
 use cpu_access::waiting::Waiting;
+use page_sums::TotalResult;
 use r6501q_state::state::Control;
 use r6501q_state::state::Cpu;
 use r6501q_state::state::Due;
@@ -111,6 +112,12 @@ pub struct HostLatchResult {
     pub number: u8,
     pub found: u8,
     pub value: u16,
+}
+
+#[repr(C)]
+pub struct HostTotalResult {
+    pub number: u8,
+    pub total: u16,
 }
 
 // From the host: a byte of 1 is a yes. What is neither 0 nor 1 is refused before, by `flags_fit`.
@@ -373,6 +380,16 @@ pub fn host_load_result(l: LoadResult) -> HostLoadResult
     HostLoadResult {
         number: l.number,
         place: l.place,
+    }
+}
+
+// What the call for the total hands back, as the host's.
+pub fn host_total_result(t: TotalResult) -> HostTotalResult
+    ensures { λ r. ⌜ r ≡ hostTotalResult t ⌝ }
+{
+    HostTotalResult {
+        number: t.number,
+        total: t.total,
     }
 }
 

@@ -2,25 +2,31 @@
 ghost use mathlib.Core.Path.{_≡_};
 ghost use mathlib.Core.Bool.{false};
 ghost use Rattle.bits.specs.Bits.{digit};
+ghost use Rattle.page_sums.specs.PageSums.{sumsAfter};
 ghost use Rattle.refusals.specs.Refusals.{refusalOf};
 ghost use Rattle.leaps.specs.Lists.{stepOf, runOf, plainRunOf};
 ghost use Rattle.leaps.specs.Calls.{callStart};
+ghost use Rattle.leaps.specs.Summed.{withSums};
 ghost use Rattle.r6501q_state.specs.State.{fresh};
 ghost use Rattle.r6501q_step.specs.R6501q.{r6501qLimits, machine};
 ghost use Rattle.r6501q.specs.Host.{haltOf, hostState, hostRefused};
-ghost use Rattle.r6501q.specs.Calls.{hostWellFormed, hostHanded, hostCall, hostLoad, hostLoaded, hostLatch};
+ghost use Rattle.r6501q.specs.Calls.{hostWellFormed, hostHanded, hostCall, hostLoad, hostLoadWithSums, hostLoaded, hostTotal, hostLatch};
 use bits::digit8;
 use host::HostLatchResult;
 use host::HostLoadResult;
 use host::HostResult;
 use host::HostState;
+use host::HostTotalResult;
 use host::flags_fit;
 use host::halt_of;
 use host::host_latch_result;
 use host::host_load_result;
 use host::host_result;
 use host::host_state;
+use host::host_total_result;
 use host::state_of;
+use page_sums::WRONG_PAGE_LIST;
+use page_sums::page_list_refused;
 use r6501q_state::state::fresh_state;
 use r6501q_state::state::well_formed;
 use r6501q_step::limits;
@@ -56,6 +62,19 @@ fn flag_refused(
     );
     HostResult {
         number: number,
+        state: state,
+        leaps: 0,
+        read: 0,
+        written: 0,
+    }
+}
+
+// What a call with page sums hands back where their list is not of 256.
+fn wrong_page_list(state: HostState) -> HostResult
+    ensures { λ r. ⌜ r ≡ hostRefused 13 state ⌝ }
+{
+    HostResult {
+        number: WRONG_PAGE_LIST,
         state: state,
         leaps: 0,
         read: 0,
@@ -169,6 +188,122 @@ pub extern "C" fn r6501q_load(tape: &[u8], memory: &mut [u8]) -> HostLoadResult
 {
     let result = tape::load(tape, memory);
     host_load_result(result)
+}
+
+// The single-clock call of a memory with its page sums; their list is looked at before the state's flags.
+#[no_mangle]
+pub extern "C" fn r6501q_step_with_sums(
+    state: HostState,
+    memory: &mut [u8],
+    sums: &mut [u16],
+    inputclocks: &[u32],
+    inputcodes: &[u8],
+    outputclocks: &mut [u32],
+    outputwords: &mut [u32],
+    halt: u32,
+) -> HostResult
+    ensures { λ r. ⌜ hostHanded r (now (memory .exit)) (now (outputclocks .exit)) (now (outputwords .exit))
+        ≡ withSums (now (sums .entry)) (hostCall (stepOf (machine (haltOf halt))) 1) (callStart state
+        (now (memory .entry)) (now (inputclocks .entry)) (now (inputcodes .entry)) (now (outputclocks .entry))
+        (now (outputwords .entry))) ⌝ }
+    ensures { λ _. ⌜ now (sums .exit) ≡ sumsAfter (now (sums .entry)) (now (memory .entry)) (now (memory .exit)) ⌝ }
+{
+    if page_list_refused(memory.len(), sums.len()) {
+        return wrong_page_list(state);
+    }
+    if !flags_fit(state) {
+        return flag_refused(
+            state,
+            memory.len(),
+            inputclocks,
+            inputcodes,
+            outputclocks.len(),
+            outputwords.len(),
+            1,
+        );
+    }
+    let result = r6501q_step::step_with_sums(
+        state_of(state),
+        memory,
+        sums,
+        inputclocks,
+        inputcodes,
+        outputclocks,
+        outputwords,
+        halt_of(halt),
+    );
+    host_result(result)
+}
+
+// The call for n clocks of a memory with its page sums; their list is looked at before the state's flags.
+#[no_mangle]
+pub extern "C" fn r6501q_run_with_sums(
+    state: HostState,
+    memory: &mut [u8],
+    sums: &mut [u16],
+    inputclocks: &[u32],
+    inputcodes: &[u8],
+    outputclocks: &mut [u32],
+    outputwords: &mut [u32],
+    n: u32,
+    halt: u32,
+) -> HostResult
+    ensures { λ r. ⌜ hostHanded r (now (memory .exit)) (now (outputclocks .exit)) (now (outputwords .exit))
+        ≡ withSums (now (sums .entry)) (hostCall (runOf (machine (haltOf halt)) n) n) (callStart state
+        (now (memory .entry)) (now (inputclocks .entry)) (now (inputcodes .entry)) (now (outputclocks .entry))
+        (now (outputwords .entry))) ⌝ }
+    ensures { λ _. ⌜ now (sums .exit) ≡ sumsAfter (now (sums .entry)) (now (memory .entry)) (now (memory .exit)) ⌝ }
+{
+    if page_list_refused(memory.len(), sums.len()) {
+        return wrong_page_list(state);
+    }
+    if !flags_fit(state) {
+        return flag_refused(
+            state,
+            memory.len(),
+            inputclocks,
+            inputcodes,
+            outputclocks.len(),
+            outputwords.len(),
+            n,
+        );
+    }
+    let result = r6501q_run::run_with_sums(
+        state_of(state),
+        memory,
+        sums,
+        inputclocks,
+        inputcodes,
+        outputclocks,
+        outputwords,
+        n,
+        halt_of(halt),
+    );
+    host_result(result)
+}
+
+// A tape into memory and its page sums.
+#[no_mangle]
+pub extern "C" fn r6501q_load_with_sums(
+    tape: &[u8],
+    memory: &mut [u8],
+    sums: &mut [u16],
+) -> HostLoadResult
+    ensures { λ r. ⌜ hostLoaded r (now (memory .exit))
+        ≡ hostLoadWithSums (now (tape .entry)) (now (memory .entry)) (now (sums .entry)) ⌝ }
+    ensures { λ _. ⌜ now (sums .exit) ≡ sumsAfter (now (sums .entry)) (now (memory .entry)) (now (memory .exit)) ⌝ }
+{
+    let result = tape::load_with_sums(tape, memory, sums);
+    host_load_result(result)
+}
+
+// The total of 256 page sums, modulo 65,536.
+#[no_mangle]
+pub extern "C" fn r6501q_total(sums: &[u16]) -> HostTotalResult
+    ensures { λ r. ⌜ r ≡ hostTotal (now (sums .entry)) ⌝ }
+{
+    let result = page_sums::total(sums);
+    host_total_result(result)
 }
 
 // The smallest latch value of counter A for a wanted bit rate.
