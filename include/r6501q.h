@@ -4,12 +4,12 @@
  * to each call. A struct goes by value. A lent list is a pointer and then its length in entries; with a length of 0 the
  * pointer is not used. Every call comes back, whatever state, memory, lists and counts it is given, good or damaged,
  * and touches nothing outside the lists that it is lent. What is left to the caller: a pointer whose list is not empty
- * is aligned for its type, the lengths are true, the lists do not overlap, `output_clocks`, `output_words` and `memory`
- * may be written, and while a call goes on nobody else writes any of the lists, the memory or the tape, or reads those
- * three.
+ * is aligned for its type, the lengths are true, the lists do not overlap, `output_clocks`, `output_words`, `memory`
+ * and `sums` may be written (not so r6501q_total's), and while a call goes on nobody else writes any of the lists, the
+ * memory or the tape, or reads those four.
  *
- * Rules and numbers are those of document 01, those of a store's last clock, of the halt address and of r6501q_latch
- * document 02's. Hexadecimal ends in h.
+ * Rules and numbers are those of document 01, those of a store's last clock, of the halt address, of page sums and of
+ * r6501q_latch document 02's. Hexadecimal ends in h.
  */
 #ifndef R6501Q_H
 #define R6501Q_H
@@ -23,6 +23,9 @@ extern "C" {
 
 /* The bytes of a memory. */
 #define R6501Q_MEMORY_LENGTH 65536
+
+/* The sums of a page list, one for each 256 bytes of a memory. */
+#define R6501Q_SUMS_LENGTH 256
 
 /* The pins. The port pins' numbers are their bits in the driven word. */
 #define R6501Q_PIN_PA0 0
@@ -72,10 +75,11 @@ extern "C" {
 
 /* Why a call ended, its field `number` (document 01, "What is handed back"; document 02). */
 enum r6501q_number {
-    /* Run and step: all clocks done. Load: the tape is in memory. */
+    /* Run and step: all clocks done. Load: the tape is in memory. Total: taken. */
     R6501Q_DONE = 0,
 
-    /* Refused. The state given comes back, nothing is read, counted or changed. Of several, the lowest is given. */
+    /* Refused. The state given comes back, nothing is read, counted or changed. Of several, the lowest is given; but
+     * 13, below, comes directly after 1. */
     R6501Q_WRONG_MEMORY_LENGTH = 1, /* memory is not 65,536 bytes (the only one of these five that a load has) */
     R6501Q_STATE_NOT_WELL_FORMED = 2, /* a field of the state is out of its range, or a byte waits
                                          * with wait 0, or none is there and its address or value is not 0 */
@@ -98,7 +102,10 @@ enum r6501q_number {
 
     /* Halted after the state's clock (document 02, U4), a stop like 6 and 7: state, memory and lists are as reached,
      * that clock done, its inputs read and its record written. */
-    R6501Q_HALTED_AT_WRITE = 12 /* the clock wrote at the halt address */
+    R6501Q_HALTED_AT_WRITE = 12, /* the clock wrote at the halt address */
+
+    /* Refused like 1, directly after it and before 2, by the calls with sums and by the total (document 02, U7). */
+    R6501Q_WRONG_SUMS_LENGTH = 13 /* a page list is not of 256 sums */
 };
 
 /* The machine state (document 01, "Machine state"). The range of a field is that of its type where none is given. */
@@ -215,7 +222,7 @@ typedef struct r6501q_state {
 
 /* What a run or a step hands back. */
 typedef struct r6501q_call_result {
-    uint8_t number; /* R6501Q_DONE, or 1 to 7 or 12 of enum r6501q_number */
+    uint8_t number; /* R6501Q_DONE, or 1 to 7 or 12 of enum r6501q_number, with sums also 13 */
     r6501q_state state;
     uint32_t leaps; /* event clocks done, and 1 more where the last clock done is none; 0 if no clock is done */
     size_t read; /* the input entries read: the first so many of input_clocks and input_codes */
@@ -224,7 +231,7 @@ typedef struct r6501q_call_result {
 
 /* What a load hands back. */
 typedef struct r6501q_load_result {
-    uint8_t number; /* R6501Q_DONE, 1, or 8 to 10 of enum r6501q_number */
+    uint8_t number; /* R6501Q_DONE, 1, or 8 to 10 of enum r6501q_number, with sums also 13 */
     size_t place;
 } r6501q_load_result;
 
@@ -234,6 +241,12 @@ typedef struct r6501q_latch_result {
     uint8_t found; /* 1 where a latch value fits, else 0 */
     uint16_t value; /* the latch value, 0 where none is found */
 } r6501q_latch_result;
+
+/* What the total of page sums hands back. */
+typedef struct r6501q_total_result {
+    uint8_t number; /* R6501Q_DONE or R6501Q_WRONG_SUMS_LENGTH */
+    uint16_t total; /* 0 where the page list is not of 256 sums */
+} r6501q_total_result;
 
 /* A chip that has not run yet: reset due, clock 0, no byte waiting, RES low in both its levels, all other levels high.
  * Always well-formed. It is held, its counters counting, until an input makes RES high (document 02, U8): with clock 1
@@ -302,6 +315,56 @@ r6501q_call_result r6501q_step(r6501q_state state,
  *                  the tape's length where the last record is missing; memory unchanged
  */
 r6501q_load_result r6501q_load(const uint8_t *tape, size_t tape_length, uint8_t *memory, size_t memory_length);
+
+/* Page sums beside the memory (document 02, U7), kept up to date by the three calls below.
+ *
+ * Entry p of `sums` belongs to the bytes 256 * p to 256 * p + 255 of `memory` as they stand, page 0 with those at 0 to
+ * 3Fh. It is right where it is the sum of these bytes. No call fills the list: 256 zeros beside a memory of zeros are
+ * right. Each call changes each entry, right or wrong before, by exactly what its page's bytes change, modulo 65,536:
+ * by the new sum of the page less the old one. So a right entry stays right, a wrong one stays wrong by as much, and
+ * where the bytes of a page stay as they are its entry does. A register written changes no byte and no sum. A store's
+ * byte counts on the store's last clock, a pushed one on the first; one that still waits, or that RES low drops, does
+ * not. On a stop (6, 7, 12) the entries have changed by the clocks done, with 12 by that of the write too. On a refusal
+ * (1 to 5, 13, of a tape 1, 13, 8 to 10) and with n = 0 no entry changes.
+ *
+ * In:   sums           the 256 sums, any values; a list of another length is refused with 13, directly after 1 and
+ *                      before 2, also before a flag above 1
+ *       all others     as r6501q_run, r6501q_step and r6501q_load are given them
+ *
+ * Back: 13             the page list is not of 256 sums, memory being 65,536 bytes. Run and step: the state given,
+ *                      leaps, read and written 0; load: place 0, whatever the tape; everything unchanged
+ *       any other      what the call lacking sums hands back; and it leaves memory and lists as that call does
+ */
+r6501q_call_result r6501q_run_with_sums(r6501q_state state,
+    uint8_t *memory, size_t memory_length,
+    uint16_t *sums, size_t sums_length,
+    const uint32_t *input_clocks, size_t input_clocks_length,
+    const uint8_t *input_codes, size_t input_codes_length,
+    uint32_t *output_clocks, size_t output_clocks_length,
+    uint32_t *output_words, size_t output_words_length,
+    uint32_t n,
+    uint32_t halt);
+
+r6501q_call_result r6501q_step_with_sums(r6501q_state state,
+    uint8_t *memory, size_t memory_length,
+    uint16_t *sums, size_t sums_length,
+    const uint32_t *input_clocks, size_t input_clocks_length,
+    const uint8_t *input_codes, size_t input_codes_length,
+    uint32_t *output_clocks, size_t output_clocks_length,
+    uint32_t *output_words, size_t output_words_length,
+    uint32_t halt);
+
+r6501q_load_result r6501q_load_with_sums(const uint8_t *tape, size_t tape_length,
+    uint8_t *memory, size_t memory_length,
+    uint16_t *sums, size_t sums_length);
+
+/* The total of 256 page sums. Where all are right it is the sum of all 65,536 bytes of the memory modulo 65,536, in
+ * whatever order the pages stand.
+ *
+ * Back: 0              total is the sum of the 256 entries modulo 65,536
+ *       13             the page list is not of 256 sums; total 0
+ */
+r6501q_total_result r6501q_total(const uint16_t *sums, size_t sums_length);
 
 /* The smallest latch value for counter A that makes a wanted bit rate of asynchronous frames (document 02, U2 and U9;
  * in shift-register mode a sender takes an eighth of the ticks for a bit, and a receiver none).
@@ -425,6 +488,10 @@ R6501Q_SIZE(latch_result, 4);
 R6501Q_AT(latch_result, number, 0);
 R6501Q_AT(latch_result, found, 1);
 R6501Q_AT(latch_result, value, 2);
+
+R6501Q_SIZE(total_result, 4);
+R6501Q_AT(total_result, number, 0);
+R6501Q_AT(total_result, total, 2);
 
 #undef R6501Q_AT
 #undef R6501Q_SIZE
