@@ -548,6 +548,195 @@ static void check_latch(void)
 #undef LATCH
 }
 
+static uint16_t sums[R6501Q_SUMS_LENGTH + 1];
+
+/* All sums are 0 but for these of two pages. */
+static void same_sums(unsigned page, uint16_t sum, unsigned other, uint16_t other_sum)
+{
+    unsigned i;
+    for (i = 0; i < R6501Q_SUMS_LENGTH; i++)
+        SAME(sums[i], i == page ? sum : i == other ? other_sum : 0);
+}
+
+/* A fresh chip, released, with sums. */
+static r6501q_call_result start_with_sums(size_t records, uint32_t n, uint32_t halt)
+{
+    return r6501q_run_with_sums(r6501q_fresh(), memory, sizeof memory, sums, R6501Q_SUMS_LENGTH, release_clocks, 1,
+        release_codes, 1, output_clocks, records, output_words, records, n, halt);
+}
+
+/* Document 02, U7: STA 1234h of 05h over 10h, put on clock 13; STA port A, put on clock 16; JSR on clock 17, which
+ * pushes 02h and 09h at FFh and FEh; STA FFFFh over FFh, put on clock 26. */
+static void check_sums(void)
+{
+    static const uint8_t program[] = {0xA9, 0x05, 0x8D, 0x34, 0x12, 0x85, 0x00, 0x20, 0x0A, 0x02, 0x8D, 0xFF, 0xFF,
+        0x4C, 0x0D, 0x02};
+    static const struct {
+        uint32_t clocks;
+        uint16_t zero, twelve, last;
+    } changes[] = {{0, 0, 0, 0}, {12, 0, 0, 0}, {13, 0, 65525, 0}, {16, 0, 65525, 0}, {17, 11, 65525, 0},
+        {25, 11, 65525, 0}, {26, 11, 65525, 65286}, {100, 11, 65525, 65286}};
+    r6501q_call_result result;
+    uint32_t clock;
+    size_t i;
+    for (i = 0; i < sizeof changes / sizeof *changes; i++) {
+        place(program, sizeof program);
+        memory[0x1234] = 0x10;
+        memory[0xFFFF] = 0xFF;
+        memset(sums, 0, sizeof sums);
+        result = start_with_sums(100, changes[i].clocks, R6501Q_NO_HALT);
+        SAME(result.number, R6501Q_DONE);
+        SAME(result.state.clock, changes[i].clocks);
+        SAME(result.written, changes[i].clocks >= 16);
+        SAME(sums[0x00], changes[i].zero);
+        SAME(sums[0xFF], changes[i].last);
+        sums[0x00] = sums[0xFF] = 0;
+        same_sums(0x12, changes[i].twelve, 0x34, 0);
+        SAME(sums[R6501Q_SUMS_LENGTH], 0);
+    }
+    /* By single clocks, from other sums: each changes by as much. */
+    place(program, sizeof program);
+    memory[0x1234] = 0x10;
+    memory[0xFFFF] = 0xFF;
+    memset(sums, 0, sizeof sums);
+    sums[0x00] = 65535;
+    sums[0x12] = 11;
+    result.state = r6501q_fresh();
+    for (clock = 1; clock <= 30; clock++) {
+        const size_t inputs = clock == 1;
+        result = r6501q_step_with_sums(result.state, memory, sizeof memory, sums, R6501Q_SUMS_LENGTH, release_clocks,
+            inputs, release_codes, inputs, output_clocks, 1, output_words, 1, R6501Q_NO_HALT);
+        SAME(result.number, R6501Q_DONE);
+        SAME(result.leaps, 1);
+        SAME(sums[0x00], clock < 17 ? 65535 : 10);
+        SAME(sums[0x12], clock < 13 ? 11 : 0);
+        SAME(sums[0xFF], clock < 26 ? 0 : 65286);
+    }
+    /* Stops: by the clocks done. */
+    place(program, sizeof program);
+    memory[0x1234] = 0x10;
+    memset(sums, 0, sizeof sums);
+    result = start_with_sums(100, 100, 0x1234);
+    SAME(result.number, R6501Q_HALTED_AT_WRITE);
+    SAME(result.state.clock, 13);
+    same_sums(0x12, 65525, 0x12, 65525);
+    result = start_with_sums(0, 100, R6501Q_NO_HALT);
+    SAME(result.number, R6501Q_NO_FREE_RECORD);
+    SAME(result.state.clock, 15);
+    same_sums(0x12, 65525, 0x12, 65525); /* the byte was 05h already */
+    memory[0x020A] = 0x02;
+    result = start_with_sums(100, 100, R6501Q_NO_HALT);
+    SAME(result.number, R6501Q_UNDEFINED_OPCODE);
+    same_sums(0x00, 11, 0x12, 65525);
+}
+
+/* 13 has its place between 1 and 2, for flags above 1 too; everything stays as it is. */
+static void check_sums_length(void)
+{
+    static const size_t lengths[] = {0, 1, 255, 257};
+    static const uint8_t tape[] = ";01020055";
+    r6501q_state s = unheld();
+    r6501q_call_result result;
+    r6501q_load_result loaded;
+    size_t i;
+    memset(memory, 0x48, sizeof memory); /* PHA everywhere */
+    memset(sums, 0x77, sizeof sums);
+    s.clock = 0xFFFFFFF0;
+    s.cpu.a = 0x99;
+    s.due.reset = 0;
+#define NUMBER(memory_length, sums_length, input_codes_length, n, expected) \
+    do { \
+        result = r6501q_run_with_sums(s, memory, (memory_length), sums, (sums_length), release_clocks, 1, \
+            release_codes, (input_codes_length), output_clocks, 0, output_words, 0, (n), R6501Q_NO_HALT); \
+        SAME(result.number, (expected)); \
+        SAME(result.state.clock, 0xFFFFFFF0); \
+        SAME(result.state.cpu.a, 0x99); \
+        SAME(result.state.due.nmi, s.due.nmi); \
+        SAME(result.leaps, 0); \
+        SAME(result.read, 0); \
+        SAME(result.written, 0); \
+        result = r6501q_step_with_sums(s, memory, (memory_length), sums, (sums_length), release_clocks, 1, \
+            release_codes, (input_codes_length), output_clocks, 0, output_words, 0, R6501Q_NO_HALT); \
+        if ((expected) != R6501Q_CLOCK_TOO_HIGH) \
+            SAME(result.number, (expected)); \
+    } while (0)
+    for (i = 0; i < sizeof lengths / sizeof *lengths; i++) {
+        s.due.nmi = 0;
+        NUMBER(65535, lengths[i], 0, 100, R6501Q_WRONG_MEMORY_LENGTH);
+        NUMBER(65536, lengths[i], 1, 0, R6501Q_WRONG_SUMS_LENGTH);
+        NUMBER(65536, lengths[i], 1, 100, R6501Q_WRONG_SUMS_LENGTH);
+        NUMBER(65536, lengths[i], 0, 100, R6501Q_WRONG_SUMS_LENGTH);
+        s.due.nmi = 2;
+        NUMBER(65536, lengths[i], 0, 100, R6501Q_WRONG_SUMS_LENGTH);
+        s.due.nmi = 0;
+        s.cpu.wait = 7;
+        NUMBER(65536, lengths[i], 0, 100, R6501Q_WRONG_SUMS_LENGTH);
+        s.cpu.wait = 0;
+        loaded = r6501q_load_with_sums(tape, strlen((const char *)tape), memory, 65536, sums, lengths[i]);
+        SAME(loaded.number, R6501Q_WRONG_SUMS_LENGTH);
+        SAME(loaded.place, 0);
+        loaded = r6501q_load_with_sums(tape, strlen((const char *)tape), memory, 65535, sums, lengths[i]);
+        SAME(loaded.number, R6501Q_WRONG_MEMORY_LENGTH);
+        SAME(loaded.place, 0);
+        SAME(r6501q_total(sums, lengths[i]).number, R6501Q_WRONG_SUMS_LENGTH);
+        SAME(r6501q_total(sums, lengths[i]).total, 0);
+    }
+    NUMBER(65535, 256, 0, 100, R6501Q_WRONG_MEMORY_LENGTH);
+    NUMBER(65536, 256, 0, 100, R6501Q_UNEQUAL_LISTS);
+    NUMBER(65536, 256, 1, 100, R6501Q_CLOCK_TOO_HIGH);
+    NUMBER(65536, 256, 1, 15, R6501Q_WRONG_PIN_LIST);
+    s.due.nmi = 2;
+    NUMBER(65536, 256, 0, 100, R6501Q_STATE_NOT_WELL_FORMED);
+#undef NUMBER
+    for (i = 0; i < sizeof memory; i++)
+        SAME(memory[i], 0x48);
+    for (i = 0; i < sizeof sums / sizeof *sums; i++)
+        SAME(sums[i], 0x7777);
+}
+
+/* A tape into a memory of zeros beside zeros: the sums are right. */
+static void check_summed_tape(void)
+{
+    static const char text[] = ";070200A95585004C040201DE ;02FFFC000201FF ;04003E01020304004C ;0000040004";
+    char damaged[sizeof text];
+    r6501q_load_result loaded;
+    uint16_t total = 0;
+    size_t i;
+    memset(memory, 0, sizeof memory);
+    memset(sums, 0, sizeof sums);
+    loaded = r6501q_load_with_sums((const uint8_t *)text, strlen(text), memory, sizeof memory, sums, 256);
+    SAME(loaded.number, R6501Q_DONE);
+    SAME(loaded.place, strlen(text));
+    SAME(sums[0x00], 3 + 4); /* those for 3Eh and 3Fh are dropped */
+    SAME(sums[0x02], 0xA9 + 0x55 + 0x85 + 0x4C + 0x04 + 0x02);
+    sums[0x00] = 0;
+    same_sums(0x02, 469, 0xFF, 2);
+    sums[0x00] = 7;
+    SAME(r6501q_total(sums, 256).number, R6501Q_DONE);
+    SAME(r6501q_total(sums, 256).total, 478);
+    for (i = 0; i < sizeof memory; i++)
+        total = (uint16_t)(total + memory[i]);
+    SAME(total, 478);
+    /* Once more: no byte changes, and no sum. A damaged one neither. */
+    loaded = r6501q_load_with_sums((const uint8_t *)text, strlen(text), memory, sizeof memory, sums, 256);
+    SAME(loaded.number, R6501Q_DONE);
+    SAME(r6501q_total(sums, 256).total, 478);
+    memset(memory, 0, sizeof memory);
+    memcpy(damaged, text, sizeof text);
+    damaged[40] = '0'; /* the second record's check sum */
+    loaded = r6501q_load_with_sums((const uint8_t *)damaged, strlen(text), memory, sizeof memory, sums, 256);
+    SAME(loaded.number, R6501Q_WRONG_CHECK_SUM);
+    SAME(loaded.place, 26);
+    SAME(memory[0x200], 0);
+    SAME(sums[0x02], 469);
+    /* Entries that make more than 65,535, the last one among them. */
+    for (i = 0; i < R6501Q_SUMS_LENGTH; i++)
+        sums[i] = (uint16_t)(65535 - i);
+    SAME(r6501q_total(sums, 256).total, 65536 - (256 + 255 * 128) % 65536);
+    sums[255]++;
+    SAME(r6501q_total(sums, 256).total, 65536 - (256 + 255 * 128) % 65536 + 1);
+}
+
 int main(void)
 {
     check_fresh();
@@ -561,6 +750,9 @@ int main(void)
     check_halts();
     check_held();
     check_latch();
+    check_sums();
+    check_sums_length();
+    check_summed_tape();
     if (faults != 0) {
         printf("%d faults\n", faults);
         return EXIT_FAILURE;
