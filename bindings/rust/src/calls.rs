@@ -45,7 +45,7 @@ pub const RELEASE: (u32, u8) = (1, code(PIN_RES, true));
 #[must_use]
 #[derive(Clone, Copy, PartialEq, Eq, Debug)]
 pub struct CallResult {
-    /// [`Number::Done`]; or 1 to 5, refused, nothing changed; or 6, 7 or 12, stopped, all as reached.
+    /// [`Number::Done`]; or 1 to 5, with sums 13 too, refused, nothing changed; or 6, 7 or 12, stopped, all as reached.
     pub number: Number,
     /// The chip afterwards; of a refused call the state given.
     pub state: State,
@@ -61,27 +61,27 @@ pub struct CallResult {
 #[must_use]
 #[derive(Clone, Copy, PartialEq, Eq, Debug)]
 pub struct LoadResult {
-    /// [`Number::Done`], [`Number::WrongMemoryLength`], or 8 to 10.
+    /// [`Number::Done`], [`Number::WrongMemoryLength`], or 8 to 10; with sums also [`Number::WrongSumsLength`].
     pub number: Number,
     /// Done: the index past the last record. 8 to 10: the index of the faulty record's `;`, or the tape's length where
-    /// the last record is missing. Wrong memory: 0.
+    /// the last record is missing. Wrong memory or page list: 0.
     pub place: usize,
 }
 
-// The number that a byte of the library stands for: it is proved to give none above 12.
+// The number that a byte of the library stands for: it is proved to give none above 13.
 #[inline]
 pub(crate) fn number(byte: u8) -> Number {
-    Number::try_from(byte).expect("the library gives 0 to 12")
+    Number::try_from(byte).expect("the library gives 0 to 13")
 }
 
 // The halt address as the library takes it: any above 65,535 is none.
 #[inline]
-fn host_halt(halt: Option<u16>) -> u32 {
+pub(crate) fn host_halt(halt: Option<u16>) -> u32 {
     halt.map_or(u32::MAX, u32::from)
 }
 
 #[inline]
-fn call_result(host: HostCallResult) -> CallResult {
+pub(crate) fn call_result(host: HostCallResult) -> CallResult {
     CallResult {
         number: number(host.number),
         state: host.state,

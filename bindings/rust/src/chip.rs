@@ -1,5 +1,6 @@
 //! A chip that owns its state, its memory and its lists.
-use crate::{load, run, step, CallResult, Level, Number, Pin, Record, State, MEMORY_LENGTH};
+use crate::{load, load_with_sums, page_sums, run, run_with_sums, step, step_with_sums};
+use crate::{CallResult, Level, Number, Pin, Record, State, MEMORY_LENGTH};
 use std::error::Error;
 use std::fmt;
 
@@ -60,6 +61,10 @@ pub struct Chip {
     /// The halt address, none at first: each run and step ends with 12 after the clock of a write there, that clock done
     /// and recorded. The next one goes on behind that write; set it to `None` to go on without halts.
     pub halt: Option<u16>,
+    /// The page sums beside the memory (document 02, U7), none at first. Where they are there, each run, step and load
+    /// changes them as its bytes change; ones that are not 256 are refused with 13. [`keep_sums`](Chip::keep_sums) puts
+    /// right ones here, [`total`](crate::total) adds them up.
+    pub sums: Option<Vec<u16>>,
     input_clocks: Vec<u32>,
     input_codes: Vec<u8>,
     read: usize,
@@ -91,6 +96,7 @@ impl Chip {
             state,
             memory,
             halt: None,
+            sums: None,
             input_clocks: Vec::new(),
             input_codes: Vec::new(),
             read: 0,
@@ -104,18 +110,43 @@ impl Chip {
     /// A paper tape into memory, as [`load`] does it. Gives the place past its last record.
     ///
     /// # Errors
-    /// 1, 8, 9 or 10; memory is unchanged then.
+    /// 1, 13, 8, 9 or 10; memory is unchanged then, and so are the sums.
     ///
     /// ```
     /// let refused = r6501q::Chip::new().load(b"tape ;010200550059").unwrap_err();
     /// assert_eq!(refused.to_string(), "a tape record's check sum is wrong (9), at character 5");
     /// ```
     pub fn load(&mut self, tape: &[u8]) -> Result<usize, RefusedTape> {
-        let result = load(tape, &mut self.memory);
+        let result = match &mut self.sums {
+            Some(sums) => load_with_sums(tape, &mut self.memory, sums),
+            None => load(tape, &mut self.memory),
+        };
         match result.number {
             Number::Done => Ok(result.place),
             number => Err(RefusedTape { number, place: result.place }),
         }
+    }
+
+    /// Keeps page sums from now on, the right ones of the memory as it stands ([`page_sums`]), until
+    /// [`sums`](Chip#structfield.sums) is set to `None`. They stay right as long as nothing but the chip's calls
+    /// changes the memory.
+    ///
+    /// ```
+    /// use r6501q::{total, Chip};
+    ///
+    /// // INC 40h, then again: its byte is put on clock 12 and each 8 clocks.
+    /// let mut chip = Chip::new();
+    /// chip.memory[0x0200..0x0205].copy_from_slice(&[0xE6, 0x40, 0x4C, 0x00, 0x02]);
+    /// chip.memory[0xFFFC..0xFFFE].copy_from_slice(&0x0200u16.to_le_bytes());
+    /// chip.keep_sums();
+    /// chip.release();
+    /// chip.run(30)?;
+    /// assert_eq!(chip.memory[0x40], 3);
+    /// assert_eq!(chip.sums.as_deref().map(total), Some(Ok(0xE6 + 0x40 + 0x4C + 2 + 2 + 3)));
+    /// # Ok::<(), r6501q::Number>(())
+    /// ```
+    pub fn keep_sums(&mut self) {
+        self.sums = Some(page_sums(&self.memory).to_vec());
     }
 
     /// Appends an input: on this clock the pin gets this level from outside.
@@ -177,7 +208,7 @@ impl Chip {
     /// `n` clocks. The records stay in the chip until [`take_records`](Chip::take_records).
     ///
     /// # Errors
-    /// 1 to 5, refused, nothing changed; 6, stopped, and 12, halted, all as reached. Lists set by
+    /// 1 to 5 and 13, refused, nothing changed; 6, stopped, and 12, halted, all as reached. Lists set by
     /// [`set_inputs`](Chip::set_inputs) are checked up to the last of these clocks.
     pub fn run(&mut self, n: u32) -> Result<(), Number> {
         self.go_on(n, |chip| chip.make_space(chip.written))
@@ -264,9 +295,15 @@ impl Chip {
         let output_clocks = &mut self.output_clocks[self.written..];
         let output_words = &mut self.output_words[self.written..];
         let (state, memory, halt) = (self.state, &mut self.memory, self.halt);
-        let result = match call {
-            Call::Run(n) => run(state, memory, clocks, codes, output_clocks, output_words, n, halt),
-            Call::Step => step(state, memory, clocks, codes, output_clocks, output_words, halt),
+        let result = match (call, &mut self.sums) {
+            (Call::Run(n), None) => run(state, memory, clocks, codes, output_clocks, output_words, n, halt),
+            (Call::Step, None) => step(state, memory, clocks, codes, output_clocks, output_words, halt),
+            (Call::Run(n), Some(sums)) => {
+                run_with_sums(state, memory, sums, clocks, codes, output_clocks, output_words, n, halt)
+            }
+            (Call::Step, Some(sums)) => {
+                step_with_sums(state, memory, sums, clocks, codes, output_clocks, output_words, halt)
+            }
         };
         self.state = result.state;
         self.read += result.read;
@@ -309,12 +346,13 @@ impl Chip {
         self.written = 0;
     }
 
-    /// One call of [`run`], lent the whole rest of the inputs and the free records as they are.
+    /// One call of [`run`], with sums of [`run_with_sums`], lent the whole rest of the inputs and the free records as
+    /// they are.
     pub fn call_run(&mut self, n: u32) -> CallResult {
         self.call(Call::Run(n), self.input_clocks.len())
     }
 
-    /// One call of [`step`], lent the same.
+    /// One call of [`step`], with sums of [`step_with_sums`], lent the same.
     pub fn call_step(&mut self) -> CallResult {
         self.call(Call::Step, self.input_clocks.len())
     }
@@ -358,7 +396,7 @@ impl Default for Chip {
 /// Why a tape was refused, and where.
 #[derive(Clone, Copy, PartialEq, Eq, Debug)]
 pub struct RefusedTape {
-    /// 1, 8, 9 or 10.
+    /// 1, 13, 8, 9 or 10.
     pub number: Number,
     /// The index of the faulty record's `;`, or the tape's length where the last record is missing.
     pub place: usize,

@@ -51,6 +51,21 @@
 //! A run halts after the first clock that writes at a chosen address (document 02, U4): the last parameter of [`run`]
 //! and [`step`], or [`Chip::halt`](Chip#structfield.halt).
 //!
+//! [`run_with_sums`], [`step_with_sums`] and [`load_with_sums`] keep the byte sums of a memory's 256 pages beside it
+//! (document 02, U7), of which [`total`] is the sum of all bytes; or set [`Chip::sums`](Chip#structfield.sums):
+//!
+//! ```
+//! use r6501q::{total, Chip};
+//!
+//! let mut chip = Chip::new();
+//! chip.sums = Some(vec![0; 256]); // right beside a memory of zeros
+//! chip.load(b";070200A95585004C040201DE\n;02FFFC000201FF\n;0000030003\n")?;
+//! chip.release();
+//! chip.run(100)?;
+//! assert_eq!(chip.sums.as_deref().map(total), Some(Ok(471)));
+//! # Ok::<(), Box<dyn std::error::Error>>(())
+//! ```
+//!
 //! [`latch`] finds a latch value of counter A for a wanted bit rate; it needs no chip:
 //!
 //! ```
@@ -71,6 +86,7 @@ mod number;
 mod pin;
 mod record;
 mod state;
+mod sums;
 
 pub use calls::{code, load, run, step, CallResult, LoadResult, MEMORY_LENGTH, PIN_NMI, PIN_RES, RELEASE};
 pub use chip::{Chip, RefusedTape};
@@ -83,6 +99,7 @@ pub use state::{
     Control, CounterA, CounterB, Cpu, Due, Levels, Peripherals, Ports, Receiver, SerialData, State, Transmitter,
     Waiting,
 };
+pub use sums::{load_with_sums, page_sums, run_with_sums, step_with_sums, total, SUMS_LENGTH};
 
 // README's Rust is compiled and run with the other examples.
 #[cfg(doctest)]

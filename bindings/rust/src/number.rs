@@ -2,16 +2,16 @@
 use std::error::Error;
 use std::fmt;
 
-/// Why a call ended. 1 to 5 are refusals: the state given comes back, nothing is read, counted or changed. 6, 7 and 12
-/// are stops: all is as reached, and with 12 the clock of the write is done. 8 to 10 are refused tapes: memory is
-/// unchanged. 11 is a refused latch call.
+/// Why a call ended. 1 to 5 are refusals: the state given comes back, nothing is read, counted or changed. So is 13,
+/// which comes directly after 1 and before 2. 6, 7 and 12 are stops: all is as reached, and with 12 the clock of the
+/// write is done. 8 to 10 are refused tapes: memory is unchanged. 11 is a refused latch call.
 ///
 /// ```
 /// use r6501q::Number;
 ///
 /// assert_eq!(u8::from(Number::WrongPinList), 5);
 /// assert_eq!(Number::try_from(6), Ok(Number::UndefinedOpcode));
-/// assert!(Number::try_from(13).is_err());
+/// assert!(Number::try_from(14).is_err());
 /// assert_eq!(Number::NoFreeRecord.to_string(), "the next clock needs a record and none is free (7)");
 /// ```
 #[repr(u8)]
@@ -43,11 +43,13 @@ pub enum Number {
     RateOutOfLimits = 11,
     /// Halted after the clock of a write at the halt address: that clock is done and recorded.
     HaltedAtWrite = 12,
+    /// A page list is not of 256 sums. Refused like 1 and directly after it.
+    WrongSumsLength = 13,
 }
 
 impl Number {
     /// Every number, in order.
-    pub const ALL: [Number; 13] = [
+    pub const ALL: [Number; 14] = [
         Number::Done,
         Number::WrongMemoryLength,
         Number::StateNotWellFormed,
@@ -61,6 +63,7 @@ impl Number {
         Number::WrongLastRecord,
         Number::RateOutOfLimits,
         Number::HaltedAtWrite,
+        Number::WrongSumsLength,
     ];
 
     /// `Ok` for [`Number::Done`], the number itself as an error for every other.
@@ -100,6 +103,7 @@ impl Number {
             Number::WrongLastRecord => "the tape's last record is missing, or its count is wrong",
             Number::RateOutOfLimits => "a rate is 0, or a rate or the tolerance is above its limit",
             Number::HaltedAtWrite => "the last clock wrote at the halt address",
+            Number::WrongSumsLength => "the page list is not of 256 sums",
         }
     }
 }
@@ -128,7 +132,7 @@ impl TryFrom<u8> for Number {
     }
 }
 
-/// A byte above 12, which no call gives.
+/// A byte above 13, which no call gives.
 #[derive(Clone, Copy, PartialEq, Eq, Debug)]
 pub struct NotANumber(
     /// The byte.
@@ -137,7 +141,7 @@ pub struct NotANumber(
 
 impl fmt::Display for NotANumber {
     fn fmt(&self, f: &mut fmt::Formatter<'_>) -> fmt::Result {
-        write!(f, "{} is above 12, the highest number that a call gives", self.0)
+        write!(f, "{} is above 13, the highest number that a call gives", self.0)
     }
 }
 
@@ -152,7 +156,7 @@ mod tests {
         for byte in 0..=u8::MAX {
             match Number::try_from(byte) {
                 Ok(number) => assert_eq!(u8::from(number), byte),
-                Err(NotANumber(other)) => assert_eq!((other, byte > 12), (byte, true)),
+                Err(NotANumber(other)) => assert_eq!((other, byte > 13), (byte, true)),
             }
         }
     }
