@@ -14,6 +14,7 @@ pub mod scenario;
 pub mod serial;
 pub mod shifted;
 pub mod state;
+pub mod sums;
 pub mod tape;
 
 pub use clock::{plain, ClockReport, Met, World};

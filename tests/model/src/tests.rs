@@ -3,6 +3,7 @@
 mod halt;
 mod held;
 mod shift;
+mod sums;
 mod waiting;
 
 use crate::counters::{mode_a, Mode};
