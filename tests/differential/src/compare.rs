@@ -3,9 +3,11 @@
 
 use crate::coverage::Coverage;
 use crate::scenario::{free_entries, Call, List, Scenario};
+use crate::sums::{check_straight_sum, check_total};
 use differential::convert::{damage_bytes, first_difference, library_state};
 use differential::random::Random;
-use plain_clock::{fresh, run_observed, Outcome, World};
+use plain_clock::sums::{change, page_sums, refusal_by_length, run_with_sums_observed, PAGES};
+use plain_clock::{fresh, run_observed, ClockReport, Outcome, State, World};
 use r6501q::{CallResult, Chip};
 
 /// The library's side as a list of the scenario starts it; `world` is what that list is lent.
@@ -22,12 +24,28 @@ fn lend_lists(chip: &mut Chip, world: &World) {
     chip.set_space(&world.output_clocks, &world.output_words);
 }
 
-/// One call: it gets the state and memory that the last left, the rest of the inputs and the free output space.
-fn make(chip: &mut Chip, call: Call) -> CallResult {
-    match call {
+/// One call: it gets the state and memory that the last left, the rest of the inputs and the free output space; and the
+/// page list that it is lent, or none.
+fn make(chip: &mut Chip, call: Call, sums: Option<&mut [u16]>) -> CallResult {
+    chip.sums = sums.as_deref().map(<[u16]>::to_vec);
+    let result = match call {
         Call::Step => chip.call_step(),
         Call::Run(n) => chip.call_run(n),
+    };
+    if let (Some(sums), Some(after)) = (sums, chip.sums.take()) {
+        sums.copy_from_slice(&after);
     }
+    result
+}
+
+/// Whether a call is refused: 1 to 5, and 13 (document 02, U7, "like 1 and directly after it").
+pub fn is_refusal(number: u8) -> bool {
+    matches!(number, 1..=5 | 13)
+}
+
+/// Whether a number ends a list: 6, 7 and 12.
+pub fn is_stop(number: u8) -> bool {
+    matches!(number, 6 | 7 | 12)
 }
 
 fn copy<T: Copy>(to: &mut Vec<T>, from: &[T]) {
@@ -99,6 +117,16 @@ pub struct Sides {
     world: World,
     /// What the present list was lent.
     lent: World,
+    sums: Sums,
+}
+
+/// The scenario's page list on each side, whole, and as the present list was lent it. Empty where all calls lack sums.
+#[derive(Default)]
+struct Sums {
+    library: Vec<u16>,
+    model: Vec<u16>,
+    lent: Vec<u16>,
+    walk: Vec<u16>,
 }
 
 /// Where the sides differ.
@@ -112,13 +140,22 @@ pub struct Difference {
 
 impl Sides {
     pub fn new() -> Self {
-        Sides { library: Chip::new(), walk: Chip::new(), world: empty_world(), lent: empty_world() }
+        Sides {
+            library: Chip::new(),
+            walk: Chip::new(),
+            world: empty_world(),
+            lent: empty_world(),
+            sums: Sums::default(),
+        }
     }
 
     /// Each list in turn, as long as the one before has ended with a stop.
     pub fn check(&mut self, scenario: &Scenario, coverage: &mut Coverage) -> Result<(), Difference> {
         lent_first(scenario, &mut self.world);
         start(&mut self.library, scenario, &scenario.lists[0], &self.world);
+        let entries = scenario.page_list.as_ref().map_or(&[][..], |page_list| &page_list.entries);
+        copy(&mut self.sums.library, entries);
+        copy(&mut self.sums.model, entries);
         coverage.scenario(scenario);
         let well_formed = scenario.byte_damage.is_none() && plain_clock::well_formed(&scenario.state);
         if self.library.state.is_well_formed() != well_formed {
@@ -142,40 +179,75 @@ impl Sides {
     fn check_list(&mut self, scenario: &Scenario, index: usize, coverage: &mut Coverage) -> Result<u8, Difference> {
         let list = &scenario.lists[index];
         copy_world(&mut self.lent, &self.world);
+        copy(&mut self.sums.lent, &self.sums.model);
         self.library.halt = list.halt;
         let mut accepted = 0;
         let mut stop = 0;
         for (place, &call) in list.calls.iter().enumerate() {
-            let result = make(&mut self.library, call);
-            let outcome = self.model_call(scenario, list, call, coverage);
+            let lent = scenario.sums_lent(index, place);
+            let result = make(&mut self.library, call, lent.map(|length| &mut self.sums.library[..length]));
+            coverage.begin_sums(lent, &self.sums.model);
+            let outcome = self.model_call(scenario, list, call, lent, coverage);
             coverage.call(call, &outcome, &self.world);
-            if let Some(text) = self.call_difference(scenario, &result, &outcome) {
+            coverage.sums(scenario, call, &outcome, &self.world, &self.sums.model);
+            let different = self.call_difference(scenario, &result, &outcome).or_else(|| self.sums_difference(lent));
+            if let Some(text) = different {
                 return Err(Difference { list: index, call: Some(place), text });
             }
-            if !(1..=5).contains(&outcome.number) {
+            if !is_refusal(outcome.number) {
                 accepted += u64::from(call.clocks());
             }
-            if outcome.number > 5 {
+            if is_stop(outcome.number) {
                 stop = outcome.number;
                 break;
             }
         }
+        self.check_right_sums(scenario, coverage).map_err(|text| Difference { list: index, call: None, text })?;
         match self.walk_difference(scenario, list, accepted, stop) {
             Some(text) => Err(Difference { list: index, call: None, text: format!("by single clocks alone: {text}") }),
             None => Ok(stop),
         }
     }
 
+    /// The page list whole, also what is behind the entries that a call was lent; and the total of those.
+    fn sums_difference(&self, lent: Option<usize>) -> Option<String> {
+        let total = |length: usize| check_total(&self.sums.library[..length]).err();
+        list_difference("sums", &self.sums.library, &self.sums.model).or_else(|| lent.and_then(total))
+    }
+
+    /// Where all sums are right, their total in any order of pages is the straight sum of all bytes.
+    fn check_right_sums(&self, scenario: &Scenario, coverage: &mut Coverage) -> Result<(), String> {
+        if scenario.page_list.is_some() {
+            let random = &Random::new(u64::from(self.world.state.clock), u64::from(self.world.state.pc));
+            let right = check_straight_sum(random, &self.sums.library[..PAGES], &self.library.memory)?;
+            coverage.total(right);
+        }
+        Ok(())
+    }
+
     /// The model's side of a call. Damage that the model's state cannot have makes the state not well-formed.
-    fn model_call(&mut self, scenario: &Scenario, list: &List, call: Call, coverage: &mut Coverage) -> Outcome {
+    fn model_call(
+        &mut self,
+        scenario: &Scenario,
+        list: &List,
+        call: Call,
+        lent: Option<usize>,
+        coverage: &mut Coverage,
+    ) -> Outcome {
         if scenario.byte_damage.is_some() {
-            let number = if scenario.memory.len() == plain_clock::run::MEMORY_LENGTH { 2 } else { 1 };
+            let by_length = refusal_by_length(scenario.memory.len(), lent.unwrap_or(PAGES));
+            let number = if by_length != 0 { by_length } else { 2 };
             return Outcome { number, leaps: 0, inputs_read: 0, records_written: 0 };
         }
         coverage.begin_call();
-        run_observed(&mut self.world, u64::from(call.clocks()), list.halt, |before, after, report| {
-            coverage.clock(before, after, report);
-        })
+        let observe = |before: &State, after: &State, report: &ClockReport| coverage.clock(before, after, report);
+        let n = u64::from(call.clocks());
+        match lent {
+            Some(length) => {
+                run_with_sums_observed(&mut self.world, &mut self.sums.model[..length], n, list.halt, observe)
+            }
+            None => run_observed(&mut self.world, n, list.halt, observe),
+        }
     }
 
     fn call_difference(&self, scenario: &Scenario, result: &CallResult, outcome: &Outcome) -> Option<String> {
@@ -203,12 +275,15 @@ impl Sides {
             .or_else(|| list_difference("output words", library.output_words(), &self.world.output_words))
     }
 
-    /// As many single clocks as the accepted calls of a list asked for, from a copy of its start.
+    /// As many single clocks as the accepted calls of a list asked for, from a copy of its start. In a scenario with a
+    /// page list all of them are lent 256 sums, and the changes add up.
     fn walk_difference(&mut self, scenario: &Scenario, list: &List, accepted: u64, stop: u8) -> Option<String> {
         start(&mut self.walk, scenario, list, &self.lent);
+        copy(&mut self.sums.walk, &self.sums.lent);
         let mut number = 0;
         for _ in 0..accepted {
-            let result = make(&mut self.walk, Call::Step);
+            let sums = scenario.page_list.as_ref().map(|_| &mut self.sums.walk[..PAGES]);
+            let result = make(&mut self.walk, Call::Step, sums);
             number = u8::from(result.number);
             if result.leaps != u32::from(number == 0 || number == 12) {
                 return Some(format!("a single clock of number {number} with {} leaps", result.leaps));
@@ -230,7 +305,16 @@ impl Sides {
             ));
         }
         let expected = library_state_of(scenario, &self.world);
-        first_difference(&self.walk.state, &expected).or_else(|| self.lent_difference(&self.walk))
+        first_difference(&self.walk.state, &expected)
+            .or_else(|| self.lent_difference(&self.walk))
+            .or_else(|| self.walk_sums_difference(scenario))
+    }
+
+    fn walk_sums_difference(&mut self, scenario: &Scenario) -> Option<String> {
+        scenario.page_list.as_ref()?;
+        let (before, after) = (page_sums(&self.lent.memory), page_sums(&self.world.memory));
+        change(&mut self.sums.lent[..PAGES], &before, &after);
+        list_difference("sums", &self.sums.walk, &self.sums.lent)
     }
 }
 

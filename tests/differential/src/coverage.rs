@@ -1,5 +1,8 @@
 //! How often each kind of thing occurred, seen on the model's side.
 
+mod sums;
+
+use crate::compare::{is_refusal, is_stop};
 use crate::scenario::{Call, Scenario};
 use crate::states::StateKind;
 use plain_clock::accesses::AccessKind;
@@ -222,6 +225,35 @@ kinds! {
     HaltAfterFull: "halt: in the list behind a stop 7 on that clock",
     HaltAgain: "halt: in the list behind a halt at the same address",
     AfterHalt: "call: all clocks done in the list behind a halt",
+    SumsRight: "sums: right ones, a byte changed",
+    SumsWrong: "sums: wrong ones, a byte changed",
+    SumsLacking: "sums: call lacking them behind one with them, a byte changed",
+    SumsBehindLacking: "sums: call with them behind one lacking them, a byte changed",
+    SumsPages: "sums: bytes of three or more pages changed",
+    SumsPageZero: "sums: a byte of page 0 changed",
+    SumsPageLast: "sums: a byte of page FFh changed",
+    SumsTwice: "sums: two bytes of one page changed on one clock",
+    SumsSame: "sums: byte written that the memory held already, none changed",
+    SumsRegister: "sums: register written, no byte changed",
+    SumsBelow: "sums: an entry gone below 0",
+    SumsAbove: "sums: an entry gone above 65,535",
+    SumsWaiting: "sums: all clocks done, a byte waiting for the memory",
+    SumsDropped: "sums: byte for the memory dropped by RES low",
+    SumsUndefined: "sums: stop 6, a byte changed",
+    SumsFull: "sums: stop 7, a byte changed",
+    SumsFullClock: "sums: stop 7 on a clock that would change a byte",
+    SumsHalted: "sums: halt, its byte changed",
+    SumsRun0: "sums: run of 0 clocks, not refused",
+    SumsRefused: "sums: refused with 2 to 5, 256 sums",
+    SumsMemory: "sums: refused with 1, not 256 sums",
+    SumsNone: "sums: refused with 13, no sums",
+    SumsTooFew: "sums: refused with 13, 255 sums",
+    SumsTooMany: "sums: refused with 13, 257 sums",
+    SumsState: "sums: refused with 13, the state not well-formed",
+    SumsFlag: "sums: refused with 13, a flag above 1 or a none waiting that is another",
+    SumsLists: "sums: refused with 13, where 3, 4 or 5 would be",
+    SumsAfter13: "sums: call not refused, after one refused with 13 in its list",
+    SumsTotal: "sums: total of right sums, in two orders",
 }
 
 const KINDS: usize = TEXTS.len();
@@ -235,8 +267,8 @@ const FORMS: usize = 16;
 #[derive(Clone)]
 pub struct Coverage {
     counts: [u64; KINDS],
-    /// By `step` and by `run`, numbers 0 to 12.
-    numbers: [[u64; 13]; 2],
+    /// By `step` and by `run`, numbers 0 to 13.
+    numbers: [[u64; 14]; 2],
     opcodes: [u64; 256],
     /// Registers read, read to be modified, written.
     registers: [[u64; 64]; 3],
@@ -260,6 +292,7 @@ pub struct Coverage {
     /// Clocks done in the present call.
     call_clocks: u32,
     halts: Halts,
+    sums: sums::Sums,
 }
 
 /// What a byte waiting is of.
@@ -289,7 +322,7 @@ impl Coverage {
     pub fn new() -> Self {
         Coverage {
             counts: [0; KINDS],
-            numbers: [[0; 13]; 2],
+            numbers: [[0; 14]; 2],
             opcodes: [0; 256],
             registers: [[0; 64]; 3],
             sent: [0; FORMATS],
@@ -308,6 +341,7 @@ impl Coverage {
             refused_before: false,
             call_clocks: 0,
             halts: Halts::default(),
+            sums: sums::Sums::default(),
         }
     }
 
@@ -327,6 +361,7 @@ impl Coverage {
         self.pa4_risen = None;
         self.waiting = Waiter::Lent;
         self.put_last = false;
+        self.sums = sums::Sums::of(scenario);
         self.met(match scenario.state_kind() {
             StateKind::Fresh => Kind::StartFresh,
             StateKind::Even => Kind::StartEven,
@@ -343,6 +378,7 @@ impl Coverage {
     /// A list, whose calls are given this halt address or none.
     pub fn begin_list(&mut self, halt: Option<u16>) {
         self.halts.address = halt;
+        self.sums.begin_list();
     }
 
     pub fn begin_call(&mut self) {
@@ -356,7 +392,7 @@ impl Coverage {
         self.calls += 1;
         let by_run = usize::from(call != Call::Step);
         self.numbers[by_run][usize::from(outcome.number)] += 1;
-        if (1..=5).contains(&outcome.number) {
+        if is_refusal(outcome.number) {
             self.refused_before = true;
             self.met_if(self.halts.address.is_some(), Kind::HaltRefused);
             return;
@@ -372,7 +408,7 @@ impl Coverage {
         self.met_if(waits && world.state.wait == 1, Kind::CutBeforePut);
         self.met_if(n > 0 && byte_being_sent(&world.state), Kind::CutSent);
         self.met_if(n > 0 && byte_being_received(&world.state), Kind::CutReceived);
-        if outcome.number > 5 {
+        if is_stop(outcome.number) {
             self.stop(world);
         }
         self.halt(call, outcome, world);
@@ -393,7 +429,7 @@ impl Coverage {
             self.met_if(matches!(before, Some((_, 7, true))) && outcome.leaps == 1, Kind::HaltAfterFull);
             self.met_if(matches!(before, Some((same, 12, _)) if same == address), Kind::HaltAgain);
         }
-        if outcome.number > 5 {
+        if is_stop(outcome.number) {
             self.halts.before = Some((address, outcome.number, full));
             self.halts.full_put = outcome.number == 7 && puts_next(world);
         }
@@ -453,6 +489,7 @@ impl Coverage {
         self.clocks += 1;
         self.call_clocks += 1;
         self.halts.last = Some((*report, self.gap > 0));
+        self.sums.clock(before, after, report);
         if !report.event {
             self.gap += 1;
             self.put_last = false;
@@ -855,7 +892,7 @@ impl Coverage {
     /// The table: each kind and its count.
     pub fn rows(&self) -> Vec<(String, u64)> {
         let mut rows = Vec::new();
-        for number in (0..8).chain([12]) {
+        for number in (0..8).chain([12, 13]) {
             rows.push((format!("number {number}: by step"), self.numbers[0][number]));
             rows.push((format!("number {number}: by run"), self.numbers[1][number]));
         }

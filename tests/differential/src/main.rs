@@ -1,8 +1,8 @@
 //! The library's calls against the plain-clock model, over lists of calls.
 //!
 //! `differential run scenarios seed [threads]`, `differential serial`, `differential starts scenarios seed`,
-//! `differential tapes number seed`, `differential replay seed index`. It ends with 1 at a difference, with 2 where an
-//! argument is wrong.
+//! `differential tapes number seed`, `differential totals number seed`, `differential replay seed index`. It ends with 1
+//! at a difference, with 2 where an argument is wrong.
 
 mod code;
 mod compare;
@@ -16,6 +16,7 @@ mod scenario;
 mod serial;
 mod starts;
 mod states;
+mod sums;
 mod tapes;
 
 use compare::{Difference, Sides};
@@ -37,7 +38,7 @@ const RAREST: u64 = 10_000;
 
 const USAGE: &str =
     "usage: differential run scenarios seed [threads] | serial | starts scenarios seed | tapes number seed | \
-     replay seed index; counts from 1 up";
+     totals number seed | replay seed index; counts from 1 up";
 
 fn main() -> ExitCode {
     let arguments: Vec<String> = std::env::args().skip(1).collect();
@@ -61,6 +62,7 @@ fn right(arguments: &[String]) -> Option<bool> {
         ("serial", &[]) => Some(run_serial()),
         ("starts", &[scenarios @ (1..), seed]) => Some(run_starts(scenarios, seed)),
         ("tapes", &[tapes @ (1..), seed]) => Some(run_tapes(tapes, seed)),
+        ("totals", &[lists @ (1..), seed]) => Some(run_totals(lists, seed)),
         ("replay", &[seed, index]) => Some(replay::replay(seed, index)),
         _ => None,
     }
@@ -195,14 +197,29 @@ fn run_starts(scenarios: u64, seed: u64) -> bool {
 fn run_tapes(tapes: u64, seed: u64) -> bool {
     match tapes::check_tapes(seed, tapes) {
         Ok(counts) => {
-            let by_number: Vec<String> =
-                tapes::NUMBERS.iter().zip(counts).map(|(number, count)| format!("{number}: {count}")).collect();
+            let numbers = tapes::NUMBERS.iter().zip(counts.numbers);
+            let by_number: Vec<String> = numbers.map(|(number, count)| format!("{number}: {count}")).collect();
             println!(
-                "seed {seed}: {} tapes, by number {}: no difference",
-                counts.iter().sum::<u64>(),
-                by_number.join(", ")
+                "seed {seed}: {} tapes, by number {}, loaded with right sums {} and with wrong ones {}: no difference",
+                counts.numbers.iter().sum::<u64>(),
+                by_number.join(", "),
+                counts.right,
+                counts.wrong
             );
-            counts.iter().all(|&count| count > 0)
+            counts.numbers.iter().chain([&counts.right, &counts.wrong]).all(|&count| count > 0)
+        }
+        Err(text) => {
+            println!("{text}");
+            false
+        }
+    }
+}
+
+fn run_totals(lists: u64, seed: u64) -> bool {
+    match sums::check_totals(seed, lists) {
+        Ok((of_256, others)) => {
+            println!("seed {seed}: totals of {of_256} page lists, {others} of another length: no difference");
+            of_256 > 0 && others > 0
         }
         Err(text) => {
             println!("{text}");

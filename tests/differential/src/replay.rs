@@ -1,11 +1,12 @@
 //! One scenario in detail: what it is, what each side says after each call, and the first clock on which the two
 //! differ.
 
-use crate::compare::{lent_first, lent_next, list_difference, Difference, Sides};
+use crate::compare::{is_stop, lent_first, lent_next, list_difference, Difference, Sides};
 use crate::coverage::Coverage;
 use crate::scenario::{List, Maker, Scenario};
 use differential::convert::{first_difference, library_state};
-use plain_clock::{run, run_observed, World};
+use plain_clock::sums::{right, run_with_sums, run_with_sums_observed, PAGES};
+use plain_clock::{run, World};
 
 pub fn print_scenario(scenario: &Scenario) {
     println!("theme {:?}", scenario.theme);
@@ -28,8 +29,16 @@ pub fn print_scenario(scenario: &Scenario) {
     let (clocks, codes) = (scenario.input_clocks.len(), scenario.input_codes.len());
     println!("inputs, {clocks} clocks and {codes} codes: {}", inputs.join(" "));
     println!("free entries: {} clocks, {} words", scenario.output_clocks.len(), scenario.output_words.len());
-    for list in &scenario.lists {
+    for (index, list) in scenario.lists.iter().enumerate() {
         println!("{list:X?}");
+        if scenario.page_list.is_some() {
+            let lent: Vec<_> = (0..list.calls.len()).map(|call| scenario.sums_lent(index, call)).collect();
+            println!("    sums lent {lent:?}");
+        }
+    }
+    if let Some(page_list) = &scenario.page_list {
+        let sums = &page_list.entries[..PAGES];
+        println!("sums{}: {sums:X?}", if right(sums, &scenario.memory) { ", right" } else { "" });
     }
 }
 
@@ -90,22 +99,28 @@ fn print_calls(scenario: &Scenario) {
         return;
     }
     let mut world = world_of(scenario);
+    let mut sums = scenario.page_list.as_ref().map_or(Vec::new(), |page_list| page_list.entries.clone());
     for (index, list) in scenario.lists.iter().enumerate() {
         if index > 0 && world.stop == 0 {
             break;
         } else if index > 0 {
             lent_next(list, &mut world);
         }
-        print_list(list, &mut world);
+        print_list(scenario, index, &mut world, &mut sums);
     }
 }
 
-fn print_list(list: &List, world: &mut World) {
-    for call in &list.calls {
-        let outcome = run(world, u64::from(call.clocks()), list.halt);
+fn print_list(scenario: &Scenario, index: usize, world: &mut World, sums: &mut [u16]) {
+    let list = &scenario.lists[index];
+    for (place, call) in list.calls.iter().enumerate() {
+        let (n, lent) = (u64::from(call.clocks()), scenario.sums_lent(index, place));
+        let outcome = match lent {
+            Some(length) => run_with_sums(world, &mut sums[..length], n, list.halt),
+            None => run(world, n, list.halt),
+        };
         println!("{call:?}: {outcome:?}");
         println!("    {:X?}", world.state);
-        if outcome.number > 5 {
+        if is_stop(outcome.number) {
             break;
         }
     }
@@ -137,9 +152,11 @@ fn differs_in_list(list: &List, world: &mut World) -> bool {
         let before = world.clone();
         let mut memory = before.memory.clone();
         let (mut output_clocks, mut output_words) = (before.output_clocks.clone(), before.output_words.clone());
-        let result = r6501q::step(
+        let (mut library_sums, mut model_sums) = ([0; PAGES], [0; PAGES]);
+        let result = r6501q::step_with_sums(
             library_state(&before.state),
             &mut memory,
+            &mut library_sums,
             &before.input_clocks[before.read..],
             &before.input_codes[before.read..],
             &mut output_clocks[before.written..],
@@ -147,12 +164,13 @@ fn differs_in_list(list: &List, world: &mut World) -> bool {
             list.halt,
         );
         let mut report = None;
-        let outcome = run_observed(world, 1, list.halt, |_, _, met| report = Some(*met));
+        let outcome = run_with_sums_observed(world, &mut model_sums, 1, list.halt, |_, _, met| report = Some(*met));
         let number = u8::from(result.number);
         let different = first_difference(&result.state, &library_state(&world.state))
             .or_else(|| list_difference("memory", &memory, &world.memory))
             .or_else(|| list_difference("output clocks", &output_clocks, &world.output_clocks))
             .or_else(|| list_difference("output words", &output_words, &world.output_words))
+            .or_else(|| list_difference("changes of sums", &library_sums, &model_sums))
             .or_else(|| {
                 (number != outcome.number).then(|| format!("number: library {number}, model {}", outcome.number))
             });

@@ -9,6 +9,7 @@ use crate::inputs::Inputs;
 use crate::memories::{page_zero, vectors, Backgrounds, LENGTH, UNDEFINED};
 use crate::random::Random;
 use crate::states::{settle_levels, shift_control, state, StateKind};
+use crate::sums::PageList;
 use plain_clock::clock::RES_HIGH;
 use plain_clock::state::FLAG_I;
 use plain_clock::{fresh, State};
@@ -82,6 +83,8 @@ pub struct Scenario {
     /// The output lists as they are lent: their entries show what is written.
     pub output_clocks: Vec<u32>,
     pub output_words: Vec<u32>,
+    /// None where every call lacks sums.
+    pub page_list: Option<PageList>,
     /// The first list, and lists that follow where the one before has ended with a stop.
     pub lists: Vec<List>,
 }
@@ -105,8 +108,14 @@ impl Scenario {
             input_codes: Vec::new(),
             output_clocks: Vec::new(),
             output_words: Vec::new(),
+            page_list: None,
             lists: Vec::new(),
         }
+    }
+
+    /// How many sums a call is lent; none where it lacks them.
+    pub fn sums_lent(&self, list: usize, call: usize) -> Option<usize> {
+        self.page_list.as_ref().and_then(|page_list| page_list.lent(list, call))
     }
 
     pub fn state_kind(&self) -> StateKind {
@@ -153,6 +162,7 @@ impl Maker {
         if random.percent(7) {
             damage(random, scenario);
         }
+        scenario.page_list = random.flag().then(|| PageList::new(random, &scenario.memory));
     }
 
     fn fill_memory(&mut self, random: &Random, scenario: &mut Scenario) {

@@ -1,66 +1,110 @@
-//! Random and damaged tapes: the library's loader against the model's.
+//! Random and damaged tapes, with page sums and lacking them: the library's loader against the model's.
 
 use crate::compare::list_difference;
 use crate::memories::LENGTH;
 use crate::random::Random;
+use crate::sums::{check_straight_sum, check_total, fill, lent_length};
 use plain_clock::load_tape;
+use plain_clock::sums::{load_tape_with_sums, PAGES};
 
-/// The numbers of a load: 0, 1, 8, 9, 10.
-pub const NUMBERS: [u8; 5] = [0, 1, 8, 9, 10];
+/// The numbers of a load: 0, 1, 8, 9, 10, and with sums 13.
+pub const NUMBERS: [u8; 6] = [0, 1, 8, 9, 10, 13];
 
-/// How many tapes ended with each of `NUMBERS`.
-pub type Counts = [u64; 5];
+/// How many tapes ended with each of `NUMBERS`; and how many with sums were loaded, the sums being right before or
+/// wrong.
+#[derive(Default)]
+pub struct Counts {
+    pub numbers: [u64; 6],
+    pub right: u64,
+    pub wrong: u64,
+}
+
+impl Counts {
+    fn add(&mut self, number: u8) {
+        if let Some(place) = NUMBERS.iter().position(|&n| n == number) {
+            self.numbers[place] += 1;
+        }
+    }
+}
 
 /// Loads random tapes on both sides. Gives the counts, or the text of a difference.
 pub fn check_tapes(seed: u64, tapes: u64) -> Result<Counts, String> {
-    let mut counts = [0; 5];
+    let mut counts = Counts::default();
     let mut sides = Memories::new();
     for index in 0..tapes {
         let random = &Random::new(!seed, index);
         let tape = tape(random);
         let length = if random.percent(3) { random.pick(&[0, 1, 65_535, 65_537]) } else { LENGTH };
-        let number = sides.compare(&tape, length).map_err(|text| {
-            format!("seed {seed}, tape {index}, memory of {length} bytes: {text}\n{}", String::from_utf8_lossy(&tape))
+        let lent = random.percent(60).then(|| lent_length(random));
+        if random.percent(10) {
+            sides.renew_sums(random);
+        }
+        let number = sides.compare(&tape, length, lent, &mut counts).map_err(|text| {
+            let tape = String::from_utf8_lossy(&tape);
+            format!("seed {seed}, tape {index}, memory of {length} bytes, {lent:?} sums: {text}\n{tape}")
         })?;
-        count(&mut counts, number);
+        counts.add(number);
     }
-    for records in [65_534, 65_535, 65_536, 65_537] {
-        let number = sides.compare(&long_tape(records), LENGTH).map_err(|text| format!("{records} records: {text}"))?;
-        count(&mut counts, number);
+    for (records, lent) in [65_534, 65_535, 65_536, 65_537].into_iter().flat_map(|n| [(n, None), (n, Some(PAGES))]) {
+        let compared = sides.compare(&long_tape(records), LENGTH, lent, &mut counts);
+        counts.add(compared.map_err(|text| format!("{records} records, {lent:?} sums: {text}"))?);
     }
     Ok(counts)
 }
 
-fn count(counts: &mut Counts, number: u8) {
-    if let Some(place) = NUMBERS.iter().position(|&n| n == number) {
-        counts[place] += 1;
-    }
-}
-
-/// A memory for each side, alike before and after each tape.
+/// A memory and a page list for each side, alike before and after each tape.
 struct Memories {
     library: Vec<u8>,
     model: Vec<u8>,
+    library_sums: Vec<u16>,
+    model_sums: Vec<u16>,
 }
 
 impl Memories {
     fn new() -> Self {
         let memory: Vec<u8> = (0..LENGTH + 1).map(|i| (i % 251) as u8).collect();
-        Memories { library: memory.clone(), model: memory }
+        let sums = vec![0; PAGES + 44];
+        Memories { library: memory.clone(), model: memory, library_sums: sums.clone(), model_sums: sums }
     }
 
-    /// Gives the number, or the difference.
-    fn compare(&mut self, tape: &[u8], length: usize) -> Result<u8, String> {
-        let loaded = r6501q::load(tape, &mut self.library[..length]);
-        let (number, place) = load_tape(tape, &mut self.model[..length]);
+    /// Other sums, right or wrong.
+    fn renew_sums(&mut self, random: &Random) {
+        fill(random, &mut self.model_sums, &self.model[..LENGTH]);
+        self.library_sums.copy_from_slice(&self.model_sums);
+    }
+
+    /// Loads the tape on both sides, lent so many sums or none. Gives the number, or the difference.
+    fn compare(&mut self, tape: &[u8], length: usize, lent: Option<usize>, counts: &mut Counts) -> Result<u8, String> {
+        let was_right = self.check_sums(tape)?;
+        let (library, model) = (&mut self.library[..length], &mut self.model[..length]);
+        let loaded = match lent {
+            Some(sums) => r6501q::load_with_sums(tape, library, &mut self.library_sums[..sums]),
+            None => r6501q::load(tape, library),
+        };
+        let (number, place) = match lent {
+            Some(sums) => load_tape_with_sums(tape, model, &mut self.model_sums[..sums]),
+            None => load_tape(tape, model),
+        };
         if (u8::from(loaded.number), loaded.place) != (number, place) {
             let library = u8::from(loaded.number);
             return Err(format!("library {library} at {}, model {number} at {place}", loaded.place));
         }
-        match list_difference("memory", &self.library, &self.model) {
-            Some(text) => Err(text),
-            None => Ok(number),
+        if lent.is_some() && number == 0 {
+            *(if was_right { &mut counts.right } else { &mut counts.wrong }) += 1;
+            if self.check_sums(tape)? != was_right {
+                return Err("right sums became wrong, or wrong ones right".to_string());
+            }
         }
+        let different = list_difference("memory", &self.library, &self.model)
+            .or_else(|| list_difference("sums", &self.library_sums, &self.model_sums));
+        different.map_or(Ok(number), Err)
+    }
+
+    /// Whether the library's sums are right; the text where a total differs.
+    fn check_sums(&self, tape: &[u8]) -> Result<bool, String> {
+        let sums = &self.library_sums[..PAGES];
+        check_total(sums)?;
+        check_straight_sum(&Random::new(0, tape.len() as u64), sums, &self.library[..LENGTH])
     }
 }
 

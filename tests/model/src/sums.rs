@@ -16,14 +16,16 @@ const PAGE_LENGTH: usize = 256;
 pub fn page_sums(memory: &[u8]) -> [u32; PAGES] {
     let mut sums = [0; PAGES];
     for (sum, page) in sums.iter_mut().zip(memory.chunks(PAGE_LENGTH)) {
-        *sum = page.iter().map(|&byte| u32::from(byte)).sum();
+        // 256 bytes are far from 32 bits' end; without a check for it the compiler adds many at once.
+        *sum = page.iter().fold(0, |sum: u32, &byte| sum.wrapping_add(u32::from(byte)));
     }
     sums
 }
 
-/// Whether every sum is its page's.
+/// Whether there is a sum for each page of a memory, and every one is its page's.
 pub fn right(sums: &[u16], memory: &[u8]) -> bool {
-    sums.len() == PAGES && page_sums(memory).iter().zip(sums).all(|(&page, &sum)| page == u32::from(sum))
+    refusal_by_length(memory.len(), sums.len()) == 0
+        && page_sums(memory).iter().zip(sums).all(|(&page, &sum)| page == u32::from(sum))
 }
 
 /// "changes each sum, right or wrong before, by exactly what its page's bytes change, modulo 65,536".
