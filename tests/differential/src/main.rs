@@ -1,8 +1,8 @@
 //! The library's calls against the plain-clock model, over lists of calls.
 //!
 //! `differential run scenarios seed [threads]`, `differential serial`, `differential starts scenarios seed`,
-//! `differential tapes number seed`, `differential totals number seed`, `differential replay seed index`. It ends with 1
-//! at a difference, with 2 where an argument is wrong.
+//! `differential tapes number seed`, `differential totals number seed`, `differential replay seed index`. It ends with
+//! 1 at a difference, with 2 where an argument is wrong.
 
 mod code;
 mod compare;
