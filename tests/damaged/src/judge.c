@@ -13,15 +13,26 @@
 #include <sys/mman.h>
 #include <unistd.h>
 
-enum { MEMORY = 65536, MOST_MEMORY = 3 * 65536, MOST_INPUTS = 100000, MOST_RECORDS = 100000, MOST_CLOCKS = 60000 };
+enum {
+    MEMORY = 65536,
+    MOST_MEMORY = 3 * 65536,
+    PAGES = 256,
+    MOST_SUMS = 1000,
+    MOST_INPUTS = 100000,
+    MOST_RECORDS = 100000,
+    MOST_CLOCKS = 60000
+};
 
 static library lib;
 static uint64_t seed;
 static unsigned patience;
 static unsigned long calls_made;
 
-/* What is lent, and the place of what is handed back. */
-static lent memory, input_clocks, input_codes, output_clocks, output_words, tape, result_place;
+/* What is lent, and the place of what is handed back. Of a call lacking sums they are open with no entry. */
+static lent memory, sums, input_clocks, input_codes, output_clocks, output_words, tape, result_place;
+
+/* Whether the call at hand is one with page sums. */
+static int with_sums;
 
 /* The state and the memory that the last accepted call left. */
 static r6501q_state kept_state;
@@ -73,6 +84,7 @@ void judge_begin(library calls, uint64_t from, unsigned seconds)
     patience = seconds;
     random_seed(from);
     lent_make(&memory, "memory", MOST_MEMORY);
+    lent_make(&sums, "sums", 2 * MOST_SUMS);
     lent_make(&input_clocks, "input clocks", 4 * MOST_INPUTS);
     lent_make(&input_codes, "input codes", MOST_INPUTS);
     lent_make(&output_clocks, "output clocks", 4 * MOST_RECORDS);
@@ -140,6 +152,27 @@ static void open_memory(void)
         memcpy(memory.data, kept_memory, MEMORY);
     else
         make_memory(memory.data, length);
+}
+
+/* Page sums for the open memory, or none for a call lacking them: right ones, or any. */
+static void open_sums(void)
+{
+    static const size_t wrong[] = {0, 0, 1, 255, 255, 257, 257, 512};
+    uint16_t *entries;
+    size_t length = PAGES, i;
+    with_sums = chance(50);
+    if (!with_sums)
+        length = 0;
+    else if (chance(8))
+        length = chance(20) ? below(MOST_SUMS) : wrong[below(sizeof wrong / sizeof *wrong)];
+    lent_open(&sums, 2 * length, chance(50));
+    entries = (uint16_t *)sums.data;
+    random_bytes(entries, sums.length);
+    if (chance(30)) /* near both ends of the range */
+        for (i = 0; i < length; i++)
+            entries[i] = (uint16_t)(below(8) - 4);
+    if (length == PAGES && memory.length == MEMORY && chance(40))
+        right_sums(entries, memory.data);
 }
 
 /* A length that is another one in a few cases. */
@@ -242,9 +275,10 @@ static void lend_all(const given *g, int expected)
 {
     const int idle = expected != 0 || g->n == 0;
     const int strict = chance(50);
-    const enum use inputs = expected >= 1 && expected <= 4 && strict ? UNTOUCHED : READ;
+    const enum use inputs = expected != 0 && expected != 5 && strict ? UNTOUCHED : READ;
     const enum use rest = idle && strict ? UNTOUCHED : WRITTEN;
     lent_lend(&memory, rest);
+    lent_lend(&sums, rest);
     lent_lend(&input_clocks, inputs);
     lent_lend(&input_codes, inputs);
     lent_lend(&output_clocks, rest);
@@ -263,7 +297,7 @@ static void lend_all(const given *g, int expected)
 
 static void return_all(void)
 {
-    lent *const all[] = {&memory, &input_clocks, &input_codes, &output_clocks, &output_words, &result_place};
+    lent *const all[] = {&memory, &sums, &input_clocks, &input_codes, &output_clocks, &output_words, &result_place};
     size_t i;
     for (i = 0; i < sizeof all / sizeof *all; i++)
         DEMAND(lent_return(all[i]), "guard bytes of %s changed", all[i]->name);
@@ -273,7 +307,7 @@ static void return_all(void)
 
 static void close_all(void)
 {
-    lent *const all[] = {&memory, &input_clocks, &input_codes, &output_clocks, &output_words, &result_place};
+    lent *const all[] = {&memory, &sums, &input_clocks, &input_codes, &output_clocks, &output_words, &result_place};
     size_t i;
     for (i = 0; i < sizeof all / sizeof *all; i++)
         lent_close(all[i]);
@@ -284,7 +318,17 @@ static r6501q_call_result call_lent(tally *t, const given *g, int single)
     r6501q_call_result *const place = (r6501q_call_result *)result_place.data;
     r6501q_call_result *back;
     before_call(t);
-    if (single)
+    if (single && g->with_sums)
+        back = lib.step_with_sums(place, g->state, pointer_of(&memory), g->memory_length, pointer_of(&sums),
+            g->sums_length, pointer_of(&input_clocks), g->input_clocks_length, pointer_of(&input_codes),
+            g->input_codes_length, pointer_of(&output_clocks), g->output_clocks_length, pointer_of(&output_words),
+            g->output_words_length, g->halt);
+    else if (g->with_sums)
+        back = lib.run_with_sums(place, g->state, pointer_of(&memory), g->memory_length, pointer_of(&sums),
+            g->sums_length, pointer_of(&input_clocks), g->input_clocks_length, pointer_of(&input_codes),
+            g->input_codes_length, pointer_of(&output_clocks), g->output_clocks_length, pointer_of(&output_words),
+            g->output_words_length, g->n, g->halt);
+    else if (single)
         back = lib.step(place, g->state, pointer_of(&memory), g->memory_length, pointer_of(&input_clocks),
             g->input_clocks_length, pointer_of(&input_codes), g->input_codes_length, pointer_of(&output_clocks),
             g->output_clocks_length, pointer_of(&output_words), g->output_words_length, g->halt);
@@ -297,13 +341,15 @@ static r6501q_call_result call_lent(tally *t, const given *g, int single)
     return *place;
 }
 
-/* Document 01: "1 to 5 give back the state given, everything unchanged", "with nothing read or counted". */
+/* Document 01: "1 to 5 give back the state given, everything unchanged", "with nothing read or counted". Document 02,
+ * U7: 13, "like 1". */
 static void judge_refused(const given *g, const r6501q_call_result *result)
 {
     DEMAND(same_state(&result->state, &g->state), "refused with %d, and the state is another", result->number);
     DEMAND(result->leaps == 0 && result->read == 0 && result->written == 0, "refused with %d, and counted",
         result->number);
     DEMAND(unchanged(&memory), "refused with %d, and memory changed", result->number);
+    DEMAND(unchanged(&sums), "refused with %d, and sums changed", result->number);
     DEMAND(unchanged(&output_clocks) && unchanged(&output_words), "refused with %d, and output space changed",
         result->number);
 }
@@ -490,14 +536,61 @@ static void judge_without_halt(tally *t, const given *g, const r6501q_call_resul
         "without the halt: other records");
 }
 
-/* The same clocks by calls of random lengths, from copies: all but the leaps must be the same. */
+/* Document 02, U7: each sum has changed, "right or wrong before, by exactly what its page's bytes change". */
+static void judge_sums(void)
+{
+    uint16_t expected[PAGES];
+    const uint16_t *const entries = (const uint16_t *)sums.data;
+    size_t page;
+    memcpy(expected, sums.before, sizeof expected);
+    change_sums(expected, memory.before, memory.data);
+    for (page = 0; page < PAGES; page++)
+        DEMAND(entries[page] == expected[page], "sum of page %zu: %u, not %u", page, entries[page], expected[page]);
+}
+
+/* "Unless 13 refuses it, a run with sums moves the machine just as a run lacking them": the same call lacking them,
+ * from copies. */
+static void judge_lacking(tally *t, const given *g, const r6501q_call_result *result, int single)
+{
+    static uint8_t copy[MEMORY];
+    static uint32_t output_clocks_copy[MOST_RECORDS], output_words_copy[MOST_RECORDS];
+    r6501q_call_result plain;
+    memcpy(copy, memory.before, MEMORY);
+    memcpy(output_clocks_copy, output_clocks.before, output_clocks.length);
+    memcpy(output_words_copy, output_words.before, output_words.length);
+    before_call(t);
+    if (single)
+        lib.step(&plain, g->state, copy, MEMORY, g->input_clocks, g->input_clocks_length, g->input_codes,
+            g->input_codes_length, output_clocks_copy, g->output_clocks_length, output_words_copy,
+            g->output_words_length, g->halt);
+    else
+        lib.run(&plain, g->state, copy, MEMORY, g->input_clocks, g->input_clocks_length, g->input_codes,
+            g->input_codes_length, output_clocks_copy, g->output_clocks_length, output_words_copy,
+            g->output_words_length, g->n, g->halt);
+    after_call();
+    DEMAND(plain.number == result->number, "lacking sums: number %d, not %d", plain.number, result->number);
+    DEMAND(same_state(&plain.state, &result->state), "lacking sums: another state");
+    DEMAND(plain.leaps == result->leaps, "lacking sums: %u leaps, not %u", plain.leaps, result->leaps);
+    DEMAND(plain.read == result->read && plain.written == result->written, "lacking sums: other counts");
+    DEMAND(memcmp(copy, memory.data, MEMORY) == 0, "lacking sums: another memory");
+    DEMAND(memcmp(output_clocks_copy, output_clocks.data, output_clocks.length) == 0
+            && memcmp(output_words_copy, output_words.data, output_words.length) == 0,
+        "lacking sums: other records");
+}
+
+/* The same clocks by calls of random lengths, from copies: all but the leaps must be the same. The parts of a call with
+ * sums may lack them; else their changes add up. */
 static void judge_cut(tally *t, const given *g, const r6501q_call_result *result)
 {
     static uint8_t copy[MEMORY];
     static uint32_t output_clocks_copy[MOST_RECORDS], output_words_copy[MOST_RECORDS];
+    uint16_t sums_copy[PAGES];
+    const int summed = g->with_sums && chance(70);
     r6501q_call_result part;
     uint32_t left = g->n;
     size_t read = 0, written = 0;
+    if (g->with_sums)
+        memcpy(sums_copy, sums.before, sizeof sums_copy);
     memcpy(copy, memory.before, MEMORY);
     memcpy(output_clocks_copy, output_clocks.before, output_clocks.length);
     memcpy(output_words_copy, output_words.before, output_words.length);
@@ -506,7 +599,17 @@ static void judge_cut(tally *t, const given *g, const r6501q_call_result *result
         const int single = left > 0 && chance(70);
         const uint32_t n = single ? 1 : (uint32_t)below((uint64_t)left + 1);
         before_call(t);
-        if (single)
+        if (single && summed)
+            lib.step_with_sums(&part, part.state, copy, MEMORY, sums_copy, PAGES, g->input_clocks + read,
+                g->input_clocks_length - read, g->input_codes + read, g->input_codes_length - read,
+                output_clocks_copy + written, g->output_clocks_length - written, output_words_copy + written,
+                g->output_words_length - written, g->halt);
+        else if (summed)
+            lib.run_with_sums(&part, part.state, copy, MEMORY, sums_copy, PAGES, g->input_clocks + read,
+                g->input_clocks_length - read, g->input_codes + read, g->input_codes_length - read,
+                output_clocks_copy + written, g->output_clocks_length - written, output_words_copy + written,
+                g->output_words_length - written, n, g->halt);
+        else if (single)
             lib.step(&part, part.state, copy, MEMORY, g->input_clocks + read, g->input_clocks_length - read,
                 g->input_codes + read, g->input_codes_length - read, output_clocks_copy + written,
                 g->output_clocks_length - written, output_words_copy + written, g->output_words_length - written,
@@ -530,6 +633,7 @@ static void judge_cut(tally *t, const given *g, const r6501q_call_result *result
         "cut into calls: other output clocks");
     DEMAND(
         memcmp(output_words_copy, output_words.data, output_words.length) == 0, "cut into calls: other output words");
+    DEMAND(!summed || memcmp(sums_copy, sums.data, sizeof sums_copy) == 0, "cut into calls: other sums");
 }
 
 static void judge_accepted(tally *t, const given *g, const r6501q_call_result *result, int single)
@@ -540,6 +644,8 @@ static void judge_accepted(tally *t, const given *g, const r6501q_call_result *r
     judge_waiting(g, result);
     judge_records(g, result);
     DEMAND(memcmp(memory.data, memory.before, 0x40) == 0, "memory below 40h changed");
+    if (g->with_sums)
+        judge_sums();
     DEMAND(!single || result->leaps == clock_done(result->number), "%u leaps in a single clock", result->leaps);
     if (result->number != 0)
         judge_stop(t, g, result);
@@ -547,6 +653,8 @@ static void judge_accepted(tally *t, const given *g, const r6501q_call_result *r
         DEMAND(memory.data[g->halt] == memory.before[g->halt], "the byte at the halt address changed without a halt");
     if (g->halt <= 0xFFFF && result->state.clock - g->state.clock <= 300 && g->n <= MOST_CLOCKS && chance(30))
         judge_without_halt(t, g, result);
+    if (g->with_sums && g->n <= 300 && chance(30))
+        judge_lacking(t, g, result, single);
     if (g->n <= 300 && chance(10))
         judge_cut(t, g, result);
     kept_state = result->state;
@@ -561,7 +669,7 @@ static r6501q_call_result judge_call(tally *t, const given *g, int single)
     lend_all(g, expected);
     result = call_lent(t, g, single);
     return_all();
-    DEMAND(result.number <= 12, "number %d", result.number);
+    DEMAND(result.number <= 13, "number %d", result.number);
     t->numbers[result.number]++;
     if (expected != 0) {
         DEMAND(result.number == expected, "number %d, not %d", result.number, expected);
@@ -586,6 +694,8 @@ static given given_lists(r6501q_state state, uint32_t n)
     g.output_words_length = output_words.length / 4;
     g.n = n;
     g.halt = random_halt(&state);
+    g.with_sums = with_sums;
+    g.sums_length = sums.length / 2;
     return g;
 }
 
@@ -595,6 +705,7 @@ void judge_run(tally *t)
     const r6501q_state state = random_state();
     given g;
     open_memory();
+    open_sums();
     open_inputs(state.clock);
     open_outputs();
     g = given_lists(state, single ? 1 : random_count());
@@ -629,9 +740,15 @@ void judge_overlong(tally *t)
     g.n = n;
     g.halt = random_halt(&state);
     g.memory_length = MEMORY;
-    switch (below(6)) {
+    g.with_sums = chance(40);
+    g.sums_length = PAGES;
+    switch (below(7)) {
     case 0:
         g.memory_length = beyond + MEMORY;
+        break;
+    case 6:
+        g.with_sums = 1;
+        g.sums_length = beyond + PAGES;
         break;
     case 1:
         g.input_clocks_length = beyond + k;
@@ -656,8 +773,13 @@ void judge_overlong(tally *t)
     }
     g.state = state;
     before_call(t);
-    lib.run(&result, state, here, g.memory_length, list, g.input_clocks_length, here, g.input_codes_length, list,
-        g.output_clocks_length, list, g.output_words_length, g.n, g.halt);
+    if (g.with_sums)
+        lib.run_with_sums(&result, state, here, g.memory_length, (uint16_t *)(void *)here, g.sums_length, list,
+            g.input_clocks_length, here, g.input_codes_length, list, g.output_clocks_length, list,
+            g.output_words_length, g.n, g.halt);
+    else
+        lib.run(&result, state, here, g.memory_length, list, g.input_clocks_length, here, g.input_codes_length, list,
+            g.output_clocks_length, list, g.output_words_length, g.n, g.halt);
     after_call();
     DEMAND(result.number == refusal(&g), "overlong: number %d, not %d", result.number, refusal(&g));
     DEMAND(same_state(&result.state, &state), "overlong: another state");
@@ -671,6 +793,9 @@ static given open_long(r6501q_state state, size_t records)
     const uint32_t most = UINT32_MAX - state.clock;
     const uint32_t less = (uint32_t)below(3);
     lent_open(&memory, MEMORY, chance(50));
+    with_sums = chance(50);
+    lent_open(&sums, with_sums ? 2 * PAGES : 0, 1);
+    random_bytes(sums.data, sums.length);
     lent_open(&input_clocks, 0, 1);
     lent_open(&input_codes, 0, 1);
     lent_open(&output_clocks, 4 * records, 1);
@@ -728,27 +853,44 @@ void judge_early_stop(tally *t)
     close_all();
 }
 
-/* Lends the open tape and memory, calls, and judges: number, place and the whole memory. */
+/* Lends the open tape, memory and sums, calls, and judges: number, place, the whole memory and the sums. */
 static void judge_tape(tally *t)
 {
     static uint8_t expected_memory[MOST_MEMORY];
     r6501q_load_result expected, loaded;
+    enum use rest;
     memcpy(expected_memory, memory.data, memory.length);
-    expected = loaded_from(tape.data, tape.length, expected_memory, memory.length);
-    lent_lend(&tape, expected.number == 1 ? UNTOUCHED : READ);
-    lent_lend(&memory, expected.number != 0 && chance(50) ? UNTOUCHED : WRITTEN);
+    if (with_sums && memory.length == MEMORY && sums.length != 2 * PAGES) {
+        expected.number = 13;
+        expected.place = 0;
+    } else {
+        expected = loaded_from(tape.data, tape.length, expected_memory, memory.length);
+    }
+    lent_lend(&tape, expected.number == 1 || expected.number == 13 ? UNTOUCHED : READ);
+    rest = expected.number != 0 && chance(50) ? UNTOUCHED : WRITTEN;
+    lent_lend(&memory, rest);
+    lent_lend(&sums, rest);
     before_call(t);
-    loaded = lib.load(pointer_of(&tape), tape.length, pointer_of(&memory), memory.length);
+    if (with_sums)
+        loaded = lib.load_with_sums(pointer_of(&tape), tape.length, pointer_of(&memory), memory.length,
+            pointer_of(&sums), sums.length / 2);
+    else
+        loaded = lib.load(pointer_of(&tape), tape.length, pointer_of(&memory), memory.length);
     after_call();
-    DEMAND(lent_return(&tape) && lent_return(&memory), "guard bytes changed by a load");
+    DEMAND(lent_return(&tape) && lent_return(&memory) && lent_return(&sums), "guard bytes changed by a load");
     DEMAND(loaded.number == expected.number, "tape: number %d, not %d", loaded.number, expected.number);
     DEMAND(loaded.place == expected.place, "tape: place %zu, not %zu", loaded.place, expected.place);
     DEMAND(unchanged(&tape), "the tape changed");
     DEMAND(memcmp(memory.data, expected_memory, memory.length) == 0, "tape: another memory after number %d",
         loaded.number);
+    if (with_sums && loaded.number == 0)
+        judge_sums();
+    else
+        DEMAND(unchanged(&sums), "tape: other sums after number %d", loaded.number);
     t->numbers[loaded.number]++;
     lent_close(&tape);
     lent_close(&memory);
+    lent_close(&sums);
 }
 
 void judge_load(tally *t)
@@ -756,6 +898,7 @@ void judge_load(tally *t)
     static uint8_t text[MOST_TAPE];
     const size_t length = make_tape(text, sizeof text);
     open_memory();
+    open_sums();
     lent_open(&tape, length, chance(70));
     memcpy(tape.data, text, length);
     judge_tape(t);
@@ -767,9 +910,46 @@ void judge_load_of(tally *t, size_t records)
     const size_t length = tape_of(text, records);
     lent_open(&memory, MEMORY, 1);
     make_memory(memory.data, MEMORY);
+    open_sums();
     lent_open(&tape, length, 1);
     memcpy(tape.data, text, length);
     judge_tape(t);
+}
+
+/* An entry of a page list, high ones more often. */
+static uint16_t random_sum(void)
+{
+    return (uint16_t)(chance(30) ? 0 : chance(30) ? 65535 - below(3) : random_word());
+}
+
+void judge_total(tally *t)
+{
+    static const size_t wrong[] = {0, 1, 128, 255, 257, 512};
+    const size_t alone = below(PAGES);
+    uint16_t *entries;
+    r6501q_total_result expected, result;
+    size_t length = PAGES, i;
+    if (chance(30))
+        length = chance(50) ? below(MOST_SUMS) : wrong[below(sizeof wrong / sizeof *wrong)];
+    lent_open(&sums, 2 * length, chance(50));
+    entries = (uint16_t *)sums.data;
+    if (chance(50))
+        for (i = 0; i < length; i++)
+            entries[i] = random_sum();
+    else /* one page alone has a sum */
+        for (i = 0; i < length; i++)
+            entries[i] = i == alone ? random_sum() : 0;
+    expected = total_of(entries, length);
+    lent_lend(&sums, expected.number == 0 ? READ : UNTOUCHED);
+    before_call(t);
+    result = lib.total(pointer_of(&sums), length);
+    after_call();
+    DEMAND(lent_return(&sums), "guard bytes of sums changed");
+    DEMAND(unchanged(&sums), "sums changed by their total");
+    DEMAND(result.number == expected.number, "total: number %d, not %d", result.number, expected.number);
+    DEMAND(result.total == expected.total, "total: %u, not %u", result.total, expected.total);
+    t->numbers[result.number]++;
+    lent_close(&sums);
 }
 
 void judge_well_formed(tally *t)

@@ -7,13 +7,13 @@
 /* How many calls were made, and how often each number came back. */
 typedef struct tally {
     unsigned long calls;
-    unsigned long numbers[13];
+    unsigned long numbers[14];
 } tally;
 
 /* Makes the lists ready. A call that is not back after so many seconds is a fault. */
 void judge_begin(library calls, uint64_t seed, unsigned seconds);
 
-/* A run or a step on random state, memory, lists and count. */
+/* A run or a step on random state, memory, lists and count, with page sums or lacking them. */
 void judge_run(tally *t);
 
 /* A run or a step with lengths above 4,294,967,295 that a refusal rules out. */
@@ -25,11 +25,14 @@ void judge_long(tally *t);
 /* A run of very many clocks that an undefined opcode stops soon, or before it a full list or a halt. */
 void judge_early_stop(tally *t);
 
-/* A load of a random tape. */
+/* A load of a random tape, with page sums or lacking them. */
 void judge_load(tally *t);
 
 /* A load of a tape with so many records. */
 void judge_load_of(tally *t, size_t records);
+
+/* The total of a page list of any length. */
+void judge_total(tally *t);
 
 /* A state asked whether it is well-formed. */
 void judge_well_formed(tally *t);

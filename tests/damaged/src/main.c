@@ -1,6 +1,6 @@
 /* Damaged and random inputs to every call of the library. usage: damaged seed runs tapes states long-runs
- * [wrong-library] All are decimal numbers; runs, tapes, states and wrong-library from 1 up. Prints a line for each
- * part. A fault is printed and ends the program with 1. */
+ * [wrong-library] All are decimal numbers; runs, tapes, states and wrong-library from 1 up; there are as many totals as
+ * tapes. Prints a line for each part. A fault is printed and ends the program with 1. */
 #include "judge.h"
 #include "rules.h"
 
@@ -32,7 +32,7 @@ static void print_tally(const char *part, const tally *t)
 {
     int number;
     printf("%s: %lu calls;", part, t->calls);
-    for (number = 0; number <= 12; number++)
+    for (number = 0; number <= 13; number++)
         if (t->numbers[number] > 0)
             printf(" %d: %lu", number, t->numbers[number]);
     printf("\n");
@@ -60,7 +60,7 @@ static void runs(unsigned long count)
     }
     print_tally("runs and steps", &t);
     demand_met("runs and steps", &t, 0, 7);
-    demand_met("runs and steps", &t, 12, 12);
+    demand_met("runs and steps", &t, 12, 13);
 }
 
 static void tapes(unsigned long count)
@@ -76,6 +76,18 @@ static void tapes(unsigned long count)
     print_tally("tapes", &t);
     demand_met("tapes", &t, 0, 1);
     demand_met("tapes", &t, 8, 10);
+    demand_met("tapes", &t, 13, 13);
+}
+
+static void totals(unsigned long count)
+{
+    tally t = {0, {0}};
+    unsigned long i;
+    for (i = 0; i < count; i++)
+        judge_total(&t);
+    print_tally("totals", &t);
+    demand_met("totals", &t, 0, 0);
+    demand_met("totals", &t, 13, 13);
 }
 
 static void states(unsigned long count)
@@ -126,6 +138,7 @@ int main(int arguments, char **argument)
     judge_begin(calls, seed, wrong > 0 ? 3 : 300);
     runs(count_of_runs);
     tapes(count_of_tapes);
+    totals(count_of_tapes);
     states(count_of_states);
     if (count_of_long_runs > 0)
         long_runs(count_of_long_runs);

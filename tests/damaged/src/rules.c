@@ -114,6 +114,8 @@ int refusal(const given *g)
 {
     if (g->memory_length != 65536)
         return 1;
+    if (g->with_sums && g->sums_length != 256)
+        return 13;
     if (!well_formed(&g->state))
         return 2;
     if (g->input_clocks_length != g->input_codes_length || g->output_clocks_length != g->output_words_length)
@@ -123,6 +125,45 @@ int refusal(const given *g)
     if (!pins_right(g))
         return 5;
     return 0;
+}
+
+static long page_sum(const uint8_t *memory, size_t page)
+{
+    long sum = 0;
+    size_t i;
+    for (i = 0; i < 256; i++)
+        sum += memory[256 * page + i];
+    return sum;
+}
+
+void change_sums(uint16_t *sums, const uint8_t *memory_before, const uint8_t *memory)
+{
+    size_t page;
+    for (page = 0; page < 256; page++) {
+        const long changed = sums[page] + page_sum(memory, page) - page_sum(memory_before, page);
+        sums[page] = (uint16_t)((changed + 65536) % 65536);
+    }
+}
+
+void right_sums(uint16_t *sums, const uint8_t *memory)
+{
+    size_t page;
+    for (page = 0; page < 256; page++)
+        sums[page] = (uint16_t)page_sum(memory, page);
+}
+
+r6501q_total_result total_of(const uint16_t *sums, size_t sums_length)
+{
+    r6501q_total_result result = {13, 0};
+    unsigned long total = 0;
+    size_t i;
+    if (sums_length != 256)
+        return result;
+    for (i = 0; i < 256; i++)
+        total += sums[i];
+    result.number = 0;
+    result.total = (uint16_t)(total % 65536);
+    return result;
 }
 
 size_t entries_up_to(const given *g, uint32_t clock)

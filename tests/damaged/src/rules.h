@@ -17,6 +17,8 @@ typedef struct given {
     size_t output_words_length;
     uint32_t n;
     uint32_t halt; /* above 65,535: none */
+    int with_sums; /* whether the call is one with page sums */
+    size_t sums_length;
 } given;
 
 /* Document 01, "Machine state": every field within its range; document 02, U6: "A byte waiting with wait 0 isn't
@@ -26,8 +28,19 @@ int well_formed(const r6501q_state *s);
 /* The same in every field. Bytes between fields do not count. */
 int same_state(const r6501q_state *s, const r6501q_state *t);
 
-/* Document 01, "What is handed back", 1 to 5; 0 where none holds. */
+/* Document 01, "What is handed back", 1 to 5; document 02, U7: 13, "like 1 and directly after it". 0 where none holds.
+ */
 int refusal(const given *g);
+
+/* Document 02, U7: each sum "by exactly what its page's bytes change, modulo 65,536". The sums of 256 pages change as
+ * these 65,536 bytes do. */
+void change_sums(uint16_t *sums, const uint8_t *memory_before, const uint8_t *memory);
+
+/* The right sums of 65,536 bytes. */
+void right_sums(uint16_t *sums, const uint8_t *memory);
+
+/* The total of page sums; 13 where they are not 256. */
+r6501q_total_result total_of(const uint16_t *sums, size_t sums_length);
 
 /* The input entries whose clock is at most this one. */
 size_t entries_up_to(const given *g, uint32_t clock);
