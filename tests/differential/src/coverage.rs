@@ -251,7 +251,9 @@ kinds! {
     SumsTooMany: "sums: refused with 13, 257 sums",
     SumsState: "sums: refused with 13, the state not well-formed",
     SumsFlag: "sums: refused with 13, a flag above 1 or a none waiting that is another",
-    SumsLists: "sums: refused with 13, where 3, 4 or 5 would be",
+    SumsLists: "sums: refused with 13, where 3 would be",
+    SumsClock: "sums: refused with 13, where 4 would be",
+    SumsPins: "sums: refused with 13, where 5 would be",
     SumsAfter13: "sums: call not refused, after one refused with 13 in its list",
     SumsTotal: "sums: total of right sums, in two orders",
 }

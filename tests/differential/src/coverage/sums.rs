@@ -125,7 +125,9 @@ impl Coverage {
             u64::from(call.clocks()),
         );
         self.met_if(number == 2, Kind::SumsState);
-        self.met_if(number > 2, Kind::SumsLists);
+        self.met_if(number == 3, Kind::SumsLists);
+        self.met_if(number == 4, Kind::SumsClock);
+        self.met_if(number == 5, Kind::SumsPins);
     }
 
     /// Not refused, with 256 sums.
