@@ -1,27 +1,33 @@
--- Document 02, U7: lists of calls with page sums.
+-- Document 02, U7: calls with page sums, and lists of them.
 use mathlib.Core.Path.{_≡_, refl, sym, ap, _∙_}
 use mathlib.Core.Bool.{Bool, true, false, cond}
 use mathlib.Core.List.{List, [], _∷_, map}
-use Prim.Native.Nat.{ℕ}
-use lib.ListN.{length}
-use borrow.Author.Tests.{eqb-true}
+use Prim.Native.Nat.{ℕ, _+_, _%_, _<_}
+use native.Mathlib.Omega.{arith}
+use lib.ListN.{length, getD}
+use borrow.Author.Tests.{ne-eqb}
 use Rattle.memory.specs.Memory.{memorySpan}
-use Rattle.page_sums.specs.PageSums.{pageCount, sumsAfter, pageListRefused}
-use Rattle.page_sums.proofs.Sums.{Words, sums-kept, sums-twice, sums-length, sums-words}
+use Rattle.page_sums.specs.PageSums.{pageCount, sumSpan, sumAt, pageSum, sumsAfter, SixteenBits, Right, pageListRefused}
+use Rattle.page_sums.proofs.Sums.{sums-kept, sums-twice, sums-length, sixteen-after, exactly-changed, right-after}
 use Rattle.page_sums.proofs.Refused.{memory-wrong, list-wrong, list-right}
+use Rattle.refusals.specs.Refusals.{refusalOf}
 use Rattle.leaps.specs.Leaps.{plains}
 use Rattle.leaps.specs.Chip.{Chip}
 use Rattle.leaps.specs.World.{WorldOf, runningIn, systemOf}
-use Rattle.leaps.specs.Lists.{Call, callOf, listed, calls, clocksAccepted, resultsBy}
-use Rattle.leaps.specs.Calls.{HandedOf, refusedWith, refusedHanded, stopOf, lentOf, afterCallOf, machineOf, Room}
+use Rattle.leaps.specs.Lists.{Call, singleClock, runFor, countOf, stepOf, runOf, callOf, Listed, listed, calls, clocksAccepted, resultsBy}
+use Rattle.leaps.specs.Calls.{ResultOf, HandedOf, refusedWith, refusedHanded, refusedCall, stopOf, lentOf, afterCallOf, refusalIn, machineOf, Room}
 use Rattle.leaps.specs.Summed.{withSums, listedSums, callsWithSums}
 use Rattle.leaps.proofs.Chips.{ChipLaws}
 use Rattle.leaps.proofs.Calls.{fair, refused-hands-on}
 
--- 13 is a refusal, no stop
+-- 13 is a refusal, no stop; so is 1
 thirteen-no-stop : stopOf 13 ≡ 0
 unfolding stopOf
 thirteen-no-stop = refl
+
+one-no-stop : stopOf 1 ≡ 0
+unfolding stopOf
+one-no-stop = refl
 
 -- ---- one call
 
@@ -38,92 +44,168 @@ module _ {S : Type 0} (sums : List ℕ) (call : WorldOf S → HandedOf S) (w : W
   pub memory-first : (length (w .memory) ≡ memorySpan → ⊥) → withSums sums call w ≡ call w
   memory-first m = list-accepted (memory-wrong (length (w .memory)) (length sums) m)
 
+  -- and before all else
   pub list-next : length (w .memory) ≡ memorySpan → (length sums ≡ pageCount → ⊥) → withSums sums call w ≡ refusedHanded 13 w
   list-next m n = list-refused (list-wrong (length (w .memory)) (length sums) m n)
 
   -- "Unless 13 refuses it, a run with sums moves the machine just as a run lacking them."
-  pub moves-alike : length sums ≡ pageCount → withSums sums call w ≡ call w
-  moves-alike n = list-accepted (list-right (length (w .memory)) (length sums) n)
+  pub call-alike : length sums ≡ pageCount → withSums sums call w ≡ call w
+  call-alike n = list-accepted (list-right (length (w .memory)) (length sums) n)
 
--- ---- a list of calls
+  -- a refused call leaves memory, and so the sums, as they were: by 13, or by the call lacking sums
+  pub refused-unsummed : SixteenBits sums → (number : ℕ) → withSums sums call w ≡ refusedHanded number w
+      → sumsAfter sums (w .memory) (withSums sums call w .memory) ≡ sums
+  refused-unsummed words number e = rw e (sym (sums-kept 0 sums (w .memory) words))
 
-module _ {S : Type 0} (C : Chip S) where
+-- ---- a list of calls; `lacking` is the list of those lacking sums
+
+module _ {S : Type 0} (call : Call → WorldOf S → HandedOf S) where
   module _ (c : Call) (cs : List Call) (sums : List ℕ) (w : WorldOf S) where
-    ended : runningIn w ≡ false → callsWithSums C (c ∷ cs) sums w ≡ listedSums (record { world = w; results = [] }) sums
+    ended : runningIn w ≡ false → callsWithSums call (c ∷ cs) sums w ≡ listedSums (record { world = w; results = [] }) sums
     unfolding callsWithSums
     ended e = rw (e, callsWithSums)
 
-    calls-ended : runningIn w ≡ false → calls (machineOf C) (c ∷ cs) w ≡ record { world = w; results = [] }
-    unfolding calls
-    calls-ended e = rw (e, calls)
-
-    going : runningIn w ≡ true → (h : HandedOf S) → withSums sums (callOf (machineOf C) c) (lentOf w) ≡ h
-        → callsWithSums C (c ∷ cs) sums w
-        ≡ (let later = callsWithSums C cs (sumsAfter sums (w .memory) (h .memory)) (afterCallOf w h) in
-        listedSums (listed (h .result) (later .listed)) (later .sums))
+    going : runningIn w ≡ true → (h : HandedOf S) → withSums sums (call c) (lentOf w) ≡ h
+        → callsWithSums call (c ∷ cs) sums w
+        ≡ (let later = callsWithSums call cs (sumsAfter sums (w .memory) (h .memory)) (afterCallOf w h) in
+        listedSums (listed (h .result) (later .list)) (later .sums))
     unfolding callsWithSums
     going e h same = rw (e, callsWithSums) (rw same)
 
-    calls-going : runningIn w ≡ true → (h : HandedOf S) → callOf (machineOf C) c (lentOf w) ≡ h
-        → calls (machineOf C) (c ∷ cs) w ≡ listed (h .result) (calls (machineOf C) cs (afterCallOf w h))
-    unfolding calls
-    calls-going e h same = rw (e, calls) (rw same)
-
   -- with 256 sums the calls are those lacking sums, and the sums have changed as memory has
-  pub list-with-sums : (cs : List Call) (sums : List ℕ) (w : WorldOf S) → length sums ≡ pageCount → Words sums
-      → callsWithSums C cs sums w
-      ≡ listedSums (calls (machineOf C) cs w) (sumsAfter sums (w .memory) (calls (machineOf C) cs w .world .memory))
-  unfolding callsWithSums calls afterCallOf
-  list-with-sums [] sums w n words = ap (listedSums (record { world = w; results = [] })) (sums-kept 0 sums (w .memory) words)
-  list-with-sums (c ∷ cs) sums w n words =
-      let h = callOf (machineOf C) c (lentOf w) in
-      by-running (runningIn w) refl
-      (list-with-sums cs (sumsAfter sums (w .memory) (h .memory)) (afterCallOf w h)
-      (sums-length 0 sums (w .memory) (h .memory) ∙ n) (sums-words 0 sums (w .memory) (h .memory)))
-    where
-      h : HandedOf S
-      h = callOf (machineOf C) c (lentOf w)
+  module _ (lacking : List Call → WorldOf S → Listed (WorldOf S) (ResultOf S))
+      (none : (w : WorldOf S) → lacking [] w ≡ record { world = w; results = [] })
+      (over : (c : Call) (cs : List Call) (w : WorldOf S) → runningIn w ≡ false → lacking (c ∷ cs) w ≡ record { world = w; results = [] })
+      (next : (c : Call) (cs : List Call) (w : WorldOf S) → runningIn w ≡ true
+      → lacking (c ∷ cs) w ≡ listed (call c (lentOf w) .result) (lacking cs (afterCallOf w (call c (lentOf w))))) where
+    pub list-with-sums : (cs : List Call) (sums : List ℕ) (w : WorldOf S) → length sums ≡ pageCount → SixteenBits sums
+        → callsWithSums call cs sums w ≡ listedSums (lacking cs w) (sumsAfter sums (w .memory) (lacking cs w .world .memory))
+    unfolding callsWithSums afterCallOf
+    list-with-sums [] sums w n words = rw (none w) (ap (listedSums (record { world = w; results = [] })) (sums-kept 0 sums (w .memory) words))
+    list-with-sums (c ∷ cs) sums w n words =
+        let h = call c (lentOf w) in
+        by-running (runningIn w) refl
+        (list-with-sums cs (sumsAfter sums (w .memory) (h .memory)) (afterCallOf w h)
+        (sums-length 0 sums (w .memory) (h .memory) ∙ n) (sixteen-after 0 sums (w .memory) (h .memory)))
+      where
+        h : HandedOf S
+        h = call c (lentOf w)
 
-      last : WorldOf S
-      last = calls (machineOf C) cs (afterCallOf w h) .world
+        last : WorldOf S
+        last = lacking cs (afterCallOf w h) .world
 
-      between : List ℕ
-      between = sumsAfter sums (w .memory) (h .memory)
+        between : List ℕ
+        between = sumsAfter sums (w .memory) (h .memory)
 
-      by-running : (t : Bool) → runningIn w ≡ t
-          → callsWithSums C cs between (afterCallOf w h)
-          ≡ listedSums (calls (machineOf C) cs (afterCallOf w h)) (sumsAfter between (h .memory) (last .memory))
-          → callsWithSums C (c ∷ cs) sums w
-          ≡ listedSums (calls (machineOf C) (c ∷ cs) w) (sumsAfter sums (w .memory) (calls (machineOf C) (c ∷ cs) w .world .memory))
-      by-running false e later =
-          rw (ended c cs sums w e, calls-ended c cs sums w e)
-          (ap (listedSums (record { world = w; results = [] })) (sums-kept 0 sums (w .memory) words))
-      by-running true e later =
-          rw (
-            going c cs sums w e h (moves-alike sums (callOf (machineOf C) c) (lentOf w) n),
-            calls-going c cs sums w e h refl,
-            later,
-            sums-twice 0 sums (w .memory) (h .memory) (last .memory),
-          )
+        by-running : (t : Bool) → runningIn w ≡ t
+            → callsWithSums call cs between (afterCallOf w h)
+            ≡ listedSums (lacking cs (afterCallOf w h)) (sumsAfter between (h .memory) (last .memory))
+            → callsWithSums call (c ∷ cs) sums w
+            ≡ listedSums (lacking (c ∷ cs) w) (sumsAfter sums (w .memory) (lacking (c ∷ cs) w .world .memory))
+        by-running false e later =
+            rw (ended c cs sums w e, over c cs w e)
+            (ap (listedSums (record { world = w; results = [] })) (sums-kept 0 sums (w .memory) words))
+        by-running true e later =
+            rw (
+              going c cs sums w e h (call-alike sums (call c) (lentOf w) n),
+              next c cs w e,
+              later,
+              sums-twice 0 sums (w .memory) (h .memory) (last .memory),
+            )
 
-  -- with another number of sums, and a memory of 65,536 bytes, each is refused by 13 and hands on
-  pub calls-refused : (cs : List Call) (sums : List ℕ) (w : WorldOf S) → length (w .memory) ≡ memorySpan
-      → (length sums ≡ pageCount → ⊥) → Words sums → w .stop ≡ 0
-      → callsWithSums C cs sums w ≡ listedSums (record { world = w; results = map (λ (c : Call). refusedWith 13 (w .state)) cs }) sums
+    -- so each sum changes, right or wrong before, by exactly what its page's bytes change over the list
+    pub list-exactly : (cs : List Call) (sums : List ℕ) (w : WorldOf S) → length sums ≡ pageCount → SixteenBits sums
+        → (p : ℕ) → p < pageCount → let end = callsWithSums call cs sums w in
+        (sumAt (end .sums) p < sumSpan)
+        × ((sumAt (end .sums) p + pageSum p (w .memory)) % sumSpan ≡ (sumAt sums p + pageSum p (end .list .world .memory)) % sumSpan)
+    list-exactly cs sums w n words p h =
+        rw (list-with-sums cs sums w n words)
+        (exactly-changed sums (w .memory) (lacking cs w .world .memory) p (omega (arith, n)))
+
+    -- and right sums are right at its end
+    pub list-right-after : (cs : List Call) (sums : List ℕ) (w : WorldOf S) → length sums ≡ pageCount → SixteenBits sums
+        → Right sums (w .memory) → let end = callsWithSums call cs sums w in Right (end .sums) (end .list .world .memory)
+    list-right-after cs sums w n words right =
+        rw (list-with-sums cs sums w n words) (right-after sums (w .memory) (lacking cs w .world .memory) right)
+
+  -- where each call is refused with the same number, which is no stop, each hands on
+  calls-refused-by : (number : ℕ) → stopOf number ≡ 0 → (cs : List Call) (sums : List ℕ) (w : WorldOf S)
+      → ((c : Call) → withSums sums (call c) (lentOf w) ≡ refusedHanded number (lentOf w)) → SixteenBits sums → w .stop ≡ 0
+      → callsWithSums call cs sums w
+      ≡ listedSums (record { world = w; results = map (λ (c : Call). refusedWith number (w .state)) cs }) sums
   unfolding callsWithSums
-  calls-refused [] sums w m n words on = refl
-  calls-refused (c ∷ cs) sums w m n words on =
+  calls-refused-by number none [] sums w refused words on = refl
+  calls-refused-by number none (c ∷ cs) sums w refused words on =
       rw (
-        going c cs sums w (rw on refl) (refusedHanded 13 (lentOf w)) (list-next sums (callOf (machineOf C) c) (lentOf w) m n),
-        refused-hands-on 13 w thirteen-no-stop on,
+        going c cs sums w (rw on refl) (refusedHanded number (lentOf w)) (refused c),
+        refused-hands-on number w none on,
         sym (sums-kept 0 sums (w .memory) words),
-        calls-refused cs sums w m n words on,
+        calls-refused-by number none cs sums w refused words on,
       )
 
--- DEMAND 3 of a list of calls with 256 sums: what plain clocks say, and the sums changed by exactly what the pages' bytes
--- change over them.
-pub fair-with-sums : {S : Type 0} (C : Chip S) → ChipLaws C → (cs : List Call) (sums : List ℕ) (w : WorldOf S) → Room w
-    → length sums ≡ pageCount → Words sums
-    → callsWithSums C cs sums w ≡ (let end = plains (systemOf C) (clocksAccepted (machineOf C) cs w) w in
-    listedSums (record { world = end; results = resultsBy (machineOf C) cs w }) (sumsAfter sums (w .memory) (end .memory)))
-fair-with-sums C L cs sums w room n words = list-with-sums C cs sums w n words ∙ rw (fair C L cs w room) refl
+  -- with another number of sums, and a memory of 65,536 bytes, that is 13
+  pub calls-refused : (cs : List Call) (sums : List ℕ) (w : WorldOf S) → length (w .memory) ≡ memorySpan
+      → (length sums ≡ pageCount → ⊥) → SixteenBits sums → w .stop ≡ 0
+      → callsWithSums call cs sums w ≡ listedSums (record { world = w; results = map (λ (c : Call). refusedWith 13 (w .state)) cs }) sums
+  calls-refused cs sums w m n words on =
+      calls-refused-by 13 thirteen-no-stop cs sums w (λ c. list-next sums (call c) (lentOf w) m n) words on
+
+-- ---- of a chip
+
+module _ {S : Type 0} (C : Chip S) where
+  abbrev lackingOf : List Call → WorldOf S → Listed (WorldOf S) (ResultOf S)
+  lackingOf = calls (machineOf C)
+
+  calls-none : (w : WorldOf S) → lackingOf [] w ≡ record { world = w; results = [] }
+  unfolding calls
+  calls-none w = refl
+
+  calls-over : (c : Call) (cs : List Call) (w : WorldOf S) → runningIn w ≡ false → lackingOf (c ∷ cs) w ≡ record { world = w; results = [] }
+  unfolding calls
+  calls-over c cs w e = rw (e, calls)
+
+  calls-next : (c : Call) (cs : List Call) (w : WorldOf S) → runningIn w ≡ true
+      → lackingOf (c ∷ cs) w
+      ≡ listed (callOf (machineOf C) c (lentOf w) .result) (lackingOf cs (afterCallOf w (callOf (machineOf C) c (lentOf w))))
+  unfolding calls
+  calls-next c cs w e = rw (e, calls)
+
+  module _ (cs : List Call) (sums : List ℕ) (w : WorldOf S) where
+    pub calls-alike : length sums ≡ pageCount → SixteenBits sums
+        → callsWithSums (callOf (machineOf C)) cs sums w
+        ≡ listedSums (calls (machineOf C) cs w) (sumsAfter sums (w .memory) (calls (machineOf C) cs w .world .memory))
+    calls-alike n words = list-with-sums (callOf (machineOf C)) lackingOf calls-none calls-over calls-next cs sums w n words
+
+    pub calls-exactly : length sums ≡ pageCount → SixteenBits sums
+        → (p : ℕ) → p < pageCount → let end = callsWithSums (callOf (machineOf C)) cs sums w in
+        (sumAt (end .sums) p < sumSpan)
+        × ((sumAt (end .sums) p + pageSum p (w .memory)) % sumSpan ≡ (sumAt sums p + pageSum p (end .list .world .memory)) % sumSpan)
+    calls-exactly n words p h = list-exactly (callOf (machineOf C)) lackingOf calls-none calls-over calls-next cs sums w n words p h
+
+    pub calls-right-after : length sums ≡ pageCount → SixteenBits sums → Right sums (w .memory)
+        → let end = callsWithSums (callOf (machineOf C)) cs sums w in Right (end .sums) (end .list .world .memory)
+    calls-right-after n words right = list-right-after (callOf (machineOf C)) lackingOf calls-none calls-over calls-next cs sums w n words right
+
+  -- DEMAND 3 of a list of calls with 256 sums: what plain clocks say, and the sums changed by exactly what the pages'
+  -- bytes change over them
+  pub fair-with-sums : ChipLaws C → (cs : List Call) (sums : List ℕ) (w : WorldOf S) → Room w
+      → length sums ≡ pageCount → SixteenBits sums
+      → callsWithSums (callOf (machineOf C)) cs sums w
+      ≡ (let end = plains (systemOf C) (clocksAccepted (machineOf C) cs w) w in
+      listedSums (record { world = end; results = resultsBy (machineOf C) cs w }) (sumsAfter sums (w .memory) (end .memory)))
+  fair-with-sums L cs sums w room n words = calls-alike cs sums w n words ∙ rw (fair C L cs w room) refl
+
+  -- a memory of another length is 1, whatever the page list
+  memory-refused : C .limits .memory ≡ memorySpan → (c : Call) (w : WorldOf S) → (length (w .memory) ≡ memorySpan → ⊥)
+      → callOf (machineOf C) c w ≡ refusedHanded 1 w
+  unfolding callOf stepOf runOf refusalOf
+  memory-refused e singleClock w m = rw (e, ne-eqb (length (w .memory)) memorySpan m)
+  memory-refused e (runFor n) w m = rw (e, ne-eqb (length (w .memory)) memorySpan m)
+
+  pub memory-hands-on : C .limits .memory ≡ memorySpan → (cs : List Call) (sums : List ℕ) (w : WorldOf S)
+      → (length (w .memory) ≡ memorySpan → ⊥) → SixteenBits sums → w .stop ≡ 0
+      → callsWithSums (callOf (machineOf C)) cs sums w
+      ≡ listedSums (record { world = w; results = map (λ (c : Call). refusedWith 1 (w .state)) cs }) sums
+  memory-hands-on e cs sums w m words on =
+      calls-refused-by (callOf (machineOf C)) 1 one-no-stop cs sums w
+      (λ c. memory-first sums (callOf (machineOf C) c) (lentOf w) m ∙ memory-refused e c (lentOf w) m) words on

@@ -10,7 +10,7 @@ use lib.Dec.{eqb, ltb}
 use lib.ListN.{length, getD, set, replicate, length-set, length-replicate, getD-replicate, List·getD-eq-default}
 use lib.Seq.{ext-getD, getD-set-same, getD-set-other}
 use Rattle.bits.proofs.Tables.{getD-tabulate, length-tabulate}
-use Rattle.page_sums.specs.PageSums.{sumSpan, pageOf, partSum, pageSum, sumChanged, sumAt, sumAfter, sumsAfterPart, sumsAfter, Right}
+use Rattle.page_sums.specs.PageSums.{sumSpan, pageOf, partSum, pageSum, sumChanged, sumAt, sumAfter, sumsAfterPart, sumsAfter, Right, SixteenBits}
 
 -- ---- one sum
 
@@ -93,10 +93,6 @@ module _ (p : ℕ) where
 
 -- ---- the sums
 
--- each is of 16 bits
-abbrev pub Words : List ℕ → Type 0
-Words sums = (p : ℕ) → sumAt sums p < sumSpan
-
 module _ (address : ℕ) (sums part later : List ℕ) where
   pub sums-length : length (sumsAfterPart address sums part later) ≡ length sums
   unfolding sumsAfterPart
@@ -114,8 +110,8 @@ module _ (address : ℕ) (sums part later : List ℕ) where
       (λ p u. let i : p < length sums = omega (arith, n) in h p i ∙ sym (sum-after p i))
 
 -- each is again of 16 bits
-pub sums-words : (address : ℕ) (sums part later : List ℕ) → Words (sumsAfterPart address sums part later)
-sums-words address sums part later p = by-place (ltb p (length sums)) refl
+pub sixteen-after : (address : ℕ) (sums part later : List ℕ) → SixteenBits (sumsAfterPart address sums part later)
+sixteen-after address sums part later p = by-place (ltb p (length sums)) refl
   where
     by-place : (t : Bool) → ltb p (length sums) ≡ t → sumAt (sumsAfterPart address sums part later) p < sumSpan
     by-place true e =
@@ -131,7 +127,7 @@ unfolding sumsAfterPart
 no-sums address part later = refl
 
 -- where nothing changes
-pub sums-kept : (address : ℕ) (sums part : List ℕ) → Words sums → sums ≡ sumsAfterPart address sums part part
+pub sums-kept : (address : ℕ) (sums part : List ℕ) → SixteenBits sums → sums ≡ sumsAfterPart address sums part part
 sums-kept address sums part words =
     sums-are address sums part part sums refl (λ p h. sym (unchanged (sumAt sums p) (partSum p address part) (words p)))
 
@@ -160,9 +156,9 @@ sums-beside sums front x y =
     (changed-beside (sumAt sums p) (partSum p 0 front) (partSum p (length front) x) (partSum p (length front) y)))
 
 -- a byte put changes the sum of its page alone, by what the byte changes
-pub byte-put : (address k v : ℕ) (sums part : List ℕ) → Words sums → k < length part
+pub byte-summed : (address k v : ℕ) (sums part : List ℕ) → SixteenBits sums → k < length part
     → set sums (pageOf (address + k)) (sumChanged (getD sums (pageOf (address + k)) 0) (getD part k 0) v) ≡ sumsAfterPart address sums part (set part k v)
-byte-put address k v sums part words h =
+byte-summed address k v sums part words h =
     sums-are address sums part (set part k v) (set sums own new) (length-set sums own new) (λ p i. by-page p i (eqb own p) refl)
   where
     own : ℕ

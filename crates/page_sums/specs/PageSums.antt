@@ -48,6 +48,10 @@ sumChanged sum before after = (sum + after + 65535 * before) % sumSpan
 abbrev pub sumAt : List ℕ → ℕ → ℕ
 sumAt sums p = getD sums p 0
 
+-- "each modulo 65,536": every sum of a lent list of 16-bit numbers
+abbrev pub SixteenBits : List ℕ → Type 0
+SixteenBits sums = (p : ℕ) → sumAt sums p < sumSpan
+
 -- sum p, where the part of memory from an address onward became another
 abbrev pub sumAfter : ℕ → List ℕ → List ℕ → List ℕ → ℕ → ℕ
 sumAfter address sums part later p = sumChanged (sumAt sums p) (partSum p address part) (partSum p address later)
@@ -73,6 +77,7 @@ totalAlong order sums = totalOf (map (sumAt sums) order) % sumSpan
 unfoldable pub pageListRefused : ℕ → ℕ → Bool
 pageListRefused memory sums = eqb memory memorySpan && not (eqb sums pageCount)
 
+-- what the call for the total hands back: the number, and the total
 abbrev pub totalResult : ℕ → ℕ → TotalResult
 totalResult n t = record { number = n; total = t }
 

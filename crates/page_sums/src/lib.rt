@@ -32,7 +32,7 @@ fn change_sum(sums: &mut [u16], page: usize, before: u8, after: u8)
 
 // The one commit of a byte to memory and to its page's sum: it is put at k of the part of memory that starts at
 // `address`. A caller without sums lends an empty list.
-pub fn put_byte(part: &mut [u8], address: usize, sums: &mut [u16], k: usize, value: u8)
+pub fn commit_byte(part: &mut [u8], address: usize, sums: &mut [u16], k: usize, value: u8)
     requires { ⌜ (k < length (now part)) × (address + k < 2 ^ 64) ⌝ }
     ensures { λ _. ⌜ now (part .exit) ≡ set (now (part .entry)) k value ⌝ }
     ensures { λ _. ⌜ now (sums .exit)

@@ -181,7 +181,7 @@ hostRefused number h = record { number = number; state = h; leaps = 0; read = 0;
 abbrev pub hostLoadResult : LoadResult → HostLoadResult
 hostLoadResult l = record { number = l .number; place = l .place }
 
--- 02, U7
+-- 02, U7: what the call for the total hands back, as the host's
 abbrev pub hostTotalResult : TotalResult → HostTotalResult
 hostTotalResult t = record { number = t .number; total = t .total }
 

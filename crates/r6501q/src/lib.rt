@@ -252,6 +252,10 @@ pub extern "C" fn r6501q_run_with_sums(
         ≡ withSums (now (sums .entry)) (hostCall (runOf (machine (haltOf halt)) n) n) (callStart state
         (now (memory .entry)) (now (inputclocks .entry)) (now (inputcodes .entry)) (now (outputclocks .entry))
         (now (outputwords .entry))) ⌝ }
+    ensures { λ r. ⌜ hostHanded r (now (memory .exit)) (now (outputclocks .exit)) (now (outputwords .exit))
+        ≡ withSums (now (sums .entry)) (hostCall (plainRunOf (machine (haltOf halt)) n) n) (callStart state
+        (now (memory .entry)) (now (inputclocks .entry)) (now (inputcodes .entry)) (now (outputclocks .entry))
+        (now (outputwords .entry))) ⌝ }
     ensures { λ _. ⌜ now (sums .exit) ≡ sumsAfter (now (sums .entry)) (now (memory .entry)) (now (memory .exit)) ⌝ }
 {
     if page_list_refused(memory.len(), sums.len()) {

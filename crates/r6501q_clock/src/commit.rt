@@ -5,7 +5,7 @@ ghost use Rattle.r6501q_clock.specs.Commit.{putWrite, committed};
 use cpu_access::stack::Write;
 use cpu_access::stack::Writes;
 use memory::is_register;
-use page_sums::put_byte;
+use page_sums::commit_byte;
 
 // A write to memory, where there is one; those at register addresses are not for memory.
 fn put_write(memory: &mut [u8], sums: &mut [u16], there: bool, w: Write)
@@ -16,7 +16,7 @@ fn put_write(memory: &mut [u8], sums: &mut [u16], there: bool, w: Write)
     let here = there & !is_register(w.address);
     if here {
         if at < memory.len() {
-            put_byte(memory, 0, sums, at, w.value);
+            commit_byte(memory, 0, sums, at, w.value);
         }
     }
 }

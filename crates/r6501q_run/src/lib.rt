@@ -396,6 +396,9 @@ pub fn run_with_sums(
     ensures { λ r. ⌜ handed r (now (memory .exit)) (now (outputclocks .exit)) (now (outputwords .exit))
         ≡ withSums (now (sums .entry)) (runOf (machine halt) n) (callStart state (now (memory .entry))
         (now (inputclocks .entry)) (now (inputcodes .entry)) (now (outputclocks .entry)) (now (outputwords .entry))) ⌝ }
+    ensures { λ r. ⌜ handed r (now (memory .exit)) (now (outputclocks .exit)) (now (outputwords .exit))
+        ≡ withSums (now (sums .entry)) (plainRunOf (machine halt) n) (callStart state (now (memory .entry))
+        (now (inputclocks .entry)) (now (inputcodes .entry)) (now (outputclocks .entry)) (now (outputwords .entry))) ⌝ }
     ensures { λ _. ⌜ now (sums .exit) ≡ sumsAfter (now (sums .entry)) (now (memory .entry)) (now (memory .exit)) ⌝ }
 {
     if page_list_refused(memory.len(), sums.len()) {

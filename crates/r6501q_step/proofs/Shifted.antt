@@ -177,9 +177,9 @@ module _ (halt : Halt) (k : ℕ) (w v : World) (r : ShiftedWorld shiftedState k 
       → ShiftedHanded shiftedState k (stepOf (machine halt) w) (stepOf (machine halt) v)
   step-shifted alike = calls.step-shifted (r6501q halt) shiftedState (shift-laws halt) k w v r alike
 
-  pub run-shifted : (n : ℕ) → RefusedAlike (r6501q halt) n w v
+  pub run-call-shifted : (n : ℕ) → RefusedAlike (r6501q halt) n w v
       → ShiftedHanded shiftedState k (runOf (machine halt) n w) (runOf (machine halt) n v)
-  run-shifted n alike = calls.run-call-shifted (r6501q halt) shiftedState (shift-laws halt) k n w v r alike
+  run-call-shifted n alike = calls.run-call-shifted (r6501q halt) shiftedState (shift-laws halt) k n w v r alike
 
   -- which is so where the n clocks fit at the later clock.
   pub fit-alike : (n : ℕ) → v .state .clock + n ≤ lastClock → RefusedAlike (r6501q halt) n w v
@@ -208,7 +208,7 @@ module _ (halt : Halt) (k : ℕ) (s : State) (memory clocks codes times words ti
   pub run-start-shifted : (n : ℕ) → s .clock + k + n ≤ lastClock
       → ShiftedHanded shiftedState k (runOf (machine halt) n earlierStart) (runOf (machine halt) n laterStart)
   run-start-shifted n fits =
-      run-shifted halt k earlierStart laterStart start-alike n
+      run-call-shifted halt k earlierStart laterStart start-alike n
       (fit-alike halt k earlierStart laterStart start-alike n fits)
 
 -- 4 does differ: a fresh chip may do a clock, and at the last clock none

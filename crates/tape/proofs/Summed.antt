@@ -8,8 +8,8 @@ use lib.Dec.{eqb}
 use lib.ListN.{length}
 use Rattle.bits.proofs.Cond.{cond-both}
 use Rattle.memory.specs.Memory.{memorySpan}
-use Rattle.page_sums.specs.PageSums.{pageCount, pageListRefused, sumsAfter}
-use Rattle.page_sums.proofs.Sums.{Words, sums-kept}
+use Rattle.page_sums.specs.PageSums.{pageCount, pageListRefused, sumsAfter, SixteenBits}
+use Rattle.page_sums.proofs.Sums.{sums-kept}
 use Rattle.page_sums.proofs.Refused.{memory-wrong, list-wrong, list-right}
 use Rattle.tape.specs.Tapes.{checkOf, Loaded, loadResult, loaded, loadOf, loadWithSumsOf}
 use Rattle.tape.proofs.Laws.{load-other-length}
@@ -42,6 +42,6 @@ module _ (tape memory sums : List ℕ) where
   unfolding loadWithSumsOf
   kept-with-sums = cond-both Kept (pageListRefused (length memory) (length sums)) _ _ (λ _ _. refl) (λ _. kept)
 
-  pub refused-unsummed : Words sums → (loadWithSumsOf tape memory sums .result .number ≡ 0 → ⊥)
+  pub refused-unsummed : SixteenBits sums → (loadWithSumsOf tape memory sums .result .number ≡ 0 → ⊥)
       → sumsAfter sums memory (loadWithSumsOf tape memory sums .memory) ≡ sums
   refused-unsummed words refused = ap (sumsAfter sums memory) (kept-with-sums refused) ∙ sym (sums-kept 0 sums memory words)

@@ -1,7 +1,7 @@
 // Bytes into memory, and into its page sums.
 use crate::digits::byte;
 use memory::REGISTER_END;
-use page_sums::put_byte;
+use page_sums::commit_byte;
 ghost use mathlib.Core.Path.{_≡_};
 ghost use Prim.Native.Nat.{_+_, _-_, _*_, _^_, _<_, _≤_};
 ghost use lib.ListN.{length};
@@ -22,7 +22,7 @@ fn dropped(address: usize) -> usize
 
 // The byte writer: the bytes of the digits from the start of a part of memory on, which starts at `address`, and into
 // the page sums; those that are dropped come first.
-fn put_bytes(part: &mut [u8], address: usize, sums: &mut [u16], digits: &[u8])
+fn commit_bytes(part: &mut [u8], address: usize, sums: &mut [u16], digits: &[u8])
     requires { ⌜ (length (now digits) ≤ 2 * length (now part)) × (address + length (now part) < 2 ^ 64) ⌝ }
     ensures { λ _. ⌜ now (part .exit)
         ≡ putFrom (registerEnd - address) 0 (bytesOf (now (digits .entry))) (now (part .entry)) ⌝ }
@@ -31,7 +31,7 @@ fn put_bytes(part: &mut [u8], address: usize, sums: &mut [u16], digits: &[u8])
 {
     let mut k = dropped(address);
     while k < digits.len() / 2 {
-        put_byte(
+        commit_byte(
             part,
             address,
             sums,
@@ -49,5 +49,5 @@ pub fn land(memory: &mut [u8], sums: &mut [u16], address: usize, digits: &[u8])
         ≡ putFrom registerEnd address (bytesOf (now (digits .entry))) (now (memory .entry)) ⌝ }
     ensures { λ _. ⌜ now (sums .exit) ≡ sumsAfter (now (sums .entry)) (now (memory .entry)) (now (memory .exit)) ⌝ }
 {
-    put_bytes(&mut memory[address..], address, sums, digits);
+    commit_bytes(&mut memory[address..], address, sums, digits);
 }

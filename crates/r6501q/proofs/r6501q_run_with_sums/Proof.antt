@@ -4,9 +4,9 @@ use denote.Ref.{now}
 use lib.ListN.{length}
 use native.Mathlib.Omega.{arith}
 use borrow.Author.Tests.{not-true, not-false}
-use Rattle.page_sums.specs.PageSums.{pageListRefused}
-use Rattle.page_sums.proofs.Sums.{Words, sums-kept}
-use Rattle.leaps.specs.Lists.{runOf}
+use Rattle.page_sums.specs.PageSums.{pageListRefused, SixteenBits}
+use Rattle.page_sums.proofs.Sums.{sums-kept}
+use Rattle.leaps.specs.Lists.{runOf, plainRunOf}
 use Rattle.leaps.specs.Calls.{callStart}
 use Rattle.leaps.proofs.Summed.{list-refused, list-accepted}
 use Rattle.r6501q_step.specs.R6501q.{World, machine}
@@ -39,10 +39,13 @@ returns : tie.Need-returns
 returns c =
     let at = c .before .before .before .before .before .before .before .before .before .args in
     let start : HostWorld = callStart (at .state) (now (at .memory)) (now (at .inputclocks)) (now (at .inputcodes)) (now (at .outputclocks)) (now (at .outputwords)) in
-    let words : Words (now (at .sums)) = λ p. omega (arith, c .before .before .before .before .before .before .before .slice-known2 .given p) in
+    let words : SixteenBits (now (at .sums)) = λ p. omega (arith, c .before .before .before .before .before .before .before .slice-known2 .given p) in
     let told : c .before .before .page-list-refused .result ≡ pageListRefused (length (now (at .memory))) (length (now (at .sums))) = c .before .before .page-list-refused .ensures in
     let wrong : pageListRefused (length (now (at .memory))) (length (now (at .sums))) ≡ true = sym told ∙ c .before .if1 .taken in
-    (rw (c .wrong-page-list .ensures) (sym (list-refused (now (at .sums)) (hostCall (runOf (machine (haltOf (at .halt))) (at .n)) (at .n)) start wrong)), sums-kept 0 (now (at .sums)) (now (at .memory)) words)
+    let leaps = list-refused (now (at .sums)) (hostCall (runOf (machine (haltOf (at .halt))) (at .n)) (at .n)) start wrong in
+    let plains = list-refused (now (at .sums)) (hostCall (plainRunOf (machine (haltOf (at .halt))) (at .n)) (at .n)) start wrong in
+    let kept = sums-kept 0 (now (at .sums)) (now (at .memory)) words in
+    (rw (c .wrong-page-list .ensures) (sym leaps), (rw (c .wrong-page-list .ensures) (sym plains), kept))
 
 -- src/lib.rt:260:9
 flags-fit-requires : tie.Need-flags-fit-requires
@@ -58,12 +61,15 @@ unfolding hostCall
 returns-2 c =
     let at = c .before .before .before .before .before .before .before .before .before .before .before .args in
     let start : HostWorld = callStart (at .state) (now (at .memory)) (now (at .inputclocks)) (now (at .inputcodes)) (now (at .outputclocks)) (now (at .outputwords)) in
-    let words : Words (now (at .sums)) = λ p. omega (arith, c .before .before .before .before .before .before .before .before .before .slice-known2 .given p) in
+    let words : SixteenBits (now (at .sums)) = λ p. omega (arith, c .before .before .before .before .before .before .before .before .before .slice-known2 .given p) in
     let told : c .before .before .before .before .page-list-refused .result ≡ pageListRefused (length (now (at .memory))) (length (now (at .sums))) = c .before .before .before .before .page-list-refused .ensures in
     let right : pageListRefused (length (now (at .memory))) (length (now (at .sums))) ≡ false = sym told ∙ c .before .before .before .if1 .left in
-    let next = list-accepted (now (at .sums)) (hostCall (runOf (machine (haltOf (at .halt))) (at .n)) (at .n)) start right in
+    let leaps = list-accepted (now (at .sums)) (hostCall (runOf (machine (haltOf (at .halt))) (at .n)) (at .n)) start right in
+    let plains = list-accepted (now (at .sums)) (hostCall (plainRunOf (machine (haltOf (at .halt))) (at .n)) (at .n)) start right in
     let high = not-true (c .before .before .flags-fit .result) (c .before .if2 .taken) in
-    (rw (next, ← (c .before .before .flags-fit .ensures), c .flag-refused .ensures, high), sums-kept 0 (now (at .sums)) (now (at .memory)) words)
+    let kept = sums-kept 0 (now (at .sums)) (now (at .memory)) words in
+    let fit = c .before .before .flags-fit .ensures in
+    (rw (leaps, ← fit, c .flag-refused .ensures, high), (rw (plains, ← fit, c .flag-refused .ensures, high), kept))
 
 -- src/lib.rt:272:9
 state-of-requires : tie.Need-state-of-requires
@@ -106,12 +112,14 @@ returns-3 c =
     let library : World = callStart (c .before .before .before .before .before .before .before .before .before .before .before .before .before .before .before .state-of .result) (now (at .memory)) (now (at .inputclocks)) (now (at .inputcodes)) (now (at .outputclocks)) (now (at .outputwords)) in
     let told : c .before .before .before .before .before .before .before .before .before .before .before .before .before .before .before .before .before .before .before .page-list-refused .result ≡ pageListRefused (length (now (at .memory))) (length (now (at .sums))) = c .before .before .before .before .before .before .before .before .before .before .before .before .before .before .before .before .before .before .before .page-list-refused .ensures in
     let right : pageListRefused (length (now (at .memory))) (length (now (at .sums))) ≡ false = sym told ∙ c .before .before .before .before .before .before .before .before .before .before .before .before .before .before .before .before .before .before .if1 .left in
-    let next = list-accepted (now (at .sums)) (hostCall (runOf (machine (haltOf (at .halt))) (at .n)) (at .n)) start right in
+    let leaps = list-accepted (now (at .sums)) (hostCall (runOf (machine (haltOf (at .halt))) (at .n)) (at .n)) start right in
+    let plains = list-accepted (now (at .sums)) (hostCall (plainRunOf (machine (haltOf (at .halt))) (at .n)) (at .n)) start right in
     let call = c .before .before .before .before .before .before .before .before .before .run-with-sums .ensures in
-    let went = call .0 ∙ list-accepted (now (at .sums)) (runOf (machine (c .before .before .before .before .before .before .before .before .before .before .halt-of .result)) (at .n)) library right in
+    let leapt = call .0 ∙ list-accepted (now (at .sums)) (runOf (machine (c .before .before .before .before .before .before .before .before .before .before .halt-of .result)) (at .n)) library right in
+    let plainly = call .1 .0 ∙ list-accepted (now (at .sums)) (plainRunOf (machine (c .before .before .before .before .before .before .before .before .before .before .halt-of .result)) (at .n)) library right in
     let fits = not-false (c .before .before .before .before .before .before .before .before .before .before .before .before .before .before .before .before .before .flags-fit .result) (c .before .before .before .before .before .before .before .before .before .before .before .before .before .before .before .before .if2 .left) in (
-      rw (next, ← (c .before .before .before .before .before .before .before .before .before .before .before .before .before .before .before .before .before .flags-fit .ensures), ← (c .before .before .before .before .before .before .before .before .before .before .before .before .before .before .before .state-of .ensures), ← (c .before .before .before .before .before .before .before .before .before .before .halt-of .ensures), ← went, c .host-result .ensures, fits),
-      call .1,
+      rw (leaps, ← (c .before .before .before .before .before .before .before .before .before .before .before .before .before .before .before .before .before .flags-fit .ensures), ← (c .before .before .before .before .before .before .before .before .before .before .before .before .before .before .before .state-of .ensures), ← (c .before .before .before .before .before .before .before .before .before .before .halt-of .ensures), ← leapt, c .host-result .ensures, fits),
+      (rw (plains, ← (c .before .before .before .before .before .before .before .before .before .before .before .before .before .before .before .before .before .flags-fit .ensures), ← (c .before .before .before .before .before .before .before .before .before .before .before .before .before .before .before .state-of .ensures), ← (c .before .before .before .before .before .before .before .before .before .before .halt-of .ensures), ← plainly, c .host-result .ensures, fits), call .1 .1),
     )
 
 pub r6501q-run-with-sums-spec : {M : Type 1} → statement M

@@ -4,8 +4,8 @@ use denote.Ref.{now}
 use lib.ListN.{length}
 use native.Mathlib.Omega.{arith}
 use borrow.Author.Tests.{not-true, not-false}
-use Rattle.page_sums.specs.PageSums.{pageListRefused}
-use Rattle.page_sums.proofs.Sums.{Words, sums-kept}
+use Rattle.page_sums.specs.PageSums.{pageListRefused, SixteenBits}
+use Rattle.page_sums.proofs.Sums.{sums-kept}
 use Rattle.leaps.specs.Lists.{stepOf}
 use Rattle.leaps.specs.Calls.{callStart}
 use Rattle.leaps.proofs.Summed.{list-refused, list-accepted}
@@ -39,7 +39,7 @@ returns : tie.Need-returns
 returns c =
     let at = c .before .before .before .before .before .before .before .before .before .args in
     let start : HostWorld = callStart (at .state) (now (at .memory)) (now (at .inputclocks)) (now (at .inputcodes)) (now (at .outputclocks)) (now (at .outputwords)) in
-    let words : Words (now (at .sums)) = λ p. omega (arith, c .before .before .before .before .before .before .before .slice-known2 .given p) in
+    let words : SixteenBits (now (at .sums)) = λ p. omega (arith, c .before .before .before .before .before .before .before .slice-known2 .given p) in
     let told : c .before .before .page-list-refused .result ≡ pageListRefused (length (now (at .memory))) (length (now (at .sums))) = c .before .before .page-list-refused .ensures in
     let wrong : pageListRefused (length (now (at .memory))) (length (now (at .sums))) ≡ true = sym told ∙ c .before .if1 .taken in
     (rw (c .wrong-page-list .ensures) (sym (list-refused (now (at .sums)) (hostCall (stepOf (machine (haltOf (at .halt)))) 1) start wrong)), sums-kept 0 (now (at .sums)) (now (at .memory)) words)
@@ -58,7 +58,7 @@ unfolding hostCall
 returns-2 c =
     let at = c .before .before .before .before .before .before .before .before .before .before .before .args in
     let start : HostWorld = callStart (at .state) (now (at .memory)) (now (at .inputclocks)) (now (at .inputcodes)) (now (at .outputclocks)) (now (at .outputwords)) in
-    let words : Words (now (at .sums)) = λ p. omega (arith, c .before .before .before .before .before .before .before .before .before .slice-known2 .given p) in
+    let words : SixteenBits (now (at .sums)) = λ p. omega (arith, c .before .before .before .before .before .before .before .before .before .slice-known2 .given p) in
     let told : c .before .before .before .before .page-list-refused .result ≡ pageListRefused (length (now (at .memory))) (length (now (at .sums))) = c .before .before .before .before .page-list-refused .ensures in
     let right : pageListRefused (length (now (at .memory))) (length (now (at .sums))) ≡ false = sym told ∙ c .before .before .before .if1 .left in
     let next = list-accepted (now (at .sums)) (hostCall (stepOf (machine (haltOf (at .halt)))) 1) start right in

@@ -1,6 +1,7 @@
 use denote.Ref.{now}
 use native.Mathlib.Omega.{arith}
-use Rattle.page_sums.proofs.Sums.{Words, sums-kept}
+use Rattle.page_sums.specs.PageSums.{SixteenBits}
+use Rattle.page_sums.proofs.Sums.{sums-kept}
 use Rattle.r6501q_step.specs.R6501q.{World}
 use Rattle.r6501q_step.specs.World.{worldOf}
 use Rattle.r6501q_run.proofs.Runs.{gap-fits, passed-goes, leap-reaches, leap-falls-short}
@@ -56,7 +57,7 @@ returns-2 : tie.Need-returns-2
 returns-2 c =
     let root = c .before .before .before .before .before .before .before .before .before .before .before in
     let at = root .args in
-    let words : Words (now (at .sums)) = λ p. omega (arith, c .before .before .before .before .before .before .before .before .before .slice-known2 .given p) in
+    let words : SixteenBits (now (at .sums)) = λ p. omega (arith, c .before .before .before .before .before .before .before .before .before .slice-known2 .given p) in
     let start : World = worldOf (at .p) (now (at .memory)) (now (at .inputclocks)) (now (at .inputcodes)) (now (at .outputclocks)) (now (at .outputwords)) in (
       rw (c .before .before .before .pass-progress .ensures)
           (leap-falls-short (at .halt) (at .left .0) start (at .gap) (root .pre .1 .1 .0) (c .if1 .left)),

@@ -2,8 +2,8 @@ use denote.Ref.{now}
 use mathlib.Core.Path.{_≡_, refl, ap, sym, _∙_}
 use lib.ListN.{length}
 use native.Mathlib.Omega.{arith}
-use Rattle.page_sums.specs.PageSums.{sumsAfter}
-use Rattle.page_sums.proofs.Sums.{Words, sums-kept, sums-then, sums-length}
+use Rattle.page_sums.specs.PageSums.{sumsAfter, SixteenBits}
+use Rattle.page_sums.proofs.Sums.{sums-kept, sums-then, sums-length}
 use Rattle.r6501q_run.proofs.Runs.{Running, goes-some, goes-unstopped, later-run, later-leaping, later-bound, run-ended}
 use Rattle.r6501q_run.proofs.Spanned.{run-later, leaping-later}
 use borrow.Author.Needs.{needs}
@@ -26,7 +26,7 @@ loop-holds : tie.Need-loop-holds Inv-loop μ-loop
 loop-holds c =
     let root = c .before .before .before .before .before .before .before in
     let at = root .args in
-    let words : Words (now (at .sums)) = λ p. omega (arith, c .before .before .before .before .before .slice-known2 .given p) in (
+    let words : SixteenBits (now (at .sums)) = λ p. omega (arith, c .before .before .before .before .before .slice-known2 .given p) in (
       record { run = refl; leaping = root .pre .0; bound = root .pre .1 .0; memory-kept = refl; times-kept = refl; words-kept = refl },
       sums-kept 0 (now (at .sums)) (now (at .memory)) words,
     )

@@ -1,6 +1,7 @@
 use denote.Ref.{now}
 use native.Mathlib.Omega.{arith}
-use Rattle.page_sums.proofs.Sums.{Words, sums-kept}
+use Rattle.page_sums.specs.PageSums.{SixteenBits}
+use Rattle.page_sums.proofs.Sums.{sums-kept}
 use Rattle.r6501q_run.proofs.Spanned.{no-span}
 use borrow.Author.Needs.{needs}
 use Rattle.r6501q_run.proofs.leap_span.Statement.{statement}
@@ -18,7 +19,7 @@ span-from-requires c κs = search needs
 returns : tie.Need-returns
 returns c =
     let at = c .before .before .before .before .before .before .before .args in
-    let words : Words (now (at .sums)) = λ p. omega (arith, c .before .before .before .before .before .slice-known2 .given p) in
+    let words : SixteenBits (now (at .sums)) = λ p. omega (arith, c .before .before .before .before .before .slice-known2 .given p) in
     (no-span _ _ _ _, sums-kept 0 (now (at .sums)) (now (at .memory)) words)
 
 -- src/lib.rt:251:5

@@ -4,8 +4,8 @@ use mathlib.Core.Path.{_≡_, ap, sym, _∙_}
 use lib.ListN.{length}
 use Prim.Native.Nat.{_+_, _-_}
 use native.Mathlib.Omega.{arith}
-use Rattle.page_sums.specs.PageSums.{sumsAfter}
-use Rattle.page_sums.proofs.Sums.{Words, sums-kept, sums-then, sums-length}
+use Rattle.page_sums.specs.PageSums.{sumsAfter, SixteenBits}
+use Rattle.page_sums.proofs.Sums.{sums-kept, sums-then, sums-length}
 use Rattle.r6501q_run.proofs.Spanned.{SpanBegun, span-begun, Within, within-begins, within-goes, within-ends, fewer-left, room-on}
 use borrow.Author.Needs.{needs}
 use Rattle.r6501q_run.proofs.leap_within.Statement.{statement}
@@ -31,7 +31,7 @@ loop-holds : tie.Need-loop-holds Inv-loop μ-loop
 loop-holds c =
     let root = c .before .before .before .before .before in
     let at = root .args in
-    let words : Words (now (at .sums)) = λ p. omega (arith, c .before .before .before .slice-known2 .given p) in (
+    let words : SixteenBits (now (at .sums)) = λ p. omega (arith, c .before .before .before .slice-known2 .given p) in (
       rw (c .begin-work .ensures) (within-begins (at .halt) (at .at) (now (at .inputclocks)) (at .span .0) (span-begun (at .at) (now (at .inputclocks)) (at .span) (root .pre .1 .0 .0) (root .pre .1 .0 .1)) (now (at .memory))),
       sums-kept 0 (now (at .sums)) (now (at .memory)) words,
     )

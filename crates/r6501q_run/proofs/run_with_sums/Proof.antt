@@ -3,9 +3,9 @@ use mathlib.Core.Bool.{true, false}
 use denote.Ref.{now}
 use lib.ListN.{length}
 use native.Mathlib.Omega.{arith}
-use Rattle.page_sums.specs.PageSums.{pageListRefused}
-use Rattle.page_sums.proofs.Sums.{Words, sums-kept}
-use Rattle.leaps.specs.Lists.{runOf}
+use Rattle.page_sums.specs.PageSums.{pageListRefused, SixteenBits}
+use Rattle.page_sums.proofs.Sums.{sums-kept}
+use Rattle.leaps.specs.Lists.{runOf, plainRunOf}
 use Rattle.leaps.specs.Calls.{callStart}
 use Rattle.leaps.proofs.Summed.{list-refused, list-accepted}
 use Rattle.r6501q_step.specs.R6501q.{World, machine}
@@ -31,10 +31,13 @@ returns : tie.Need-returns
 returns c =
     let at = c .before .before .before .before .before .before .before .before .before .args in
     let start : World = callStart (at .state) (now (at .memory)) (now (at .inputclocks)) (now (at .inputcodes)) (now (at .outputclocks)) (now (at .outputwords)) in
-    let words : Words (now (at .sums)) = λ p. omega (arith, c .before .before .before .before .before .before .before .slice-known2 .given p) in
+    let words : SixteenBits (now (at .sums)) = λ p. omega (arith, c .before .before .before .before .before .before .before .slice-known2 .given p) in
     let told : c .before .before .page-list-refused .result ≡ pageListRefused (length (now (at .memory))) (length (now (at .sums))) = c .before .before .page-list-refused .ensures in
     let wrong : pageListRefused (length (now (at .memory))) (length (now (at .sums))) ≡ true = sym told ∙ c .before .if1 .taken in
-    (rw (c .refused .ensures) (sym (list-refused (now (at .sums)) (runOf (machine (at .halt)) (at .n)) start wrong)), sums-kept 0 (now (at .sums)) (now (at .memory)) words)
+    let leaps = list-refused (now (at .sums)) (runOf (machine (at .halt)) (at .n)) start wrong in
+    let plains = list-refused (now (at .sums)) (plainRunOf (machine (at .halt)) (at .n)) start wrong in
+    let kept = sums-kept 0 (now (at .sums)) (now (at .memory)) words in
+    (rw (c .refused .ensures) (sym leaps), (rw (c .refused .ensures) (sym plains), kept))
 
 -- src/lib.rt:404:5
 run-into-requires : tie.Need-run-into-requires
@@ -64,7 +67,9 @@ returns-2 c =
     let told : c .before .before .before .before .before .before .before .before .before .before .before .before .before .before .page-list-refused .result ≡ pageListRefused (length (now (at .memory))) (length (now (at .sums))) = c .before .before .before .before .before .before .before .before .before .before .before .before .before .before .page-list-refused .ensures in
     let right : pageListRefused (length (now (at .memory))) (length (now (at .sums))) ≡ false = sym told ∙ c .before .before .before .before .before .before .before .before .before .before .before .before .before .if1 .left in
     let went = c .before .before .before .before .before .before .before .before .run-into .ensures in
-    (went .0 ∙ sym (list-accepted (now (at .sums)) (runOf (machine (at .halt)) (at .n)) start right), went .1 .1)
+    let leaps = list-accepted (now (at .sums)) (runOf (machine (at .halt)) (at .n)) start right in
+    let plains = list-accepted (now (at .sums)) (plainRunOf (machine (at .halt)) (at .n)) start right in
+    (went .0 ∙ sym leaps, (went .1 .0 ∙ sym plains, went .1 .1))
 
 pub run-with-sums-spec : {M : Type 1} → statement M
 run-with-sums-spec =

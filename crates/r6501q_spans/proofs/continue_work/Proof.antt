@@ -1,7 +1,8 @@
 use mathlib.Core.Path.{refl, sym, _∙_}
 use denote.Ref.{now}
 use native.Mathlib.Omega.{arith}
-use Rattle.page_sums.proofs.Sums.{Words, sums-kept}
+use Rattle.page_sums.specs.PageSums.{SixteenBits}
+use Rattle.page_sums.proofs.Sums.{sums-kept}
 use Rattle.r6501q_spans.specs.Spans.{continuedBy, committedBy}
 use borrow.Author.Needs.{needs}
 use Rattle.r6501q_spans.proofs.continue_work.Statement.{statement}
@@ -32,7 +33,7 @@ returns : tie.Need-returns
 unfolding continuedBy committedBy
 returns c =
     let at = c .before .before .before .before .before .before .args in
-    let words : Words (now (at .sums)) = λ p. omega (arith, c .before .before .before .before .slice-known2 .given p) in
+    let words : SixteenBits (now (at .sums)) = λ p. omega (arith, c .before .before .before .before .slice-known2 .given p) in
     let w = c .before .before .before .pushes-of .ensures in
     let e = sym (c .before .before .ends-span .ensures) ∙ c .before .if1 .taken in
     (rw (← w, e) (c .none-waiting .ensures), (rw (← w, e) refl, sums-kept 0 (now (at .sums)) (now (at .memory)) words))

@@ -4,7 +4,8 @@ use denote.Ref.{now}
 use native.Mathlib.Omega.{arith}
 use borrow.Author.Tests.{ltb-true, leb-true, not-true, not-false}
 use Rattle.bits.proofs.Cond.{and-left, and-right}
-use Rattle.page_sums.proofs.Sums.{Words, sums-kept}
+use Rattle.page_sums.specs.PageSums.{SixteenBits}
+use Rattle.page_sums.proofs.Sums.{sums-kept}
 use Rattle.r6501q_spans.specs.Spans.{workPut, memoryPut}
 use Rattle.r6501q_spans.proofs.Ends.{puts-within, puts-not, puts-later}
 use borrow.Author.Needs.{needs}
@@ -72,7 +73,7 @@ returns-2 : tie.Need-returns-2
 unfolding workPut memoryPut
 returns-2 c =
     let at = c .before .before .before .before .before .before .before .before .before .before .args in
-    let words : Words (now (at .sums)) = λ p. omega (arith, c .before .before .before .before .before .before .before .before .slice-known2 .given p) in
+    let words : SixteenBits (now (at .sums)) = λ p. omega (arith, c .before .before .before .before .before .before .before .before .slice-known2 .given p) in
     let one = c .before .before .before .before .before .before .before .one-write .ensures in
     let ends = rw one at (sym (c .before .ends-span .ensures) ∙ not-false _ (c .if2 .left)) in
     let e = puts-not (at .halt) (at .span .0) (at .w) (at .x) (c .before .before .if1 .taken) ends in
@@ -83,7 +84,7 @@ returns-3 : tie.Need-returns-3
 unfolding workPut memoryPut
 returns-3 c =
     let at = c .before .before .before .before .before .before .before .before .args in
-    let words : Words (now (at .sums)) = λ p. omega (arith, c .before .before .before .before .before .before .slice-known2 .given p) in
+    let words : SixteenBits (now (at .sums)) = λ p. omega (arith, c .before .before .before .before .before .before .slice-known2 .given p) in
     let e = puts-later (at .halt) (at .span .0) (at .w) (at .x) (c .if1 .left) in
     (rw e refl, (rw e refl, sums-kept 0 (now (at .sums)) (now (at .memory)) words))
 

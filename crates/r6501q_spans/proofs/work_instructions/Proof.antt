@@ -6,7 +6,8 @@ use mathlib.Core.Path.{_≡_, sym, _∙_}
 use mathlib.Core.List.{[]}
 use native.Mathlib.Omega.{arith}
 use borrow.Author.Tests.{le-leb, lt-leb}
-use Rattle.page_sums.proofs.Sums.{Words, sums-kept}
+use Rattle.page_sums.specs.PageSums.{SixteenBits}
+use Rattle.page_sums.proofs.Sums.{sums-kept}
 use Rattle.cpu.proofs.Kept.{quietly-room}
 use Rattle.r6501q_spans.specs.Spans.{workAfter, memoryAfter}
 use borrow.Author.Needs.{needs}
@@ -49,7 +50,7 @@ returns : tie.Need-returns
 unfolding workAfter memoryAfter
 returns c =
     let at = c .before .before .before .before .before .before .before .before .before .before .before .before .args in
-    let words : Words (now (at .sums)) = λ p. omega (arith, c .before .before .before .before .before .before .before .before .before .before .slice-known2 .given p) in
+    let words : SixteenBits (now (at .sums)) = λ p. omega (arith, c .before .before .before .before .before .before .before .before .before .before .slice-known2 .given p) in
     let done = c .before .before .before .before .before .before .run-instructions in
     let e : leb (at .span .0 - done .result .at .gone .0) (done .result .at .wait) ≡ true = le-leb _ _ (c .before .if1 .taken) in
     (record { at = done .result .at; quietly = done .ensures .0; work = rw e (c .none-waiting .ensures); bytes = rw e }, sums-kept 0 (now (at .sums)) (now (at .memory)) words)
@@ -91,7 +92,7 @@ returns-2 : tie.Need-returns-2
 unfolding workAfter memoryAfter
 returns-2 c =
     let at = c .before .before .before .before .before .before .before .before .before .before .before .before .before .before .args in
-    let words : Words (now (at .sums)) = λ p. omega (arith, c .before .before .before .before .before .before .before .before .before .before .before .before .slice-known2 .given p) in
+    let words : SixteenBits (now (at .sums)) = λ p. omega (arith, c .before .before .before .before .before .before .before .before .before .before .before .before .slice-known2 .given p) in
     let done = c .before .before .before .before .before .before .before .before .run-instructions in
     let e = lt-leb _ _ (c .before .before .before .if1 .left) in
     let o = sym (done .ensures .1) ∙ c .before .enum-told .given .1 in
@@ -106,7 +107,7 @@ returns-3 : tie.Need-returns-3
 unfolding workAfter memoryAfter
 returns-3 c =
     let at = c .before .before .before .before .before .before .before .before .before .before .before .before .before .before .args in
-    let words : Words (now (at .sums)) = λ p. omega (arith, c .before .before .before .before .before .before .before .before .before .before .before .before .slice-known2 .given p) in
+    let words : SixteenBits (now (at .sums)) = λ p. omega (arith, c .before .before .before .before .before .before .before .before .before .before .before .before .slice-known2 .given p) in
     let done = c .before .before .before .before .before .before .before .before .run-instructions in
     let e = lt-leb _ _ (c .before .before .before .if1 .left) in
     let o = sym (done .ensures .1) ∙ c .before .enum-told2 .given .1 in

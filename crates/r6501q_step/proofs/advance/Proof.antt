@@ -4,7 +4,8 @@ use native.Mathlib.Omega.{arith}
 use lib.ListN.{length}
 use lib.Seq.{drop-drop}
 use denote.Ref.{now}
-use Rattle.page_sums.proofs.Sums.{Words, sums-kept}
+use Rattle.page_sums.specs.PageSums.{SixteenBits}
+use Rattle.page_sums.proofs.Sums.{sums-kept}
 use Rattle.r6501q_step.proofs.Worlds.{plain-stops, plain-moves, due-fits}
 use borrow.Author.Needs.{needs}
 use Rattle.r6501q_step.proofs.advance.Statement.{statement}
@@ -66,7 +67,7 @@ returns : tie.Need-returns
 returns c =
     let root = c .before .before .before .before .before .before .before .before .before .before .before .before .before .before .before .before in
     let at = root .args in
-    let words : Words (now (at .sums)) = λ p. omega (arith, c .before .before .before .before .before .before .before .before .before .before .before .before .before .before .slice-known2 .given p) in
+    let words : SixteenBits (now (at .sums)) = λ p. omega (arith, c .before .before .before .before .before .before .before .before .before .before .before .before .before .before .slice-known2 .given p) in
     let outcome = sym (c .before .before .before .before .outcome-from .ensures) ∙ c .before .before .clocked .given .1 in (
       rw (c .stop-at .ensures) (plain-stops (at .halt) _ _ _ (root .pre .0 .stop) (c .before .before .before .before .before .before .before .due-from .ensures) _ outcome refl),
       sums-kept 0 (now (at .sums)) (now (at .memory)) words,

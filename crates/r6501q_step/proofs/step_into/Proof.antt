@@ -1,7 +1,8 @@
 use mathlib.Core.Path.{sym, _∙_}
 use denote.Ref.{now}
 use native.Mathlib.Omega.{arith}
-use Rattle.page_sums.proofs.Sums.{Words, sums-kept}
+use Rattle.page_sums.specs.PageSums.{SixteenBits}
+use Rattle.page_sums.proofs.Sums.{sums-kept}
 use Rattle.r6501q_step.proofs.Calls.{begins, steps, refuses}
 use borrow.Author.Needs.{needs}
 use Rattle.r6501q_step.proofs.step_into.Statement.{statement}
@@ -28,7 +29,7 @@ refused-requires c κs = search needs
 returns : tie.Need-returns
 returns c =
     let at = c .before .before .before .before .before .before .before .before .before .args in
-    let words : Words (now (at .sums)) = λ p. omega (arith, c .before .before .before .before .before .before .before .slice-known2 .given p) in
+    let words : SixteenBits (now (at .sums)) = λ p. omega (arith, c .before .before .before .before .before .before .before .slice-known2 .given p) in
     let number = c .before .before .call-refusal .ensures in (
       rw (c .refused .ensures)
           (refuses (at .halt) (at .state) (now (at .memory)) (now (at .inputclocks)) (now (at .inputcodes)) (now (at .outputclocks))

@@ -3,8 +3,8 @@ use mathlib.Core.Bool.{true, false}
 use denote.Ref.{now}
 use lib.ListN.{length}
 use native.Mathlib.Omega.{arith}
-use Rattle.page_sums.specs.PageSums.{pageListRefused}
-use Rattle.page_sums.proofs.Sums.{Words, sums-kept}
+use Rattle.page_sums.specs.PageSums.{pageListRefused, SixteenBits}
+use Rattle.page_sums.proofs.Sums.{sums-kept}
 use Rattle.leaps.specs.Lists.{stepOf}
 use Rattle.leaps.specs.Calls.{callStart}
 use Rattle.leaps.proofs.Summed.{list-refused, list-accepted}
@@ -31,7 +31,7 @@ returns : tie.Need-returns
 returns c =
     let at = c .before .before .before .before .before .before .before .before .before .args in
     let start : World = callStart (at .state) (now (at .memory)) (now (at .inputclocks)) (now (at .inputcodes)) (now (at .outputclocks)) (now (at .outputwords)) in
-    let words : Words (now (at .sums)) = λ p. omega (arith, c .before .before .before .before .before .before .before .slice-known2 .given p) in
+    let words : SixteenBits (now (at .sums)) = λ p. omega (arith, c .before .before .before .before .before .before .before .slice-known2 .given p) in
     let told : c .before .before .page-list-refused .result ≡ pageListRefused (length (now (at .memory))) (length (now (at .sums))) = c .before .before .page-list-refused .ensures in
     let wrong : pageListRefused (length (now (at .memory))) (length (now (at .sums))) ≡ true = sym told ∙ c .before .if1 .taken in
     (rw (c .refused .ensures) (sym (list-refused (now (at .sums)) (stepOf (machine (at .halt))) start wrong)), sums-kept 0 (now (at .sums)) (now (at .memory)) words)

@@ -4,7 +4,8 @@ use denote.Ref.{now}
 use native.Mathlib.Omega.{arith}
 use borrow.Author.Tests.{eq-eqb, ne-eqb}
 use Rattle.bits.proofs.Cond.{cond-no}
-use Rattle.page_sums.proofs.Sums.{Words, sums-kept}
+use Rattle.page_sums.specs.PageSums.{SixteenBits}
+use Rattle.page_sums.proofs.Sums.{sums-kept}
 use Rattle.tape.specs.Tapes.{storeFrom, loaded, loadOf}
 use borrow.Author.Needs.{needs}
 use Rattle.tape.proofs.load_into.Statement.{statement}
@@ -14,7 +15,7 @@ returns : tie.Need-returns
 unfolding loadOf
 returns c =
     let at = c .before .before .before .before .args in
-    let words : Words (now (at .sums)) = λ p. omega (arith, c .before .slice-known2 .given p) in
+    let words : SixteenBits (now (at .sums)) = λ p. omega (arith, c .before .slice-known2 .given p) in
     (rw (ne-eqb _ _ (c .if1 .taken)), sums-kept 0 (now (at .sums)) (now (at .memory)) words)
 
 check-requires : tie.Need-check-requires
@@ -26,7 +27,7 @@ returns-2 c =
     let at = c .before .before .before .before .before .before .before .args in
     let checked = c .before .before .check .result in
     let refused : checked .number ≡ 0 → ⊥ = c .if2 .taken in
-    let words : Words (now (at .sums)) = λ p. omega (arith, c .before .before .before .before .slice-known2 .given p) in (
+    let words : SixteenBits (now (at .sums)) = λ p. omega (arith, c .before .before .before .before .slice-known2 .given p) in (
       rw (← c .before .before .check .ensures, eq-eqb _ _ (c .before .before .before .if1 .left))
           (ap (loaded checked) (sym (cond-no (eqb (checked .number) 0) (storeFrom (now (at .tape)) (now (at .memory))) (now (at .memory)) (ne-eqb (checked .number) 0 refused)))),
       sums-kept 0 (now (at .sums)) (now (at .memory)) words,

@@ -4,8 +4,8 @@ use lib.ListN.{length}
 use denote.Ref.{now}
 use native.Mathlib.Omega.{arith}
 use Rattle.bits.proofs.Cond.{cond-yes, cond-no}
-use Rattle.page_sums.specs.PageSums.{pageListRefused}
-use Rattle.page_sums.proofs.Sums.{Words, sums-kept}
+use Rattle.page_sums.specs.PageSums.{pageListRefused, SixteenBits}
+use Rattle.page_sums.proofs.Sums.{sums-kept}
 use Rattle.tape.specs.Tapes.{loadResult, loaded, loadOf, loadWithSumsOf}
 use borrow.Author.Needs.{needs}
 use Rattle.tape.proofs.load_with_sums.Statement.{statement}
@@ -22,7 +22,7 @@ returns c =
     let sums = now (at .sums) in
     let told : c .before .page-list-refused .result ≡ pageListRefused (length memory) (length sums) = c .before .page-list-refused .ensures in
     let wrong : pageListRefused (length memory) (length sums) ≡ true = sym told ∙ c .if1 .taken in
-    let words : Words sums = λ p. omega (arith, c .before .before .slice-known2 .given p) in
+    let words : SixteenBits sums = λ p. omega (arith, c .before .before .slice-known2 .given p) in
     (sym (cond-yes _ (loaded (loadResult 13 0) memory) (loadOf (now (at .tape)) memory) wrong), sums-kept 0 sums memory words)
 
 load-into-requires : tie.Need-load-into-requires

@@ -1,7 +1,7 @@
 use Rattle.tape.proofs.TapeLaws.{store-end, store-skip, store-last, store-on, data-fits}
 use Rattle.tape.specs.Tapes.{storeFrom}
-use Rattle.page_sums.specs.PageSums.{sumsAfter}
-use Rattle.page_sums.proofs.Sums.{Words, sums-length, sums-kept, sums-then}
+use Rattle.page_sums.specs.PageSums.{sumsAfter, SixteenBits}
+use Rattle.page_sums.proofs.Sums.{sums-length, sums-kept, sums-then}
 use denote.Ref.{now}
 use lib.ListN.{length, drop}
 use Prim.Native.Nat.{_-_}
@@ -22,7 +22,7 @@ abbrev μ-loop : tie.MeasureT-loop
 loop-holds : tie.Need-loop-holds Inv-loop μ-loop
 loop-holds c =
     let at = c .before .before .before .args in
-    let words : Words (now (at .sums)) = λ p. omega (arith, c .slice-known2 .given p) in
+    let words : SixteenBits (now (at .sums)) = λ p. omega (arith, c .slice-known2 .given p) in
     (refl, refl, sums-kept 0 (now (at .sums)) (now (at .memory)) words)
 
 shared-slice-read-if1 : tie.Need-shared-slice-read-if1 Inv-loop μ-loop

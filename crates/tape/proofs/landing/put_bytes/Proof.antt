@@ -2,8 +2,8 @@ use Rattle.tape.proofs.MemoryLaws.{put-first, put-on, put-end}
 use Rattle.tape.specs.Tapes.{putFrom}
 use Rattle.tape.specs.Digits.{bytesOf}
 use Rattle.memory.specs.Memory.{registerEnd}
-use Rattle.page_sums.specs.PageSums.{sumsAfterPart}
-use Rattle.page_sums.proofs.Sums.{Words, sums-length, sums-kept, sums-then}
+use Rattle.page_sums.specs.PageSums.{sumsAfterPart, SixteenBits}
+use Rattle.page_sums.proofs.Sums.{sums-length, sums-kept, sums-then}
 use denote.Ref.{now}
 use lib.ListN.{length, drop}
 use Prim.Native.Nat.{_*_, _/_, _-_, _≤_, _<_}
@@ -30,7 +30,7 @@ loop-holds : tie.Need-loop-holds Inv-loop μ-loop
 loop-holds c =
     let at = c .before .before .before .before .args in
     let low = c .dropped .ensures in
-    let words : Words (now (at .sums)) = λ p. omega (arith, c .before .before .slice-known2 .given p) in
+    let words : SixteenBits (now (at .sums)) = λ p. omega (arith, c .before .before .slice-known2 .given p) in
     (refl, omega (arith, low), rw low (put-first (registerEnd - at .address) (now (at .digits)) (now (at .part))), sums-kept (at .address) (now (at .sums)) (now (at .part)) words)
 
 mul-byte : tie.Need-mul-byte Inv-loop μ-loop
@@ -51,8 +51,8 @@ shared-slice-read-byte-2 c = omega arith
 byte-requires : tie.Need-byte-requires Inv-loop μ-loop
 byte-requires c κs = search needs
 
-put-byte-requires : tie.Need-put-byte-requires Inv-loop μ-loop
-put-byte-requires c κs =
+commit-byte-requires : tie.Need-commit-byte-requires Inv-loop μ-loop
+commit-byte-requires c κs =
     let start = c .before .before .before .before .before .before .before .before .before .before .before in
     let loop = c .before .before .before .before .before .before .loop in
     let test = c .before .before .before .before .before .loop-test .taken in
@@ -70,7 +70,7 @@ loop-again c =
     let at = c .before .before .before .before .before .before .before .before .before .before .before .before .before .before .before .before .args in
     let loop = c .before .before .before .before .before .before .before .before .before .before .before .loop in
     let test = c .before .before .before .before .before .before .before .before .before .before .loop-test .taken in
-    let put = c .before .before .before .before .put-byte in
+    let put = c .before .before .before .before .commit-byte in
     let low = registerEnd - at .address in (
       put .kept .0 ∙ loop .inv .0,
       omega (arith, loop .inv .1),
@@ -93,8 +93,8 @@ returns c =
     let loop = c .before .loop in
     (sym (put-end (registerEnd - at .address) (now (at .digits)) (loop .k) (loop .part) (c .loop-test .left)) ∙ loop .inv .2, loop .inv .3)
 
-pub put-bytes-spec : {M : Type 1} → statement M
-put-bytes-spec =
+pub commit-bytes-spec : {M : Type 1} → statement M
+commit-bytes-spec =
     tie.close
     (tie.spec
     Inv-loop
@@ -107,7 +107,7 @@ put-bytes-spec =
     add-byte
     shared-slice-read-byte-2
     byte-requires
-    put-byte-requires
+    commit-byte-requires
     add-k
     loop-less
     loop-again

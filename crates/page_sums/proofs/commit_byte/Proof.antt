@@ -1,13 +1,13 @@
-use Rattle.page_sums.proofs.Sums.{Words, byte-put}
-use Rattle.page_sums.specs.PageSums.{pageOf, sumChanged, sumAt}
+use Rattle.page_sums.proofs.Sums.{byte-summed}
+use Rattle.page_sums.specs.PageSums.{pageOf, sumChanged, sumAt, SixteenBits}
 use mathlib.Core.Path.{_≡_, refl, _∙_}
 use Prim.Native.Nat.{_+_}
 use lib.ListN.{getD, set}
 use denote.Ref.{now}
 use native.Mathlib.Omega.{arith}
 use borrow.Author.Needs.{needs}
-use Rattle.page_sums.proofs.put_byte.Statement.{statement}
-use Rattle.page_sums.proofs.put_byte.Tie as tie
+use Rattle.page_sums.proofs.commit_byte.Statement.{statement}
+use Rattle.page_sums.proofs.commit_byte.Tie as tie
 
 add-change-sum : tie.Need-add-change-sum
 add-change-sum c = search needs
@@ -33,12 +33,12 @@ returns c =
     let at = start .args in
     let sums = now (at .sums) in
     let page = pageOf (at .address + at .k) in
-    let words : Words sums = λ p. omega (arith, c .before .before .before .before .before .slice-known2 .given p) in
+    let words : SixteenBits sums = λ p. omega (arith, c .before .before .before .before .before .slice-known2 .given p) in
     let put : c .before .before .change-sum .last .0 ≡ set sums page (sumChanged (sumAt sums page) (getD (now (at .part)) (at .k) 0) (at .value)) = c .before .before .change-sum .ensures in
-    (refl, put ∙ byte-put (at .address) (at .k) (at .value) sums (now (at .part)) words (start .pre .0))
+    (refl, put ∙ byte-summed (at .address) (at .k) (at .value) sums (now (at .part)) words (start .pre .0))
 
-pub put-byte-spec : {M : Type 1} → statement M
-put-byte-spec =
+pub commit-byte-spec : {M : Type 1} → statement M
+commit-byte-spec =
     tie.close
     (tie.spec
     add-change-sum
