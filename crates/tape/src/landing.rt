@@ -22,7 +22,7 @@ fn dropped(address: usize) -> usize
 
 // The byte writer: the bytes of the digits from the start of a part of memory on, which starts at `address`, and into
 // the page sums; those that are dropped come first.
-fn commit_bytes(part: &mut [u8], address: usize, sums: &mut [u16], digits: &[u8])
+fn put_bytes(part: &mut [u8], address: usize, sums: &mut [u16], digits: &[u8])
     requires { ⌜ (length (now digits) ≤ 2 * length (now part)) × (address + length (now part) < 2 ^ 64) ⌝ }
     ensures { λ _. ⌜ now (part .exit)
         ≡ putFrom (registerEnd - address) 0 (bytesOf (now (digits .entry))) (now (part .entry)) ⌝ }
@@ -49,5 +49,5 @@ pub fn land(memory: &mut [u8], sums: &mut [u16], address: usize, digits: &[u8])
         ≡ putFrom registerEnd address (bytesOf (now (digits .entry))) (now (memory .entry)) ⌝ }
     ensures { λ _. ⌜ now (sums .exit) ≡ sumsAfter (now (sums .entry)) (now (memory .entry)) (now (memory .exit)) ⌝ }
 {
-    commit_bytes(&mut memory[address..], address, sums, digits);
+    put_bytes(&mut memory[address..], address, sums, digits);
 }

@@ -15,8 +15,8 @@ part-put-bytes-start c = search needs
 part-put-bytes-end : tie.Need-part-put-bytes-end
 part-put-bytes-end c = search needs
 
-commit-bytes-requires : tie.Need-commit-bytes-requires
-commit-bytes-requires c κs = search needs
+put-bytes-requires : tie.Need-put-bytes-requires
+put-bytes-requires c κs = search needs
 
 same-length : tie.Need-same-length
 same-length c = search needs
@@ -28,7 +28,7 @@ returns : tie.Need-returns
 returns c =
     let start = c .before .before .before .before .before .before .before .before .before .before in
     let at = start .args in
-    let put = c .before .before .before .before .commit-bytes in
+    let put = c .before .before .before .before .put-bytes in
     let back = put-back (at .address) (now (at .memory)) (put .last .0) (start .pre .0) registerEnd (bytesOf (now (at .digits))) (put .ensures .0) in
     (back, sums-back (at .address) (now (at .memory)) (put .last .0) (start .pre .0) (now (at .sums)) (put .last .1 .1 .0) (put .ensures .1))
 
@@ -39,7 +39,7 @@ land-spec =
     sub-put-bytes
     part-put-bytes-start
     part-put-bytes-end
-    commit-bytes-requires
+    put-bytes-requires
     same-length
     same-length-2
     returns)

@@ -93,8 +93,8 @@ returns c =
     let loop = c .before .loop in
     (sym (put-end (registerEnd - at .address) (now (at .digits)) (loop .k) (loop .part) (c .loop-test .left)) ∙ loop .inv .2, loop .inv .3)
 
-pub commit-bytes-spec : {M : Type 1} → statement M
-commit-bytes-spec =
+pub put-bytes-spec : {M : Type 1} → statement M
+put-bytes-spec =
     tie.close
     (tie.spec
     Inv-loop
