@@ -60,7 +60,7 @@ use Rattle.cpu_operations.specs.Effects.{withPc, withSp, withStatus, intoA, int
 use Rattle.cpu_operations.specs.Kinds.{withRead, changedBy, byteToStore, byteToPush, withPulled, withRegister}
 use Rattle.cpu_operations.specs.Operations.{accessOf, isCall, workOf}
 use Rattle.cpu.specs.declared.Outcome.{Outcome}
-use Rattle.cpu.specs.declared.Outcome.the-variants.{Undefined, Asked, Done}
+use Rattle.cpu.specs.declared.Outcome.the-variants.{Stopped, Asked, Done}
 use Rattle.cpu.specs.Entries.{resetEntry, interruptEntry}
 use Rattle.cpu.specs.Instruction.{askWith, outcomeOf, operandByte, operandOf, carriedOut, writesAsked, callTo, subroutineCall, executeOf, decodedTo, instructionOf}
 
@@ -333,7 +333,7 @@ pushed-fits o r v h i =
 
 -- what is done is in range; a question says nothing of registers
 abbrev pub DoneFits : Outcome → Type 0
-DoneFits Undefined = Unit
+DoneFits (Stopped number) = Unit
 DoneFits (Asked q) = Unit
 DoneFits (Done w) = WorkedFits w
 

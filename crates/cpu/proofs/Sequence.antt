@@ -48,9 +48,9 @@ use Rattle.cpu_operations.specs.Effects.{pushesOf, waitingOf, executed, quiet, 
 use Rattle.cpu_operations.specs.Operations.{accessOf, workOf}
 use Rattle.cpu.specs.declared.Ask.{Ask}
 use Rattle.cpu.specs.declared.Outcome.{Outcome}
-use Rattle.cpu.specs.declared.Outcome.the-variants.{Undefined, Asked, Done}
+use Rattle.cpu.specs.declared.Outcome.the-variants.{Stopped, Asked, Done}
 use Rattle.cpu.specs.Instruction.{askWith, outcomeOf, operandByte, operandOf, carriedOut, writesAsked, callTo, subroutineCall, executeOf, decodedTo, instructionOf}
-use Rattle.cpu.specs.Sequence.{Conclusion, Ending, undefined, leaves, conclusion, completion, storeAt, storeBack, modifyAccesses, branchOn, bitBranchAccesses, jumpTo, pushAccesses, pullAccesses, returnAccesses, interruptReturnAccesses, entryAccesses, breakAccesses, callAccesses, pastOperand, operationAccesses, opcodeAccesses, instructionAccesses}
+use Rattle.cpu.specs.Sequence.{Conclusion, Ending, undefined, leaves, undefinedStop, conclusion, completion, storeAt, storeBack, modifyAccesses, branchOn, bitBranchAccesses, jumpTo, pushAccesses, pullAccesses, returnAccesses, interruptReturnAccesses, entryAccesses, breakAccesses, callAccesses, pastOperand, operationAccesses, opcodeAccesses, instructionAccesses}
 
 -- What was asked, or how it ended, as the code has it. Of an instruction that pushes and stores the code has no words,
 -- and there is none: four pushes stand for it, and no instruction has so many (`done-fits`).
@@ -79,7 +79,7 @@ workedOf l pushes = record { registers = l .registers; written = writtenAs (l .w
 
 abbrev pub outcomeFrom : Reply Ending → Outcome
 outcomeFrom (asks latch a ws) = Asked (record { address = a; latch = latch; writes = inOrder ws })
-outcomeFrom (over undefined ws) = Undefined
+outcomeFrom (over undefined ws) = Stopped undefinedStop
 outcomeFrom (over (leaves l) ws) = Done (workedOf l ws)
 
 abbrev left : Accesses Conclusion → Accesses Ending

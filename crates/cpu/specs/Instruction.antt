@@ -20,7 +20,7 @@ use Rattle.cpu_access.specs.Stack.{noWrites, down, pushWord, readAfter}
 use Rattle.cpu_access.specs.Modes.{locateOf}
 use Rattle.cpu.specs.declared.Ask.{Ask}
 use Rattle.cpu.specs.declared.Outcome.{Outcome}
-use Rattle.cpu.specs.declared.Outcome.the-variants.{Undefined, Asked, Done}
+use Rattle.cpu.specs.declared.Outcome.the-variants.{Stopped, Asked, Done}
 use Rattle.cpu_operations.specs.declared.Written.the-variants.{Pushed}
 use Rattle.cpu_operations.specs.declared.Operand.{Operand}
 use Rattle.cpu_operations.specs.declared.Executed.{Executed}
@@ -28,6 +28,7 @@ use Rattle.cpu_operations.specs.declared.Access.{Access}
 use Rattle.cpu_operations.specs.declared.Access.the-variants.{Nothing, Read, Modify, Call}
 use Rattle.cpu_operations.specs.Effects.{withSp, withPc, executed}
 use Rattle.cpu_operations.specs.Operations.{accessOf, isCall, workOf}
+use Rattle.cpu.specs.Sequence.{undefinedStop}
 
 -- what is asked, with the writes that were made before
 abbrev pub askWith : Writes → Bus → Ask
@@ -88,7 +89,7 @@ executeOf answers memory e r b =
     cond (isCall (accessOf (e .operation))) (subroutineCall answers memory r (e .length) b) (outcomeOf noWrites (carriedOut answers memory e r b))
 
 abbrev pub decodedTo : List ℕ → List ℕ → CpuRegisters → Bus → Decoded → Outcome
-decodedTo answers memory r b decoded.Undefined = Undefined
+decodedTo answers memory r b decoded.Undefined = Stopped undefinedStop
 decodedTo answers memory r b (decoded.Defined e) = executeOf answers memory e r b
 
 -- an opcode that has to be asked for is no opcode yet

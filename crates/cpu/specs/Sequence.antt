@@ -35,6 +35,10 @@ pub data Ending : Type 0 where
   undefined : Ending
   leaves : Conclusion → Ending
 
+-- 01, What is handed back: "6 | the next clock would start an undefined opcode"
+abbrev pub undefinedStop : ℕ
+undefinedStop = 6
+
 abbrev pub conclusion : CpuRegisters → ℕ → Conclusion
 conclusion r n = record { registers = r; waiting = Nothing; clocks = n }
 

@@ -33,8 +33,12 @@ pub struct Ask {
     pub writes: Writes,
 }
 
+// The next clock would start an undefined opcode.
+pub const UNDEFINED: u8 = 6;
+
+// What an instruction comes to: the number of a stop, a question, or its end.
 pub enum Outcome {
-    Undefined,
+    Stopped(u8),
     Asked(Ask),
     Done(Worked),
 }
@@ -175,7 +179,7 @@ fn instruction(registers: CpuRegisters, answers: &[u8], memory: &[u8], entries: 
     }
     let decoded = cpu_opcodes::decode_in(entries, opcode.value);
     let Decoded::Defined(entry) = decoded else {
-        return Outcome::Undefined;
+        return Outcome::Stopped(UNDEFINED);
     };
     execute(
         answers,

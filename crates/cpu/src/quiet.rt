@@ -22,7 +22,7 @@ pub struct Work {
 }
 
 // Where the instructions that write nothing end, and the outcome of the one that comes next.
-pub struct Stopped {
+pub struct QuietEnd {
     pub at: Work,
     pub outcome: Outcome,
 }
@@ -49,7 +49,7 @@ pub fn run_instructions(
     answers: &[u8],
     memory: &[u8],
     entries: &[u16],
-) -> Stopped
+) -> QuietEnd
     requires { ⌜ WithinSpan start (span .0) ⌝ }
     requires { ⌜ now entries ≡ opcodeTable ⌝ }
     ensures { λ r. ⌜ Quietly (span .0) (now (answers .entry)) (now (memory .entry)) start (r .at) ⌝ }
@@ -59,14 +59,14 @@ pub fn run_instructions(
     loop {
         let outcome = instruction(at.registers, answers, memory, entries);
         match outcome {
-            Outcome::Undefined => {
-                return Stopped {
+            Outcome::Stopped(number) => {
+                return QuietEnd {
                     at: at,
-                    outcome: Outcome::Undefined,
+                    outcome: Outcome::Stopped(number),
                 };
             }
             Outcome::Asked(ask) => {
-                return Stopped {
+                return QuietEnd {
                     at: at,
                     outcome: Outcome::Asked(ask),
                 };
@@ -74,7 +74,7 @@ pub fn run_instructions(
             Outcome::Done(worked) => {
                 let written = worked.written;
                 if (span.0 - at.gone.0 <= at.wait as u32) | !writes_nothing(written) {
-                    return Stopped {
+                    return QuietEnd {
                         at: at,
                         outcome: Outcome::Done(worked),
                     };

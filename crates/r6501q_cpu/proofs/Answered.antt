@@ -26,11 +26,11 @@ use Rattle.cpu.specs.Entries.{resetEntry, interruptEntry}
 use Rattle.cpu.specs.declared.Outcome.{Outcome}
 use Rattle.cpu.specs.declared.Outcome.the-variants as outcome
 use Rattle.cpu.specs.Instruction.{instructionOf}
-use Rattle.cpu.specs.Sequence.{Conclusion, Ending, undefined, leaves, entryAccesses, instructionAccesses, resetAccesses, interruptAccesses}
+use Rattle.cpu.specs.Sequence.{Conclusion, Ending, undefined, leaves, undefinedStop, entryAccesses, instructionAccesses, resetAccesses, interruptAccesses}
 use Rattle.cpu.proofs.Laws.{done-fits, asked-writes, asks-end}
 use Rattle.cpu.proofs.Sequence.{pushes-as, waiting-as, workedOf, outcomeFrom, unpushed, instruction-asked}
 use Rattle.r6501q_cpu.specs.declared.Processed.{Processed}
-use Rattle.r6501q_cpu.specs.declared.Processed.the-variants.{Undefined, Done}
+use Rattle.r6501q_cpu.specs.declared.Processed.the-variants.{Stopped, Done}
 use Rattle.r6501q_cpu.specs.declared.Turn.the-variants.{Over, Answered}
 use Rattle.r6501q_cpu.specs.Processor.{registersOf, registerFile, performedIn, nextAfter, processedBy, processedAfter, wholeInstruction, resetStart, nmiStart, irqStart}
 use Rattle.r6501q_cpu.specs.Asking.{putRegister, registersAfter, answerOf, nextOf, turnBy, turnOf, instructionFrom, answeredInstruction}
@@ -64,23 +64,23 @@ module _ (s : State) (memory : List ℕ) where
   turn-at p answers x e = ap (turnBy s p) (outcome-at answers x e)
 
   over-from : (n : ℕ) (p : Peripherals) (answers : List ℕ) (x : Ending) (ws : List Write) → turn answers ≡ over x ws
-      → instructionFrom Undefined (suc n) s p answers memory ≡ processedBy s (allWritten file p ws) ws x
+      → instructionFrom (Stopped undefinedStop) (suc n) s p answers memory ≡ processedBy s (allWritten file p ws) ws x
   over-from n p answers undefined ws e =
-      turn-over Undefined s p answers memory (suc n) _ (omega arith) (turn-at p answers (over undefined ws) e)
+      turn-over (Stopped undefinedStop) s p answers memory (suc n) _ (omega arith) (turn-at p answers (over undefined ws) e)
   over-from n p answers (leaves l) ws e =
       let fits = done-fits registers answers memory (workedOf l ws) (outcome-at answers (over (leaves l) ws) e) in
       let pushes = pushes-as (l .waiting) ws (fits .writes) in
       let few : inOrder ws .count ≤ 3 = rw pushes at (fits .writes) in
-      turn-over Undefined s p answers memory (suc n) _ (omega arith) (turn-at p answers (over (leaves l) ws) e)
+      turn-over (Stopped undefinedStop) s p answers memory (suc n) _ (omega arith) (turn-at p answers (over (leaves l) ws) e)
       ∙ rw (waiting-as (l .waiting) ws (fits .writes), pushes, all-after (s .last .ports) p ws few) refl
 
   asks-from : (n : ℕ) (p : Peripherals) (answers : List ℕ) (latch : Bool) (a : ℕ) (ws : List Write) → turn answers ≡ asks latch a ws
-      → instructionFrom Undefined (suc n) s p answers memory
-      ≡ instructionFrom Undefined n s (afterRead p a) (answers ++ (registerValue (allWritten file p ws) (s .last .ports) latch a ∷ [])) memory
+      → instructionFrom (Stopped undefinedStop) (suc n) s p answers memory
+      ≡ instructionFrom (Stopped undefinedStop) n s (afterRead p a) (answers ++ (registerValue (allWritten file p ws) (s .last .ports) latch a ∷ [])) memory
   unfolding answerOf
   asks-from n p answers latch a ws e =
       let few = asked-writes registers answers memory _ (outcome-at answers (asks latch a ws) e) in
-      turn-answered Undefined s p answers memory (suc n) n _ refl (turn-at p answers (asks latch a ws) e)
+      turn-answered (Stopped undefinedStop) s p answers memory (suc n) n _ refl (turn-at p answers (asks latch a ws) e)
       ∙ rw (all-after (s .last .ports) p ws few) refl
 
   bound : (answers : List ℕ) (latch : Bool) (a : ℕ) (ws : List Write) → turn answers ≡ asks latch a ws → length answers < 5
@@ -95,7 +95,7 @@ module _ (s : State) (memory : List ℕ) where
   pub instruction-answered : wholeInstruction s memory ≡ answeredInstruction s memory
   unfolding wholeInstruction answeredInstruction allWritten
   instruction-answered =
-      sym (performs file read-write-commute memory turn (λ n p answers. instructionFrom Undefined n s p answers memory) (processedAfter s) 5
+      sym (performs file read-write-commute memory turn (λ n p answers. instructionFrom (Stopped undefinedStop) n s p answers memory) (processedAfter s) 5
       over-from asks-from bound (instructionAccesses registers) 5 (s .peripherals) [] [] (omega arith) (λ more. refl))
 
   -- ---- the entries

@@ -11,9 +11,10 @@ use Rattle.cpu.specs.declared.Ask.{Ask}
 use Rattle.cpu.specs.declared.Outcome.{Outcome}
 use Rattle.cpu.specs.declared.Outcome.the-variants as outcome
 use Rattle.cpu.specs.Instruction.{instructionOf}
+use Rattle.cpu.specs.Sequence.{undefinedStop}
 use Rattle.cpu.proofs.Laws.{asks-end}
 use Rattle.r6501q_cpu.specs.declared.Processed.{Processed}
-use Rattle.r6501q_cpu.specs.declared.Processed.the-variants.{Undefined}
+use Rattle.r6501q_cpu.specs.declared.Processed.the-variants.{Stopped}
 use Rattle.r6501q_cpu.specs.declared.Turn.{Turn}
 use Rattle.r6501q_cpu.specs.declared.Turn.the-variants.{Over, Answered}
 use Rattle.r6501q_cpu.specs.Processor.{registersOf}
@@ -41,7 +42,7 @@ module _ (s : State) (p : Peripherals) (answers memory : List ℕ) (goOn goOn' :
     where
       by-outcome : (o : Outcome) → instructionOf (registersOf (s .cpu)) answers memory ≡ o
           → turned goOn (turnBy s p o) ≡ turned goOn' (turnBy s p o)
-      by-outcome outcome.Undefined e = refl
+      by-outcome (outcome.Stopped number) e = refl
       by-outcome (outcome.Asked q) e = same q _ e
       by-outcome (outcome.Done w) e = refl
 
@@ -60,4 +61,4 @@ pub bound-unmet :
     (spent : Processed) (k : ℕ) (s : State) (memory : List ℕ) → instructionFrom spent (6 + k) s (s .peripherals) [] memory ≡ answeredInstruction s memory
 unfolding answeredInstruction
 bound-unmet spent k s memory =
-    let e : 6 + k ≡ suc (5 + k) = omega arith in rw e (more-turns spent Undefined k 5 s (s .peripherals) [] memory (omega arith))
+    let e : 6 + k ≡ suc (5 + k) = omega arith in rw e (more-turns spent (Stopped undefinedStop) k 5 s (s .peripherals) [] memory (omega arith))

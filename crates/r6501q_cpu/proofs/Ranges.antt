@@ -37,10 +37,11 @@ use Rattle.cpu.specs.declared.Outcome.the-variants as outcome
 use Rattle.cpu.specs.Entries.{resetEntry, interruptEntry}
 use Rattle.cpu_access.specs.Bus.{nmiVector, irqVector}
 use Rattle.cpu.specs.Instruction.{instructionOf}
+use Rattle.cpu.specs.Sequence.{undefinedStop}
 use Rattle.cpu.proofs.Laws.{Fits, done-fits}
 use Rattle.r6501q_cpu.specs.declared.Next.{Next}
 use Rattle.r6501q_cpu.specs.declared.Processed.{Processed}
-use Rattle.r6501q_cpu.specs.declared.Processed.the-variants.{Undefined, Done}
+use Rattle.r6501q_cpu.specs.declared.Processed.the-variants.{Stopped, Done}
 use Rattle.r6501q_cpu.specs.declared.Turn.{Turn}
 use Rattle.r6501q_cpu.specs.Processor.{registersOf, cpuOf, irqDue, startOf, withoutWrites, waitLess, bytePut, waitedBy, processorOf}
 use Rattle.r6501q_cpu.specs.Asking.{putRegister, registersAfter, answerOf, nextOf, turnBy, turned, turnOf, instructionFrom, answeredInstruction}
@@ -99,7 +100,7 @@ interrupt-entry-fits memory vector r =
 
 -- of the end of a clock's CPU part, where there is one
 abbrev pub Ends : (Next → Type 0) → Processed → Type 0
-Ends P Undefined = Unit {0}
+Ends P (Stopped number) = Unit {0}
 Ends P (Done n) = P n
 
 -- What holds of the peripherals before, and after each read, and what follows of the state after an entry or an
@@ -113,11 +114,11 @@ module _ (s : State) (memory : List ℕ) (Q : Peripherals → Type 0) (P : Next 
   turn-ends p answers goOn q on = by-outcome (instructionOf (registersOf (s .cpu)) answers memory) refl
     where
       by-outcome : (o : Outcome) → instructionOf (registersOf (s .cpu)) answers memory ≡ o → Ends P (turned goOn (turnBy s p o))
-      by-outcome outcome.Undefined e = tt
+      by-outcome (outcome.Stopped number) e = tt
       by-outcome (outcome.Asked ask) e = on _ (reads p (ask .address) q)
       by-outcome (outcome.Done w) e = ends (s .due) p w q (done-fits (registersOf (s .cpu)) answers memory w e)
 
-  instruction-ends : (n : ℕ) (p : Peripherals) (answers : List ℕ) → Q p → Ends P (instructionFrom Undefined n s p answers memory)
+  instruction-ends : (n : ℕ) (p : Peripherals) (answers : List ℕ) → Q p → Ends P (instructionFrom (Stopped undefinedStop) n s p answers memory)
   unfolding instructionFrom
   instruction-ends zero p answers q = tt
   instruction-ends (suc n) p answers q =

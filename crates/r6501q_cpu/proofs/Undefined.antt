@@ -13,9 +13,9 @@ use Rattle.cpu_access.specs.declared.stack.Write.{Write}
 use Rattle.cpu_access.specs.Accesses.{Accesses, ends, reads, writes, _>>=_, RegisterFile, byteAfter, peripheralsRead, valueRead, performed}
 use Rattle.cpu_access.specs.Bus.{nextAddress}
 use Rattle.cpu_operations.specs.Effects.{withPc}
-use Rattle.cpu.specs.Sequence.{Conclusion, Ending, leaves, operationAccesses, opcodeAccesses, instructionAccesses}
+use Rattle.cpu.specs.Sequence.{Conclusion, Ending, leaves, undefinedStop, operationAccesses, opcodeAccesses, instructionAccesses}
 use Rattle.r6501q_cpu.specs.declared.Processed.{Processed}
-use Rattle.r6501q_cpu.specs.declared.Processed.the-variants.{Undefined, Done}
+use Rattle.r6501q_cpu.specs.declared.Processed.the-variants.{Stopped, Done}
 use Rattle.r6501q_cpu.specs.Processor.{registersOf, registerFile, processedBy, processedAfter, wholeInstruction, opcodeAt}
 
 -- an instruction after its opcode
@@ -30,7 +30,7 @@ unfolding wholeInstruction instructionAccesses performed valueRead byteAfter opc
 by-opcode s memory = refl
 
 -- an instruction whose opcode is undefined is undefined
-pub undefined-opcode : (s : State) (memory : List ℕ) → decodeOf (opcodeAt s memory) ≡ decoded.Undefined → wholeInstruction s memory ≡ Undefined
+pub undefined-opcode : (s : State) (memory : List ℕ) → decodeOf (opcodeAt s memory) ≡ decoded.Undefined → wholeInstruction s memory ≡ Stopped undefinedStop
 unfolding performed
 undefined-opcode s memory e = by-opcode s memory ∙ ap (decodedBy s memory) e
 
@@ -45,7 +45,7 @@ module _ {P : Type 0} (file : RegisterFile P) (memory : List ℕ) where
 
 -- what is not undefined
 abbrev Concluded : Processed → Type 0
-Concluded Undefined = ⊥
+Concluded (Stopped number) = ⊥
 Concluded (Done n) = Unit {0}
 
 concluded : (s : State) (p : Peripherals) (pushes : List Write) (x : Ending) (l : Conclusion) → x ≡ leaves l → Concluded (processedBy s p pushes x)
@@ -53,8 +53,8 @@ concluded s p pushes x l e = rw e tt
 
 -- an instruction whose opcode is defined is not undefined
 pub defined-opcode :
-    (s : State) (memory : List ℕ) (e : Entry) → decodeOf (opcodeAt s memory) ≡ decoded.Defined e → wholeInstruction s memory ≡ Undefined → ⊥
-defined-opcode s memory e defined same =
+    (s : State) (memory : List ℕ) (e : Entry) (number : ℕ) → decodeOf (opcodeAt s memory) ≡ decoded.Defined e → wholeInstruction s memory ≡ Stopped number → ⊥
+defined-opcode s memory e number defined same =
     let file = registerFile (s .last .ports) in
     let t = operationAccesses (e .operation) (e .mode) (e .length) (withPc (nextAddress (s .cpu .pc)) (registersOf (s .cpu))) in
     let done : Concluded (decodedBy s memory (decoded.Defined e)) = concluded s _ _ _ _ (ends-left file memory t (peripheralsRead file (s .peripherals) (s .cpu .pc)) []) in

@@ -19,9 +19,10 @@ use Rattle.cpu.specs.declared.Ask.{Ask}
 use Rattle.cpu.specs.declared.Outcome.{Outcome}
 use Rattle.cpu.specs.declared.Outcome.the-variants as outcome
 use Rattle.cpu.specs.Instruction.{instructionOf}
+use Rattle.cpu.specs.Sequence.{undefinedStop}
 use Rattle.r6501q_cpu.specs.declared.Next.{Next}
 use Rattle.r6501q_cpu.specs.declared.Processed.{Processed}
-use Rattle.r6501q_cpu.specs.declared.Processed.the-variants.{Undefined, Done}
+use Rattle.r6501q_cpu.specs.declared.Processed.the-variants.{Stopped, Done}
 use Rattle.r6501q_cpu.specs.declared.Turn.{Turn}
 use Rattle.r6501q_cpu.specs.declared.Turn.the-variants.{Over, Answered}
 use Rattle.r6501q_cpu.specs.Processor.{registersOf, cpuOf}
@@ -59,7 +60,7 @@ nextOf s due p w = record {
 
 -- what an instruction comes to with the answers so far: it is undefined, it is done, or it asks, and is answered
 abbrev pub turnBy : State → Peripherals → Outcome → Turn
-turnBy s p outcome.Undefined = Over Undefined
+turnBy s p (outcome.Stopped number) = Over (Stopped number)
 turnBy s p (outcome.Asked ask) = Answered (answerOf p (s .last .ports) ask)
 turnBy s p (outcome.Done w) = Over (Done (nextOf s (s .due) p w))
 
@@ -80,4 +81,4 @@ instructionFrom spent (suc n) s p answers memory =
 
 -- one whole instruction
 unfoldable pub answeredInstruction : State → List ℕ → Processed
-answeredInstruction s memory = instructionFrom Undefined 6 s (s .peripherals) [] memory
+answeredInstruction s memory = instructionFrom (Stopped undefinedStop) 6 s (s .peripherals) [] memory

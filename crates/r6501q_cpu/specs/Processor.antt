@@ -21,10 +21,10 @@ use Rattle.cpu_access.specs.Stack.{noWrites, oneWrite}
 use Rattle.cpu_access.specs.declared.waiting.Waiting.{Waiting}
 use Rattle.cpu_access.specs.declared.waiting.Waiting.the-variants.{Nothing, Byte}
 use Rattle.cpu_access.specs.Accesses.{Accesses, RegisterFile, Performed, peripheralsWritten, performed, inOrder}
-use Rattle.cpu.specs.Sequence.{Conclusion, Ending, undefined, leaves, instructionAccesses, resetAccesses, interruptAccesses}
+use Rattle.cpu.specs.Sequence.{Conclusion, Ending, undefined, leaves, undefinedStop, instructionAccesses, resetAccesses, interruptAccesses}
 use Rattle.r6501q_cpu.specs.declared.Next.{Next}
 use Rattle.r6501q_cpu.specs.declared.Processed.{Processed}
-use Rattle.r6501q_cpu.specs.declared.Processed.the-variants.{Undefined, Done}
+use Rattle.r6501q_cpu.specs.declared.Processed.the-variants.{Stopped, Done}
 
 -- the CPU's registers as the instruction has them: P as its flags
 abbrev pub registersOf : Cpu → CpuRegisters
@@ -75,7 +75,7 @@ nextAfter s due x = record {
 }
 
 abbrev pub processedBy : State → Peripherals → List Write → Ending → Processed
-processedBy s p pushes undefined = Undefined
+processedBy s p pushes undefined = Stopped undefinedStop
 processedBy s p pushes (leaves l) = Done (nextAfter s (s .due) (record { end = l; peripherals = p; writes = pushes }))
 
 abbrev pub processedAfter : State → Performed Peripherals Ending → Processed

@@ -7,6 +7,7 @@ ghost use Rattle.r6501q_cpu.specs.Processor.{registersOf, cpuOf, irqDue,
 ghost use Rattle.r6501q_cpu.specs.Asking.{putRegister, registersAfter, answerOf, nextOf, turnOf, instructionFrom, answeredInstruction};
 use cpu::Ask;
 use cpu::Outcome;
+use cpu::UNDEFINED;
 use cpu::entries::interrupt_entry;
 use cpu::entries::reset_entry;
 use cpu::quiet::one_outcome;
@@ -36,9 +37,9 @@ pub struct Next {
     pub writes: Writes,
 }
 
-// What the CPU's part of a clock comes to.
+// What the CPU's part of a clock comes to: the number of a stop, or the state after it.
 pub enum Processed {
-    Undefined,
+    Stopped(u8),
     Done(Next),
 }
 
@@ -146,7 +147,7 @@ fn take_turn(s: State, p: Peripherals, answers: &[u8], memory: &[u8], entries: &
 {
     let outcome = one_outcome(registers_of(s.cpu), answers, memory, entries);
     match outcome {
-        Outcome::Undefined => Turn::Over(Processed::Undefined),
+        Outcome::Stopped(number) => Turn::Over(Processed::Stopped(number)),
         Outcome::Asked(ask) => Turn::Answered(answer(p, s.last.ports, ask)),
         Outcome::Done(worked) => Turn::Over(Processed::Done(next_state(s, s.due, p, worked))),
     }
@@ -173,7 +174,7 @@ fn whole_instruction(s: State, memory: &[u8], entries: &[u16]) -> Processed
             }
         }
     }
-    Processed::Undefined
+    Processed::Stopped(UNDEFINED)
 }
 
 // Whether an interrupt request is taken.

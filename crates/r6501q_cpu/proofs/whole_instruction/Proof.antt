@@ -5,7 +5,8 @@ use native.Mathlib.Numerals.{add-one}
 use lib.ListN.{length, take, length-set}
 use lib.Seq.{length-take-le, take-suc-set}
 use borrow.Author.Needs.{needs}
-use Rattle.r6501q_cpu.specs.declared.Processed.the-variants.{Undefined}
+use Rattle.cpu.specs.Sequence.{undefinedStop}
+use Rattle.r6501q_cpu.specs.declared.Processed.the-variants.{Stopped}
 use Rattle.r6501q_cpu.specs.Asking.{instructionFrom, answeredInstruction}
 use Rattle.r6501q_cpu.proofs.Asks.{turn-over, turn-answered}
 use Rattle.r6501q_cpu.proofs.whole_instruction.Statement.{statement}
@@ -16,7 +17,7 @@ use Rattle.r6501q_cpu.proofs.take_turn.Reads as take-turn-reads
 
 abbrev Inv-loop : tie.InvT-loop
 Inv-loop s memory entries answers₀ peripherals₀ count₀ answers peripherals count =
-    (count ≤ 6) × (length answers ≡ 6) × (instructionFrom Undefined (6 - count) s peripherals (take count answers) memory ≡ answeredInstruction s memory)
+    (count ≤ 6) × (length answers ≡ 6) × (instructionFrom (Stopped undefinedStop) (6 - count) s peripherals (take count answers) memory ≡ answeredInstruction s memory)
 
 abbrev μ-loop : tie.MeasureT-loop
 μ-loop s memory entries answers₀ peripherals₀ count₀ answers peripherals count = 6 - count
