@@ -1,5 +1,5 @@
 -- What a clock that is done keeps, and the number of a clock that is not done.
-use mathlib.Core.Path.{_≡_, refl, sym, _∙_}
+use mathlib.Core.Path.{_≡_, refl, sym, subst, _∙_}
 use mathlib.Core.Bool.{Bool, true, false, cond, _&&_, not, false≢true}
 use mathlib.Core.List.{List}
 use Prim.Native.Nat.{ℕ, _+_}
@@ -12,15 +12,17 @@ use Rattle.r6501q_state.specs.State.{wellFormed}
 use Rattle.r6501q_state.specs.Pins.{drivenWord}
 use Rattle.cpu_access.specs.declared.stack.Write.{Write}
 use Rattle.cpu_access.specs.declared.stack.Writes.{Writes}
+use Rattle.cpu.specs.Sequence.{undefinedStop}
 use Rattle.r6501q_cpu.specs.declared.Next.{Next}
 use Rattle.r6501q_cpu.specs.declared.Processed.{Processed}
 use Rattle.r6501q_cpu.specs.declared.Processed.the-variants as processed
 use Rattle.r6501q_cpu.specs.Processor.{processorOf}
+use Rattle.r6501q_cpu.proofs.Undefined.{processor-stop}
 use Rattle.r6501q_cpu.proofs.Ranges.{Ends, processor-formed, processor-clock}
 use Rattle.r6501q_clock.specs.declared.Ended.{Ended}
 use Rattle.r6501q_clock.specs.declared.Clocked.{Clocked}
 use Rattle.r6501q_clock.specs.declared.Clocked.the-variants.{Stopped, Done}
-use Rattle.r6501q_clock.specs.Clock.{undefinedStop, fullStop, endedWith, finished, recorded, readyOf, clockOf}
+use Rattle.r6501q_clock.specs.Clock.{fullStop, endedWith, finished, recorded, readyOf, clockOf}
 use Rattle.r6501q_clock.specs.Commit.{putWrite, committed}
 use Rattle.r6501q_clock.proofs.Ranges.{ready-formed, ready-clock}
 
@@ -45,7 +47,7 @@ module _ (P : State → Type 0) where
     where
       by-processed : (x : Processed) → Ends (λ n. P (n .state)) x
           → Finishes (λ e. P (e .state) × (e .differs ≡ true → free ≡ true)) (recorded (drivenWord (s .peripherals)) free x)
-      by-processed processed.Undefined k = tt
+      by-processed (processed.Stopped number) k = tt
       by-processed (processed.Done next) k = finish-ends next _ _ free k
 
 -- "Clock plus 1"
@@ -55,7 +57,7 @@ done-clock s codes memory free e d =
     (rw d at m) .0
   where
     along : (x : Processed) → Ends (λ n. n .state .clock ≡ readyOf s codes .clock) x → Ends (λ n. n .state .clock ≡ s .clock + 1) x
-    along processed.Undefined h = tt
+    along (processed.Stopped number) h = tt
     along (processed.Done n) h = h ∙ ready-clock s codes
 
 -- a record that is put has room
@@ -65,7 +67,7 @@ done-room s codes memory free e d =
     (rw d at m) .1
   where
     nothing : (x : Processed) → Ends (λ n. Unit {0}) x
-    nothing processed.Undefined = tt
+    nothing (processed.Stopped number) = tt
     nothing (processed.Done n) = tt
 
 -- every field stays in its range
@@ -92,7 +94,7 @@ commit-length m w =
 pub stop-either : (P : ℕ → Type 0) → P undefinedStop → P fullStop → (s : State) (codes memory : List ℕ) (free : Bool) (number : ℕ)
     → clockOf s codes memory free ≡ Stopped number → P number
 unfolding clockOf finished
-stop-either P six seven s codes memory free number e = by-processed (processorOf (readyOf s codes) memory) e
+stop-either P six seven s codes memory free number e = by-processed (processorOf (readyOf s codes) memory) refl e
   where
     Stops : Clocked → Type 0
     Stops (Stopped k) = P k
@@ -105,9 +107,9 @@ stop-either P six seven s codes memory free number e = by-processed (processorOf
     by-stop : (x : Clocked) → Stops x → x ≡ Stopped number → P number
     by-stop x h q = rw q at h
 
-    by-processed : (x : Processed) → recorded (drivenWord (s .peripherals)) free x ≡ Stopped number → P number
-    by-processed processed.Undefined q = by-stop (Stopped undefinedStop) six q
-    by-processed (processed.Done next) q =
+    by-processed : (x : Processed) → processorOf (readyOf s codes) memory ≡ x → recorded (drivenWord (s .peripherals)) free x ≡ Stopped number → P number
+    by-processed (processed.Stopped k) p q = by-stop (Stopped k) (subst P (sym (processor-stop (readyOf s codes) memory k p)) six) q
+    by-processed (processed.Done next) p q =
         let word = drivenWord (next .state .peripherals) in
         let differs = not (eqb word (drivenWord (s .peripherals))) in
         by-stop (cond (differs && not free) (Stopped fullStop) (Done (endedWith next word differs))) (by-full (differs && not free) (endedWith next word differs)) q

@@ -87,11 +87,7 @@ workedState before s = withPeripherals s (worked (s .peripherals) before (s .las
 unfoldable pub readyOf : State → List ℕ → State
 readyOf s codes = workedState (s .last .ports) (sensed (inputsSet s codes))
 
--- 01, What is handed back: "6 | the next clock would start an undefined opcode", "7 | the next clock needs a record,
--- none free"
-abbrev pub undefinedStop : ℕ
-undefinedStop = 6
-
+-- 01, What is handed back: "7 | the next clock needs a record, none free"
 abbrev pub fullStop : ℕ
 fullStop = 7
 
@@ -110,9 +106,9 @@ finished next word differs free = cond (differs && not free) (Stopped fullStop) 
 abbrev pub comparedWith : ℕ → Bool → Next → ℕ → Clocked
 comparedWith before free next word = finished next word (not (eqb word before)) free
 
--- "6 before 7"
+-- "6 before 7": the CPU's one stop is that of an undefined opcode (`processedBy`)
 abbrev pub recorded : ℕ → Bool → Processed → Clocked
-recorded before free processed.Undefined = Stopped undefinedStop
+recorded before free (processed.Stopped number) = Stopped number
 recorded before free (processed.Done next) = comparedWith before free next (drivenWord (next .state .peripherals))
 
 -- 01, One clock, 1 to 5, given the codes of this clock's inputs and whether an output entry is free

@@ -4,7 +4,7 @@ ghost use mathlib.Core.Path.{_≡_};
 ghost use Prim.Native.Nat.{_<_};
 ghost use Rattle.cpu_opcodes.specs.Table.{opcodeTable};
 ghost use Rattle.refusals.specs.Refusals.{lastClock};
-ghost use Rattle.r6501q_clock.specs.Clock.{withInputs, countA, countB, sentBy, heardBy, worked, readyOf, undefinedStop, fullStop, finished, clockOf};
+ghost use Rattle.r6501q_clock.specs.Clock.{withInputs, countA, countB, sentBy, heardBy, worked, readyOf, fullStop, finished, clockOf};
 use counters::time::Ticks;
 use counters::time::ticks_of;
 use counters::time::toggles_output;
@@ -17,9 +17,6 @@ use r6501q_state::state::Peripherals;
 use r6501q_state::state::State;
 
 pub mod commit; // commit.rt: a clock's writes, put into memory
-
-// The next clock would start an undefined opcode.
-const UNDEFINED: u8 = 6;
 
 // The next clock needs a record, and no entry is free.
 const FULL: u8 = 7;
@@ -183,7 +180,7 @@ pub fn clock(s: State, codes: &[u8], memory: &[u8], free: bool, entries: &[u16])
     let before = s.peripherals.driven_word();
     let processed = r6501q_cpu::process(ready(s, codes), memory, entries);
     match processed {
-        Processed::Undefined => Clocked::Stopped(UNDEFINED),
+        Processed::Stopped(number) => Clocked::Stopped(number),
         Processed::Done(next) => {
             let word = next.state.peripherals.driven_word();
             finish(next, word, word != before, free)

@@ -23,12 +23,12 @@ process-requires : tie.Need-process-requires
 process-requires c κs = search needs
 
 -- src/lib.rt:60:33
-enum-told : tie.Need-enum-told
-enum-told c = search needs
-
--- src/lib.rt:61:25
 enum-known-processed : tie.Need-enum-known-processed
 enum-known-processed c = search needs
+
+-- src/lib.rt:61:25
+enum-known-processed-2 : tie.Need-enum-known-processed-2
+enum-known-processed-2 c = search needs
 
 -- src/lib.rt:62:17
 driven-word-requires-2 : tie.Need-driven-word-requires-2
@@ -41,12 +41,12 @@ finish-requires c κs = search needs
 -- src/lib.rt:52:1
 returns : tie.Need-returns
 unfolding clockOf
-returns c = rw (← (c .before .before .before .before .driven-word .ensures), ← (c .before .before .before .ready .ensures), ← (c .before .before .process .ensures), c .enum-told .given .1) refl
+returns c = rw (← (c .before .before .before .before .before .driven-word .ensures), ← (c .before .before .before .before .ready .ensures), ← (c .before .before .before .process .ensures), c .before .processed .given .1) refl
 
 -- src/lib.rt:52:1
 returns-2 : tie.Need-returns-2
 unfolding clockOf
-returns-2 c = c .finish .ensures ∙ rw (c .before .driven-word2 .ensures, ← (c .before .before .before .before .before .before .before .driven-word .ensures), ← (c .before .before .before .before .before .before .ready .ensures), ← (c .before .before .before .before .before .process .ensures), c .before .before .before .processed .given .1) refl
+returns-2 c = c .finish .ensures ∙ rw (c .before .driven-word2 .ensures, ← (c .before .before .before .before .before .before .before .driven-word .ensures), ← (c .before .before .before .before .before .before .ready .ensures), ← (c .before .before .before .before .before .process .ensures), c .before .before .before .processed2 .given .1) refl
 
 pub clock-spec : {M : Type 1} → statement M
 clock-spec =
@@ -55,8 +55,8 @@ clock-spec =
     driven-word-requires
     ready-requires
     process-requires
-    enum-told
     enum-known-processed
+    enum-known-processed-2
     driven-word-requires-2
     finish-requires
     returns
