@@ -64,7 +64,7 @@ work-either halt span w memory P room none next = by-test (leb (span - w .gone .
     by-writes worked inside e false q = next worked inside e q
 
     by-outcome : (o : Outcome) → w .gone .0 + w .wait < span → instructionOf (w .registers) [] memory ≡ o → P (workBy halt w o) (memoryBy halt memory o)
-    by-outcome outcome.Undefined inside e = none
+    by-outcome (outcome.Stopped number) inside e = none
     by-outcome (outcome.Asked ask) inside e = none
     by-outcome (outcome.Done worked) inside e = by-writes worked inside e (endsSpan halt (pushesOf (worked .written))) refl
 

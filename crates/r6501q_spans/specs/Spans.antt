@@ -20,7 +20,7 @@ use Rattle.memory.specs.Memory.{isRegister}
 use Rattle.cpu_operations.specs.declared.Worked.{Worked}
 use Rattle.cpu_operations.specs.Effects.{pushesOf, waitingOf}
 use Rattle.cpu.specs.declared.Outcome.{Outcome}
-use Rattle.cpu.specs.declared.Outcome.the-variants.{Undefined, Asked, Done}
+use Rattle.cpu.specs.declared.Outcome.the-variants.{Stopped, Asked, Done}
 use Rattle.cpu.specs.declared.quiet.Work.{Work}
 use Rattle.cpu.specs.Instruction.{instructionOf}
 use Rattle.cpu.specs.Quiet.{nextWork, Quietly}
@@ -90,12 +90,12 @@ committedBy halt memory worked =
 
 -- with no answer about a register: an instruction that asks for one, or is undefined, is left to the clock's own rules
 abbrev pub workBy : Halt → Work → Outcome → Working
-workBy halt w Undefined = noneWaiting w
+workBy halt w (Stopped number) = noneWaiting w
 workBy halt w (Asked ask) = noneWaiting w
 workBy halt w (Done worked) = continuedBy halt w worked
 
 abbrev pub memoryBy : Halt → List ℕ → Outcome → List ℕ
-memoryBy halt memory Undefined = memory
+memoryBy halt memory (Stopped number) = memory
 memoryBy halt memory (Asked ask) = memory
 memoryBy halt memory (Done worked) = committedBy halt memory worked
 

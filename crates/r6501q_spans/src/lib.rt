@@ -164,7 +164,7 @@ fn work_instructions(
     }
     let outcome = stopped.outcome;
     match outcome {
-        Outcome::Undefined => none_waiting(at),
+        Outcome::Stopped(_) => none_waiting(at),
         Outcome::Asked(_) => none_waiting(at),
         Outcome::Done(worked) => continue_work(at, worked, memory, sums, halt),
     }

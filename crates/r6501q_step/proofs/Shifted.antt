@@ -63,7 +63,7 @@ module _ (k : ℕ) where
   shiftedNext n = record { state = shiftedState k (n .state); writes = n .writes }
 
   abbrev shiftedProcessed : Processed → Processed
-  shiftedProcessed processed.Undefined = processed.Undefined
+  shiftedProcessed (processed.Stopped number) = processed.Stopped number
   shiftedProcessed (processed.Done n) = processed.Done (shiftedNext n)
 
   instruction-shifted : (s : State) (memory : List ℕ)
@@ -106,7 +106,7 @@ module _ (k : ℕ) where
       → clockOutcome halt memory (recorded before free (shiftedProcessed x))
       ≡ shiftedOutcome shiftedState k (clockOutcome halt memory (recorded before free x))
   unfolding finished
-  recorded-shifted halt memory before free processed.Undefined = refl
+  recorded-shifted halt memory before free (processed.Stopped number) = refl
   recorded-shifted halt memory before free (processed.Done n) =
       let word = drivenWord (n .state .peripherals) in
       by-test word (not (eqb word before)) (not (eqb word before) && not free)
