@@ -21,6 +21,7 @@ use Rattle.cpu_access.specs.Modes.{locateOf}
 use Rattle.cpu.specs.declared.Ask.{Ask}
 use Rattle.cpu.specs.declared.Outcome.{Outcome}
 use Rattle.cpu.specs.declared.Outcome.the-variants.{Stopped, Asked, Done}
+use Rattle.cpu.specs.Sequence.{undefinedStop}
 use Rattle.cpu_operations.specs.declared.Written.the-variants.{Pushed}
 use Rattle.cpu_operations.specs.declared.Operand.{Operand}
 use Rattle.cpu_operations.specs.declared.Executed.{Executed}
@@ -28,7 +29,6 @@ use Rattle.cpu_operations.specs.declared.Access.{Access}
 use Rattle.cpu_operations.specs.declared.Access.the-variants.{Nothing, Read, Modify, Call}
 use Rattle.cpu_operations.specs.Effects.{withSp, withPc, executed}
 use Rattle.cpu_operations.specs.Operations.{accessOf, isCall, workOf}
-use Rattle.cpu.specs.Sequence.{undefinedStop}
 
 -- what is asked, with the writes that were made before
 abbrev pub askWith : Writes → Bus → Ask

@@ -107,8 +107,10 @@ stop-either P six seven s codes memory free number e = by-processed (processorOf
     by-stop : (x : Clocked) → Stops x → x ≡ Stopped number → P number
     by-stop x h q = rw q at h
 
-    by-processed : (x : Processed) → processorOf (readyOf s codes) memory ≡ x → recorded (drivenWord (s .peripherals)) free x ≡ Stopped number → P number
-    by-processed (processed.Stopped k) p q = by-stop (Stopped k) (subst P (sym (processor-stop (readyOf s codes) memory k p)) six) q
+    by-processed : (x : Processed) → processorOf (readyOf s codes) memory ≡ x
+        → recorded (drivenWord (s .peripherals)) free x ≡ Stopped number → P number
+    by-processed (processed.Stopped k) p q =
+        by-stop (Stopped k) (subst P (sym (processor-stop (readyOf s codes) memory k p)) six) q
     by-processed (processed.Done next) p q =
         let word = drivenWord (next .state .peripherals) in
         let differs = not (eqb word (drivenWord (s .peripherals))) in

@@ -34,7 +34,8 @@ unfolding wholeInstruction instructionAccesses performed valueRead byteAfter opc
 by-opcode s memory = refl
 
 -- an instruction whose opcode is undefined is undefined
-pub undefined-opcode : (s : State) (memory : List ℕ) → decodeOf (opcodeAt s memory) ≡ decoded.Undefined → wholeInstruction s memory ≡ Stopped undefinedStop
+pub undefined-opcode : (s : State) (memory : List ℕ) → decodeOf (opcodeAt s memory) ≡ decoded.Undefined
+    → wholeInstruction s memory ≡ Stopped undefinedStop
 unfolding performed
 undefined-opcode s memory e = by-opcode s memory ∙ ap (decodedBy s memory) e
 
@@ -57,7 +58,8 @@ concluded s p pushes x l e = rw e tt
 
 -- an instruction whose opcode is defined is not undefined
 pub defined-opcode :
-    (s : State) (memory : List ℕ) (e : Entry) (number : ℕ) → decodeOf (opcodeAt s memory) ≡ decoded.Defined e → wholeInstruction s memory ≡ Stopped number → ⊥
+    (s : State) (memory : List ℕ) (e : Entry) (number : ℕ) → decodeOf (opcodeAt s memory) ≡ decoded.Defined e
+    → wholeInstruction s memory ≡ Stopped number → ⊥
 defined-opcode s memory e number defined same =
     let file = registerFile (s .last .ports) in
     let t = operationAccesses (e .operation) (e .mode) (e .length) (withPc (nextAddress (s .cpu .pc)) (registersOf (s .cpu))) in
@@ -69,7 +71,8 @@ abbrev StopsUndefined : Processed → Type 0
 StopsUndefined (Stopped number) = number ≡ undefinedStop
 StopsUndefined (Done n) = Unit {0}
 
-instruction-stop : (s : State) (p : Peripherals) (pushes : List Write) (x : Ending) → StopsUndefined (processedBy s p pushes x)
+instruction-stop : (s : State) (p : Peripherals) (pushes : List Write) (x : Ending)
+    → StopsUndefined (processedBy s p pushes x)
 instruction-stop s p pushes undefined = refl
 instruction-stop s p pushes (leaves l) = tt
 
@@ -79,16 +82,19 @@ start-stop s memory =
     let x = performedIn s memory (instructionAccesses (registersOf (s .cpu))) in
     cond-both StopsUndefined (s .due .reset) _ _ (λ _. tt)
     (λ _. cond-both StopsUndefined (s .due .nmi) _ _ (λ _. tt)
-    (λ _. cond-both StopsUndefined (irqDue s) _ _ (λ _. tt) (λ _. instruction-stop s (x .peripherals) (x .writes) (x .end))))
+    (λ _. cond-both StopsUndefined (irqDue s) _ _ (λ _. tt)
+    (λ _. instruction-stop s (x .peripherals) (x .writes) (x .end))))
 
 waited-stop : (s : State) (w : Waiting) → StopsUndefined (waitedBy s w)
 waited-stop s Nothing = tt
 waited-stop s (Byte w) = cond-both StopsUndefined (eqb (s .cpu .wait) 1) _ _ (λ _. tt) (λ _. tt)
 
-pub processor-stop : (s : State) (memory : List ℕ) (number : ℕ) → processorOf s memory ≡ Stopped number → number ≡ undefinedStop
+pub processor-stop : (s : State) (memory : List ℕ) (number : ℕ) → processorOf s memory ≡ Stopped number
+    → number ≡ undefinedStop
 unfolding processorOf
 processor-stop s memory number e =
     subst StopsUndefined e
     (cond-both StopsUndefined (s .last .res) _ _
-    (λ _. cond-both StopsUndefined (ltb 0 (s .cpu .wait)) _ _ (λ _. waited-stop s (s .cpu .waiting)) (λ _. start-stop s memory))
+    (λ _. cond-both StopsUndefined (ltb 0 (s .cpu .wait)) _ _ (λ _. waited-stop s (s .cpu .waiting))
+    (λ _. start-stop s memory))
     (λ _. tt))
