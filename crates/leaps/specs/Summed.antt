@@ -23,13 +23,14 @@ pub record ListedSums (S : Type 0) : Type 0 where
 abbrev pub listedSums : {S : Type 0} → Listed (WorldOf S) (ResultOf S) → List ℕ → ListedSums S
 listedSums l sums = record { list = l; sums = sums }
 
--- demand 3's list, each call with the sums that the last one left; `call` is what a call lacking sums hands back
-unfoldable pub callsWithSums : {S : Type 0} → (Call → WorldOf S → HandedOf S) → List Call → List ℕ → WorldOf S → ListedSums S
-callsWithSums call [] sums w = listedSums (record { world = w; results = [] }) sums
-callsWithSums call (c ∷ cs) sums w =
-    elim (runningIn w) [
-      | true ↦ let h = withSums sums (call c) (lentOf w) in
-          let later = callsWithSums call cs (sumsAfter sums (w .memory) (h .memory)) (afterCallOf w h) in
-          listedSums (listed (h .result) (later .list)) (later .sums)
-      | false ↦ listedSums (record { world = w; results = [] }) sums
-    ]
+module _ {S : Type 0} (call : Call → WorldOf S → HandedOf S) where
+  -- demand 3's list, each call with the sums that the last one left; `call` is what a call lacking sums hands back
+  unfoldable pub callsWithSums : List Call → List ℕ → WorldOf S → ListedSums S
+  callsWithSums [] sums w = listedSums (record { world = w; results = [] }) sums
+  callsWithSums (c ∷ cs) sums w =
+      elim (runningIn w) [
+        | true ↦ let h = withSums sums (call c) (lentOf w) in
+            let later = callsWithSums cs (sumsAfter sums (w .memory) (h .memory)) (afterCallOf w h) in
+            listedSums (listed (h .result) (later .list)) (later .sums)
+        | false ↦ listedSums (record { world = w; results = [] }) sums
+      ]
