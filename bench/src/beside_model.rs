@@ -4,7 +4,8 @@
 use std::path::Path;
 use std::time::Duration;
 
-use crate::firmware::{Firmware, ALL};
+use differential::firmware::{Firmware, ALL};
+
 use crate::processor_time::Least;
 use crate::table::{count, speed, Table};
 use crate::timed::{chip, model, run, same, same_as_model, steps, walk};

@@ -4,13 +4,14 @@
 use std::path::Path;
 use std::time::Duration;
 
+use differential::firmware::Inputs;
 use programs::chip::{by_runs, RESET_CLOCKS};
 use programs::executable::Executable;
 
 use crate::processor_time::Least;
 use crate::sim65::Sim65;
 use crate::table::{count, speed, Table};
-use crate::timed::{chip, run, same, steps, Inputs};
+use crate::timed::{chip, run, same, steps};
 use crate::vice::Vice;
 use crate::PIECE;
 

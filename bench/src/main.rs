@@ -6,7 +6,6 @@
 mod beside_model;
 mod busy;
 mod calls;
-mod firmware;
 mod inputs;
 mod processor_time;
 mod sim65;
@@ -19,9 +18,8 @@ use std::path::Path;
 use std::process::ExitCode;
 
 use busy::Busy;
-use firmware::Firmware;
+use differential::firmware::{Firmware, Inputs};
 use start::Start;
-use timed::Inputs;
 
 // The clocks of a piece.
 pub const PIECE: u32 = 1_000_000;

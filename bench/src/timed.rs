@@ -3,6 +3,7 @@
 use std::time::Duration;
 
 use differential::convert::{first_difference, library_state};
+use differential::firmware::Inputs;
 use plain_clock::World;
 use r6501q::{Chip, Number, State};
 
@@ -10,9 +11,6 @@ use crate::processor_time;
 
 // Free records: more than a piece writes.
 const SPACE: usize = 262_144;
-
-// Inputs as the library takes them: clocks and codes.
-pub type Inputs = (Vec<u32>, Vec<u8>);
 
 // A fresh chip, released.
 pub fn chip(memory: Vec<u8>, inputs: &Inputs) -> Chip {

@@ -1,8 +1,8 @@
 //! The library's calls against the plain-clock model, over lists of calls.
 //!
 //! `differential run scenarios seed [threads]`, `differential serial`, `differential starts scenarios seed`,
-//! `differential tapes number seed`, `differential totals number seed`, `differential replay seed index`. It ends with
-//! 1 at a difference, with 2 where an argument is wrong.
+//! `differential tapes number seed`, `differential totals number seed`, `differential stretches folder times seed`,
+//! `differential replay seed index`. It ends with 1 at a difference, with 2 where an argument is wrong.
 
 mod code;
 mod compare;
@@ -16,6 +16,7 @@ mod scenario;
 mod serial;
 mod starts;
 mod states;
+mod stretches;
 mod sums;
 mod tapes;
 
@@ -25,6 +26,7 @@ use differential::convert::library_state;
 use differential::random;
 use scenario::{Maker, Scenario};
 use std::panic::{catch_unwind, AssertUnwindSafe};
+use std::path::Path;
 use std::process::ExitCode;
 use std::sync::atomic::{AtomicBool, AtomicU64, Ordering};
 use std::time::Instant;
@@ -38,7 +40,7 @@ const RAREST: u64 = 10_000;
 
 const USAGE: &str =
     "usage: differential run scenarios seed [threads] | serial | starts scenarios seed | tapes number seed | \
-     totals number seed | replay seed index; counts from 1 up";
+     totals number seed | stretches folder times seed | replay seed index; counts from 1 up";
 
 fn main() -> ExitCode {
     let arguments: Vec<String> = std::env::args().skip(1).collect();
@@ -54,9 +56,14 @@ fn main() -> ExitCode {
 
 /// Whether no difference was found in what is asked for; none where that is not to be understood.
 fn right(arguments: &[String]) -> Option<bool> {
-    let (what, numbers) = arguments.split_first()?;
+    let (what, mut numbers) = arguments.split_first()?;
+    let mut folder = None;
+    if what == "stretches" {
+        (folder, numbers) = numbers.split_first().map(|(folder, numbers)| (Some(Path::new(folder)), numbers))?;
+    }
     let numbers: Vec<u64> = numbers.iter().map(|text| text.parse().ok()).collect::<Option<_>>()?;
     match (what.as_str(), &numbers[..]) {
+        ("stretches", &[times @ 1..=1_000, seed]) => Some(run_stretches(folder?, times as u32, seed)),
         ("run", &[scenarios @ (1..), seed]) => Some(run(scenarios, seed, 1)),
         ("run", &[scenarios @ (1..), seed, threads @ (1..)]) => Some(run(scenarios, seed, threads)),
         ("serial", &[]) => Some(run_serial()),
@@ -220,6 +227,27 @@ fn run_totals(lists: u64, seed: u64) -> bool {
         Ok((of_256, others)) => {
             println!("seed {seed}: totals of {of_256} page lists, {others} of another length: no difference");
             of_256 > 0 && others > 0
+        }
+        Err(text) => {
+            println!("{text}");
+            false
+        }
+    }
+}
+
+fn run_stretches(folder: &Path, times: u32, seed: u64) -> bool {
+    let (mut stretches, mut calls) = (0, 0);
+    let checked = stretches::check_stretches(folder, seed, times, |name, counts| {
+        println!("{name}: {} stretches, {} calls compared", counts.stretches, counts.calls);
+        stretches += counts.stretches;
+        calls += counts.calls;
+    });
+    match checked {
+        Ok(()) => {
+            println!(
+                "seed {seed}: firmware by {stretches} stretches, cut at every clock, {calls} calls: no difference"
+            );
+            stretches > 0
         }
         Err(text) => {
             println!("{text}");

@@ -1,0 +1,218 @@
+//! Firmware by stretches: some hundred clocks, cut at every clock, with a halt and with full output space at every
+//! clock, against the model's plain clocks; and long runs between them.
+
+mod cases;
+mod pair;
+mod places;
+
+use cases::{cases, Case};
+use differential::random::Random;
+use pair::{Call, Pair};
+use places::Places;
+use plain_clock::accesses::AccessKind;
+use plain_clock::plain;
+use std::path::Path;
+
+/// The clocks of a stretch.
+const LENGTH: u32 = 300;
+
+/// The clocks, from fresh on, in which stretches are looked for.
+const LOOKED_AT: u32 = 60_000;
+
+/// The clocks of a case by runs of any length.
+const LONG: u32 = 1_000_000;
+
+/// More free entries than a stretch writes.
+const SPACE: usize = LENGTH as usize + 20;
+
+/// What was done with a case.
+pub struct Counts {
+    pub stretches: usize,
+    pub calls: u64,
+}
+
+/// Every case by stretches, with images from the folder `made`. `told` gets each case's name and counts.
+pub fn check_stretches(made: &Path, seed: u64, times: u32, mut told: impl FnMut(&str, &Counts)) -> Result<(), String> {
+    for (index, case) in cases().iter().enumerate() {
+        let random = &Random::new(seed, index as u64);
+        let counts = check_case(case, made, random, times).map_err(|text| format!("{}: {text}", case.name))?;
+        told(&case.name, &counts);
+    }
+    Ok(())
+}
+
+fn check_case(case: &Case, made: &Path, random: &Random, times: u32) -> Result<Counts, String> {
+    let (memory, inputs) = (case.memory(made)?, case.inputs(random, LONG));
+    let starts = starts(Pair::new(memory.clone(), inputs.clone()), random, times)?;
+    let mut pair = Pair::new(memory, inputs);
+    let mut stretch = Stretch::new();
+    for &start in &starts {
+        go_to(&mut pair, start)?;
+        stretch.check(&pair).map_err(|text| format!("stretch from clock {start}: {text}"))?;
+    }
+    let mut calls = stretch.calls();
+    while pair.clock() < LONG {
+        let longest = 1 << random.between(1, 15);
+        let to = pair.clock() + random.between(1, longest).min(LONG - pair.clock());
+        go_to(&mut pair, to)?;
+    }
+    calls += pair.calls;
+    Ok(Counts { stretches: starts.len(), calls })
+}
+
+/// Where the stretches of a case begin, by what the model meets.
+fn starts(mut pair: Pair, random: &Random, times: u32) -> Result<Vec<u32>, String> {
+    let mut places = Places::new();
+    pair.set_free(LOOKED_AT as usize);
+    for _ in 0..LOOKED_AT {
+        let before = pair.world.state.clone();
+        let report = plain(&mut pair.world, None).ok_or_else(|| format!("the model stops with {}", pair.world.stop))?;
+        places.look(&before, &pair.world.state, &report);
+    }
+    Ok(places.starts(random, LENGTH, times, LOOKED_AT))
+}
+
+/// A run to a clock, with space for each of its records.
+fn go_to(pair: &mut Pair, clock: u32) -> Result<(), String> {
+    let n = clock - pair.clock();
+    pair.drop_past();
+    pair.set_free(n as usize + 1);
+    let outcome = pair.call(Call::Run(n), None)?;
+    pair.drop_past();
+    match outcome.number {
+        0 => Ok(()),
+        number => Err(format!("both sides stop with {number}")),
+    }
+}
+
+/// One stretch: both sides at its start, after some of its clocks, and where a list of calls has got to.
+struct Stretch {
+    start: Pair,
+    walked: Pair,
+    now: Pair,
+    end: u32,
+    /// The address of the first write after so many clocks, none where no more follow.
+    next_write: Vec<Option<u16>>,
+}
+
+impl Stretch {
+    fn new() -> Stretch {
+        let none = || Pair::new(Vec::new(), Default::default());
+        Stretch { start: none(), walked: none(), now: none(), end: 0, next_write: Vec::new() }
+    }
+
+    fn calls(&self) -> u64 {
+        self.walked.calls + self.now.calls
+    }
+
+    /// All lists of calls over the stretch that begins here.
+    fn check(&mut self, from: &Pair) -> Result<(), String> {
+        self.start.copy_from(from);
+        self.end = from.clock() + LENGTH;
+        self.start.keep_inputs(self.end);
+        self.start.set_free(SPACE);
+        self.look_for_writes();
+        self.walked.copy_from(&self.start);
+        for k in 0..=LENGTH {
+            self.check_cut(k).map_err(|text| format!("cut after {k} clocks: {text}"))?;
+            if k < LENGTH {
+                // a single clock by either call
+                let call = if k % 2 == 0 { Call::Step } else { Call::Run(1) };
+                self.walked.call(call, None).map_err(|text| format!("single clock {}: {text}", k + 1))?;
+            }
+        }
+        for k in 1..=LENGTH / 2 {
+            self.check_pieces(k).map_err(|text| format!("in pieces of {k} clocks: {text}"))?;
+        }
+        self.check_one_entry_each().map_err(|text| format!("with one free entry at a time: {text}"))?;
+        let mut addresses: Vec<u16> = self.next_write.iter().flatten().copied().collect();
+        addresses.sort_unstable();
+        addresses.dedup();
+        for address in addresses {
+            self.check_halts(address).map_err(|text| format!("with the halt address {address:04X}h: {text}"))?;
+        }
+        Ok(())
+    }
+
+    /// What the stretch's clocks write, by the model.
+    fn look_for_writes(&mut self) {
+        self.now.copy_from(&self.start);
+        let mut written = Vec::new();
+        for _ in 0..LENGTH {
+            let Some(report) = plain(&mut self.now.world, None) else { break };
+            let writes = report.accesses.list().iter().filter(|access| access.kind == AccessKind::Write);
+            written.push(writes.map(|access| access.address).next());
+        }
+        let mut next = None;
+        self.next_write.clear();
+        for address in written.iter().rev() {
+            next = address.or(next);
+            self.next_write.push(next);
+        }
+        self.next_write.reverse();
+        self.next_write.push(None);
+    }
+
+    /// A run to the stretch's end.
+    fn rest(&mut self, halt: Option<u16>) -> Result<u8, String> {
+        let n = self.end - self.now.clock();
+        Ok(self.now.call(Call::Run(n), halt)?.number)
+    }
+
+    /// The stretch cut after k clocks; and what follows k single clocks: the rest whole, a halt, full output space.
+    fn check_cut(&mut self, k: u32) -> Result<(), String> {
+        self.now.copy_from(&self.start);
+        if k % 2 == 0 {
+            self.now.call(Call::Run(k), None)?;
+            self.rest(None)?;
+        } else {
+            self.now.call_with_sums(Call::Run(k), None)?;
+            self.now.call_with_sums(Call::Run(LENGTH - k), None)?;
+        }
+
+        self.now.copy_from(&self.walked);
+        self.rest(None)?;
+
+        self.now.copy_from(&self.walked);
+        // where nothing more is written: an address that no firmware here writes
+        let halt = self.next_write[k as usize].unwrap_or(0x07FF);
+        if self.rest(Some(halt))? != 0 {
+            self.rest(None)?;
+        }
+
+        self.now.copy_from(&self.walked);
+        self.now.set_free(0);
+        if self.rest(None)? != 0 {
+            self.now.call(Call::Step, None)?;
+            self.now.set_free(SPACE);
+            self.rest(None)?;
+        }
+        Ok(())
+    }
+
+    fn check_pieces(&mut self, k: u32) -> Result<(), String> {
+        self.now.copy_from(&self.start);
+        while self.now.clock() < self.end {
+            let n = k.min(self.end - self.now.clock());
+            self.now.call(Call::Run(n), None)?;
+        }
+        Ok(())
+    }
+
+    /// Stop 7 at each record, with one entry more after it.
+    fn check_one_entry_each(&mut self) -> Result<(), String> {
+        self.now.copy_from(&self.start);
+        self.now.set_free(0);
+        while self.rest(None)? != 0 {
+            self.now.set_free(1);
+        }
+        Ok(())
+    }
+
+    /// Stop 12 at each write of an address.
+    fn check_halts(&mut self, address: u16) -> Result<(), String> {
+        self.now.copy_from(&self.start);
+        while self.rest(Some(address))? != 0 {}
+        Ok(())
+    }
+}
