@@ -16,6 +16,9 @@ use std::path::Path;
 /// The clocks of a stretch.
 const LENGTH: u32 = 300;
 
+/// The clocks behind a break's low stop, in a stretch from its start bit on.
+const AFTER_LOW_STOP: u32 = 50;
+
 /// The clocks, from fresh on, in which stretches are looked for.
 const LOOKED_AT: u32 = 60_000;
 
@@ -23,7 +26,13 @@ const LOOKED_AT: u32 = 60_000;
 const LONG: u32 = 1_000_000;
 
 /// More free entries than a stretch writes.
-const SPACE: usize = LENGTH as usize + 20;
+const SPACE: usize = 400;
+
+/// No firmware here writes below its image and above its variables and stack.
+const NEVER_WRITTEN: u16 = 0x07FF;
+
+/// The longest pieces that a stretch is done in.
+const LONGEST_PIECE: u32 = 40;
 
 /// What was done with a case.
 pub struct Counts {
@@ -43,25 +52,32 @@ pub fn check_stretches(made: &Path, seed: u64, times: u32, mut told: impl FnMut(
 
 fn check_case(case: &Case, made: &Path, random: &Random, times: u32) -> Result<Counts, String> {
     let (memory, inputs) = (case.memory(made)?, case.inputs(random, LONG));
-    let starts = starts(Pair::new(memory.clone(), inputs.clone()), random, times)?;
+    let places = places(Pair::new(memory.clone(), inputs.clone()))?;
+    let mut spans: Vec<Span> = places
+        .starts(random, LENGTH, times, LOOKED_AT)
+        .into_iter()
+        .map(|start| Span { start, length: LENGTH, whole: true })
+        .collect();
+    if let (Some(length), Some(low_stop)) = (case.break_clocks(), places.low_stop(random)) {
+        spans.push(Span { start: low_stop.saturating_sub(length), length: length + AFTER_LOW_STOP, whole: false });
+        spans.sort_unstable_by_key(|span| span.start);
+    }
     let mut pair = Pair::new(memory, inputs);
     let mut stretch = Stretch::new();
-    for &start in &starts {
-        go_to(&mut pair, start)?;
-        stretch.check(&pair).map_err(|text| format!("stretch from clock {start}: {text}"))?;
+    for span in &spans {
+        go_to(&mut pair, span.start)?;
+        stretch.check(&pair, span).map_err(|text| format!("stretch from clock {}: {text}", span.start))?;
     }
-    let mut calls = stretch.calls();
     while pair.clock() < LONG {
         let longest = 1 << random.between(1, 15);
         let to = pair.clock() + random.between(1, longest).min(LONG - pair.clock());
         go_to(&mut pair, to)?;
     }
-    calls += pair.calls;
-    Ok(Counts { stretches: starts.len(), calls })
+    Ok(Counts { stretches: spans.len(), calls: stretch.calls() + pair.calls })
 }
 
-/// Where the stretches of a case begin, by what the model meets.
-fn starts(mut pair: Pair, random: &Random, times: u32) -> Result<Vec<u32>, String> {
+/// What the model meets.
+fn places(mut pair: Pair) -> Result<Places, String> {
     let mut places = Places::new();
     pair.set_free(LOOKED_AT as usize);
     for _ in 0..LOOKED_AT {
@@ -69,7 +85,7 @@ fn starts(mut pair: Pair, random: &Random, times: u32) -> Result<Vec<u32>, Strin
         let report = plain(&mut pair.world, None).ok_or_else(|| format!("the model stops with {}", pair.world.stop))?;
         places.look(&before, &pair.world.state, &report);
     }
-    Ok(places.starts(random, LENGTH, times, LOOKED_AT))
+    Ok(places)
 }
 
 /// A run to a clock, with space for each of its records.
@@ -83,6 +99,13 @@ fn go_to(pair: &mut Pair, clock: u32) -> Result<(), String> {
         0 => Ok(()),
         number => Err(format!("both sides stop with {number}")),
     }
+}
+
+/// Where a stretch lies; one that is not whole is cut at every clock and nothing else.
+struct Span {
+    start: u32,
+    length: u32,
+    whole: bool,
 }
 
 /// One stretch: both sides at its start, after some of its clocks, and where a list of calls has got to.
@@ -105,23 +128,40 @@ impl Stretch {
         self.walked.calls + self.now.calls
     }
 
-    /// All lists of calls over the stretch that begins here.
-    fn check(&mut self, from: &Pair) -> Result<(), String> {
+    /// All lists of calls over the stretch, which begins where `from` is.
+    fn check(&mut self, from: &Pair, span: &Span) -> Result<(), String> {
         self.start.copy_from(from);
-        self.end = from.clock() + LENGTH;
+        self.end = span.start + span.length;
         self.start.keep_inputs(self.end);
         self.start.set_free(SPACE);
-        self.look_for_writes();
-        self.walked.copy_from(&self.start);
-        for k in 0..=LENGTH {
+        for k in 0..=span.length {
             self.check_cut(k).map_err(|text| format!("cut after {k} clocks: {text}"))?;
-            if k < LENGTH {
+        }
+        if span.whole {
+            self.look_for_writes(span.length);
+            self.check_walked(span.length)?;
+            self.check_lists()?;
+        }
+        Ok(())
+    }
+
+    /// What follows k single clocks, for every k.
+    fn check_walked(&mut self, length: u32) -> Result<(), String> {
+        self.walked.copy_from(&self.start);
+        for k in 0..=length {
+            self.check_after(k).map_err(|text| format!("after {k} single clocks: {text}"))?;
+            if k < length {
                 // a single clock by either call
                 let call = if k % 2 == 0 { Call::Step } else { Call::Run(1) };
                 self.walked.call(call, None).map_err(|text| format!("single clock {}: {text}", k + 1))?;
             }
         }
-        for k in 1..=LENGTH / 2 {
+        Ok(())
+    }
+
+    /// What goes over the whole stretch.
+    fn check_lists(&mut self) -> Result<(), String> {
+        for k in 2..=LONGEST_PIECE {
             self.check_pieces(k).map_err(|text| format!("in pieces of {k} clocks: {text}"))?;
         }
         self.check_one_entry_each().map_err(|text| format!("with one free entry at a time: {text}"))?;
@@ -135,10 +175,10 @@ impl Stretch {
     }
 
     /// What the stretch's clocks write, by the model.
-    fn look_for_writes(&mut self) {
+    fn look_for_writes(&mut self, length: u32) {
         self.now.copy_from(&self.start);
         let mut written = Vec::new();
-        for _ in 0..LENGTH {
+        for _ in 0..length {
             let Some(report) = plain(&mut self.now.world, None) else { break };
             let writes = report.accesses.list().iter().filter(|access| access.kind == AccessKind::Write);
             written.push(writes.map(|access| access.address).next());
@@ -159,7 +199,7 @@ impl Stretch {
         Ok(self.now.call(Call::Run(n), halt)?.number)
     }
 
-    /// The stretch cut after k clocks; and what follows k single clocks: the rest whole, a halt, full output space.
+    /// The stretch cut after k clocks, by two runs; for odd k both have sums.
     fn check_cut(&mut self, k: u32) -> Result<(), String> {
         self.now.copy_from(&self.start);
         if k % 2 == 0 {
@@ -167,15 +207,18 @@ impl Stretch {
             self.rest(None)?;
         } else {
             self.now.call_with_sums(Call::Run(k), None)?;
-            self.now.call_with_sums(Call::Run(LENGTH - k), None)?;
+            self.now.call_with_sums(Call::Run(self.end - self.now.clock()), None)?;
         }
+        Ok(())
+    }
 
+    /// After k single clocks: the rest whole; a halt at the next write, and the rest; full output space, and the rest.
+    fn check_after(&mut self, k: u32) -> Result<(), String> {
         self.now.copy_from(&self.walked);
         self.rest(None)?;
 
         self.now.copy_from(&self.walked);
-        // where nothing more is written: an address that no firmware here writes
-        let halt = self.next_write[k as usize].unwrap_or(0x07FF);
+        let halt = self.next_write[k as usize].unwrap_or(NEVER_WRITTEN);
         if self.rest(Some(halt))? != 0 {
             self.rest(None)?;
         }

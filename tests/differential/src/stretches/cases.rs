@@ -73,6 +73,14 @@ impl Case {
         memory(made, self.image)
     }
 
+    /// Clocks from the fall of PA7 to behind the last bit of a break's frame, where breaks come, and not too slowly.
+    pub fn break_clocks(&self) -> Option<u32> {
+        match self.coming {
+            Coming::Breaks { latch: latch @ ..=12 } => Some(FALL_TO_LAST_BIT * (latch + 1)),
+            _ => None,
+        }
+    }
+
     /// The inputs of so many clocks.
     pub fn inputs(&self, random: &Random, clocks: u32) -> Inputs {
         match self.coming {
@@ -84,6 +92,9 @@ impl Case {
         }
     }
 }
+
+/// Ticks from a line's fall to behind the last bit of its frame: four looks and ten bits, and some more.
+const FALL_TO_LAST_BIT: u32 = 180;
 
 /// Without parity a frame has eleven bits.
 const FRAME_BITS: u32 = 11;

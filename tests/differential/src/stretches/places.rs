@@ -10,6 +10,7 @@ type Kind = fn(&State, &State, &ClockReport) -> bool;
 const IFR4: u8 = 0x10;
 const IFR5: u8 = 0x20;
 const OVERRUN: u8 = 0x02;
+const WRONG_PARITY: u8 = 0x04;
 const LOW_STOP: u8 = 0x08;
 
 /// The bits that a clock sets.
@@ -17,13 +18,17 @@ fn set(before: u8, after: u8) -> u8 {
     after & !before
 }
 
-const KINDS: [Kind; 19] = [
-    // a start bit, a frame's bits, its last one, a low stop, a byte lost
+/// The place of the low stops among the kinds.
+const LOW_STOPS: usize = 3;
+
+const KINDS: [Kind; 20] = [
+    // a start bit, a frame's bits, its last one, a low stop, a byte lost, wrong parity
     |before, after, _| before.receiver.bits_left == 0 && after.receiver.bits_left > 0,
     |before, after, _| after.receiver.bits_left > 0 && after.receiver.bits_left < before.receiver.bits_left,
     |before, after, _| before.receiver.bits_left > 0 && after.receiver.bits_left == 0,
     |before, after, _| set(before.scsr, after.scsr) & LOW_STOP != 0,
     |before, after, _| set(before.scsr, after.scsr) & OVERRUN != 0,
+    |before, after, _| set(before.scsr, after.scsr) & WRONG_PARITY != 0,
     // the status cleared by a read of the data
     |before, after, _| before.scsr & 0x0F != 0 && after.scsr & 0x0F == 0,
     // the transmitter's take, its bits and its last one
@@ -61,6 +66,12 @@ impl Places {
                 met.push(after.clock);
             }
         }
+    }
+
+    /// The clock of some low stop that can be seen.
+    pub fn low_stop(&self, random: &Random) -> Option<u32> {
+        let met = &self.met[LOW_STOPS];
+        (!met.is_empty()).then(|| met[random.below(met.len() as u32) as usize])
     }
 
     /// Starts of stretches of so many clocks: around the first clock of each kind, and so many times around any of its
