@@ -1,8 +1,9 @@
 // How fast the chip is, by `run` and by `step`, beside VICE's core, sim65 and the plain-clock model, and how its cost
 // grows with lists and lengths. Whatever is timed side by side must come to the same, or the program ends with 1.
 //
-// usage: bench FOLDER [--short], or for a profiler, nothing timed: bench FOLDER --only PROGRAM run|step|model, where
-// PROGRAM is `busy` or an image of bench/assemble.
+// usage: bench FOLDER [--short], or for a profiler, nothing timed: bench FOLDER --only PROGRAM run|step|model [CLOCKS],
+// where PROGRAM is `busy` or an image of bench/assemble. With `count` for the way it prints the instructions that the
+// model starts in those clocks.
 mod beside_model;
 mod busy;
 mod calls;
@@ -52,11 +53,11 @@ fn main() -> ExitCode {
     let result = match arguments[..] {
         [made] => measure(Path::new(made), &WHOLE),
         [made, "--short"] => measure(Path::new(made), &SHORT),
-        [made, "--only", program, way @ ("run" | "step" | "model")] => only(Path::new(made), program, way),
-        _ => {
-            eprintln!("usage: bench FOLDER [--short | --only PROGRAM run|step|model]");
-            return ExitCode::from(2);
-        }
+        [made, "--only", program, way, ref clocks @ ..] if WAYS.contains(&way) => match only_clocks(clocks) {
+            Some(clocks) => only(Path::new(made), program, way, clocks),
+            None => return usage(),
+        },
+        _ => return usage(),
     };
     match result {
         Ok(()) => ExitCode::SUCCESS,
@@ -65,6 +66,11 @@ fn main() -> ExitCode {
             ExitCode::from(1)
         }
     }
+}
+
+fn usage() -> ExitCode {
+    eprintln!("usage: bench FOLDER [--short | --only PROGRAM run|step|model|count [CLOCKS]]");
+    ExitCode::from(2)
 }
 
 fn measure(made: &Path, extent: &Extent) -> Result<(), String> {
@@ -76,24 +82,33 @@ fn measure(made: &Path, extent: &Extent) -> Result<(), String> {
     calls::print(&start, extent.longest_run, extent.growth_turns).map_err(|e| format!("calls: {e}"))
 }
 
-// The pieces that a profiler sees.
-const ONLY_PIECES: u32 = 2;
+// The clocks that a profiler sees, and the ways.
+const ONLY_CLOCKS: u32 = 2 * PIECE;
+const WAYS: [&str; 4] = ["run", "step", "model", "count"];
+
+// As many where none are given; not more than there are inputs for, which are the same for every number of clocks.
+fn only_clocks(given: &[&str]) -> Option<u32> {
+    match given {
+        [] => Some(ONLY_CLOCKS),
+        [clocks] => clocks.parse().ok().filter(|clocks| *clocks <= ONLY_CLOCKS),
+        _ => None,
+    }
+}
 
 // One program by one way.
-fn only(made: &Path, program: &str, way: &str) -> Result<(), String> {
+fn only(made: &Path, program: &str, way: &str, clocks: u32) -> Result<(), String> {
     let (memory, inputs) = match (program, Firmware::find(program)) {
         ("busy", _) => (busy::program(made)?.memory(), Inputs::default()),
-        (_, Some(firmware)) => (firmware.memory(made)?, firmware.inputs(ONLY_PIECES * PIECE)),
+        (_, Some(firmware)) => (firmware.memory(made)?, firmware.inputs(ONLY_CLOCKS)),
         (_, None) => return Err(format!("{program} is no program of bench/run")),
     };
-    if way == "model" {
-        let mut world = timed::model(memory, &inputs);
-        return timed::walk(&mut world, ONLY_PIECES * PIECE).map(|_| ());
-    }
-    let mut chip = timed::chip(memory, &inputs);
     match way {
-        "run" => timed::run(&mut chip, ONLY_PIECES * PIECE),
-        _ => timed::steps(&mut chip, ONLY_PIECES * PIECE),
+        "run" => timed::run(&mut timed::chip(memory, &inputs), clocks).map(|_| ()),
+        "step" => timed::steps(&mut timed::chip(memory, &inputs), clocks).map(|_| ()),
+        "model" => timed::walk(&mut timed::model(memory, &inputs), clocks).map(|_| ()),
+        _ => {
+            println!("{}", timed::instructions(&mut timed::model(memory, &inputs), clocks)?);
+            Ok(())
+        }
     }
-    .map(|_| ())
 }

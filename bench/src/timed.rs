@@ -4,6 +4,7 @@ use std::time::Duration;
 
 use differential::convert::{first_difference, library_state};
 use differential::firmware::Inputs;
+use plain_clock::cpu::Start;
 use plain_clock::World;
 use r6501q::{Chip, Number, State};
 
@@ -61,6 +62,18 @@ pub fn walk(world: &mut World, clocks: u32) -> Result<Duration, String> {
     let (outcome, time) = processor_time::of(|| plain_clock::run(world, u64::from(clocks), None));
     match outcome.number {
         0 => Ok(time),
+        number => Err(format!("the model ends with {number}")),
+    }
+}
+
+// The instructions that the model starts in so many clocks.
+pub fn instructions(world: &mut World, clocks: u32) -> Result<u64, String> {
+    let mut started = 0;
+    let outcome = plain_clock::run_observed(world, u64::from(clocks), None, |_, _, report| {
+        started += u64::from(report.start == Some(Start::Instruction));
+    });
+    match outcome.number {
+        0 => Ok(started),
         number => Err(format!("the model ends with {number}")),
     }
 }
