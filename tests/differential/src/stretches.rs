@@ -42,17 +42,23 @@ pub struct Counts {
 
 /// Every case by stretches, with images from the folder `made`. `told` gets each case's name and counts.
 pub fn check_stretches(made: &Path, seed: u64, times: u32, mut told: impl FnMut(&str, &Counts)) -> Result<(), String> {
+    let mut met = Places::new();
     for (index, case) in cases().iter().enumerate() {
         let random = &Random::new(seed, index as u64);
-        let counts = check_case(case, made, random, times).map_err(|text| format!("{}: {text}", case.name))?;
-        told(&case.name, &counts);
+        let checked = check_case(case, made, random, times, &mut met);
+        told(&case.name, &checked.map_err(|text| format!("{}: {text}", case.name))?);
     }
-    Ok(())
+    match met.missing() {
+        Some(kind) => Err(format!("no firmware meets {kind}")),
+        None => Ok(()),
+    }
 }
 
-fn check_case(case: &Case, made: &Path, random: &Random, times: u32) -> Result<Counts, String> {
+/// What the case meets is added to `met`.
+fn check_case(case: &Case, made: &Path, random: &Random, times: u32, met: &mut Places) -> Result<Counts, String> {
     let (memory, inputs) = (case.memory(made)?, case.inputs(random, LONG));
     let places = places(Pair::new(memory.clone(), inputs.clone()))?;
+    met.add(&places);
     let mut spans: Vec<Span> = places
         .starts(random, LENGTH, times, LOOKED_AT)
         .into_iter()

@@ -13,6 +13,16 @@ const OVERRUN: u8 = 0x02;
 const WRONG_PARITY: u8 = 0x04;
 const LOW_STOP: u8 = 0x08;
 
+/// One bit fewer, some left.
+fn fewer(before: u8, after: u8) -> bool {
+    after < before && after > 0
+}
+
+/// The last bit gone.
+fn none_left(before: u8, after: u8) -> bool {
+    before > 0 && after == 0
+}
+
 /// The bits that a clock sets.
 fn set(before: u8, after: u8) -> u8 {
     after & !before
@@ -21,33 +31,27 @@ fn set(before: u8, after: u8) -> u8 {
 /// The place of the low stops among the kinds.
 const LOW_STOPS: usize = 3;
 
-const KINDS: [Kind; 20] = [
-    // a start bit, a frame's bits, its last one, a low stop, a byte lost, wrong parity
-    |before, after, _| before.receiver.bits_left == 0 && after.receiver.bits_left > 0,
-    |before, after, _| after.receiver.bits_left > 0 && after.receiver.bits_left < before.receiver.bits_left,
-    |before, after, _| before.receiver.bits_left > 0 && after.receiver.bits_left == 0,
-    |before, after, _| set(before.scsr, after.scsr) & LOW_STOP != 0,
-    |before, after, _| set(before.scsr, after.scsr) & OVERRUN != 0,
-    |before, after, _| set(before.scsr, after.scsr) & WRONG_PARITY != 0,
-    // the status cleared by a read of the data
-    |before, after, _| before.scsr & 0x0F != 0 && after.scsr & 0x0F == 0,
-    // the transmitter's take, its bits and its last one
-    |before, after, _| before.transmitter.bits_left < after.transmitter.bits_left,
-    |before, after, _| after.transmitter.bits_left < before.transmitter.bits_left,
-    |before, after, _| before.transmitter.bits_left > 0 && after.transmitter.bits_left == 0,
-    // the counters' flags set and cleared; both underflows
-    |before, after, _| set(before.ifr, after.ifr) & IFR4 != 0,
-    |before, after, _| set(after.ifr, before.ifr) & IFR4 != 0,
-    |before, after, _| set(before.ifr, after.ifr) & IFR5 != 0,
-    |_, _, report| report.met.underflow_a && report.met.underflow_b,
-    // a store's last clock on an underflow's, and an input on one
-    |_, _, report| report.met.underflow_a && report.put.is_some(),
-    |_, _, report| report.met.underflow_a && report.met.inputs > 0,
-    |_, _, report| report.met.inputs > 0,
-    // entries of interrupts, changes of mode, records
-    |_, _, report| matches!(report.start, Some(Start::Irq | Start::Nmi)),
-    |before, after, _| before.mcr != after.mcr || before.sccr != after.sccr,
-    |_, _, report| report.record,
+const KINDS: [(&str, Kind); 20] = [
+    ("a start bit", |before, after, _| before.receiver.bits_left == 0 && after.receiver.bits_left > 0),
+    ("a bit received", |before, after, _| fewer(before.receiver.bits_left, after.receiver.bits_left)),
+    ("a last bit received", |before, after, _| none_left(before.receiver.bits_left, after.receiver.bits_left)),
+    ("a low stop", |before, after, _| set(before.scsr, after.scsr) & LOW_STOP != 0),
+    ("a byte lost", |before, after, _| set(before.scsr, after.scsr) & OVERRUN != 0),
+    ("wrong parity", |before, after, _| set(before.scsr, after.scsr) & WRONG_PARITY != 0),
+    ("the status cleared", |before, after, _| before.scsr & 0x0F != 0 && after.scsr & 0x0F == 0),
+    ("a take", |before, after, _| before.transmitter.bits_left < after.transmitter.bits_left),
+    ("a bit sent", |before, after, _| fewer(before.transmitter.bits_left, after.transmitter.bits_left)),
+    ("a last bit sent", |before, after, _| none_left(before.transmitter.bits_left, after.transmitter.bits_left)),
+    ("IFR4 set", |before, after, _| set(before.ifr, after.ifr) & IFR4 != 0),
+    ("IFR4 cleared", |before, after, _| set(after.ifr, before.ifr) & IFR4 != 0),
+    ("IFR5 set", |before, after, _| set(before.ifr, after.ifr) & IFR5 != 0),
+    ("both underflows", |_, _, report| report.met.underflow_a && report.met.underflow_b),
+    ("a byte put on a tick", |_, _, report| report.met.underflow_a && report.put.is_some()),
+    ("an input on a tick", |_, _, report| report.met.underflow_a && report.met.inputs > 0),
+    ("an input", |_, _, report| report.met.inputs > 0),
+    ("an interrupt's entry", |_, _, report| matches!(report.start, Some(Start::Irq | Start::Nmi))),
+    ("a change of mode", |before, after, _| before.mcr != after.mcr || before.sccr != after.sccr),
+    ("a record", |_, _, report| report.record),
 ];
 
 /// The clocks of each kind.
@@ -61,11 +65,23 @@ impl Places {
     }
 
     pub fn look(&mut self, before: &State, after: &State, report: &ClockReport) {
-        for (kind, met) in KINDS.iter().zip(&mut self.met) {
+        for ((_, kind), met) in KINDS.iter().zip(&mut self.met) {
             if kind(before, after, report) {
                 met.push(after.clock);
             }
         }
+    }
+
+    /// Adds the clocks that another has met.
+    pub fn add(&mut self, other: &Places) {
+        for (met, more) in self.met.iter_mut().zip(&other.met) {
+            met.extend(more);
+        }
+    }
+
+    /// The first kind that no clock is of.
+    pub fn missing(&self) -> Option<&'static str> {
+        KINDS.iter().zip(&self.met).find(|(_, met)| met.is_empty()).map(|((name, _), _)| *name)
     }
 
     /// The clock of some low stop that can be seen.
