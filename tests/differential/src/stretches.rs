@@ -158,7 +158,7 @@ impl Stretch {
             self.check_after(k).map_err(|text| format!("after {k} single clocks: {text}"))?;
             if k < length {
                 // a single clock by either call
-                let call = if k % 2 == 0 { Call::Step } else { Call::Run(1) };
+                let call = if k % 2 == 1 { Call::Step } else { Call::Run(1) };
                 self.walked.call(call, None).map_err(|text| format!("single clock {}: {text}", k + 1))?;
             }
         }
@@ -208,12 +208,12 @@ impl Stretch {
     /// The stretch cut after k clocks, by two runs; for odd k both have sums.
     fn check_cut(&mut self, k: u32) -> Result<(), String> {
         self.now.copy_from(&self.start);
-        if k % 2 == 0 {
-            self.now.call(Call::Run(k), None)?;
-            self.rest(None)?;
-        } else {
+        if k % 2 == 1 {
             self.now.call_with_sums(Call::Run(k), None)?;
             self.now.call_with_sums(Call::Run(self.end - self.now.clock()), None)?;
+        } else {
+            self.now.call(Call::Run(k), None)?;
+            self.rest(None)?;
         }
         Ok(())
     }
