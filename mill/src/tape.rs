@@ -5,12 +5,20 @@ use r6501q::{load, Number, MEMORY_LENGTH};
 /// The most data bytes of a record.
 const COUNT: usize = 0x18;
 
-/// A tape of parts of memory, each with the address of its first byte. Records of zeros alone are left out: the memory
-/// that a tape is loaded into starts as zeros.
-pub fn written(parts: &[(usize, Vec<u8>)]) -> String {
+/// Which records a tape has.
+#[derive(Clone, Copy)]
+pub enum Records {
+    /// All, so that the tape is the parts over any memory.
+    Every,
+    /// Those with a byte that is not zero: the tape is the parts where it is loaded into a memory of zeros.
+    NotZero,
+}
+
+/// A tape of parts of memory, each with the address of its first byte.
+pub fn written(parts: &[(usize, Vec<u8>)], which: Records) -> String {
     let chunks = parts.iter().flat_map(|(start, bytes)| (*start..).step_by(COUNT).zip(bytes.chunks(COUNT)));
-    let filled = chunks.filter(|(_, data)| data.iter().any(|byte| *byte != 0));
-    let records: Vec<String> = filled.map(|(address, data)| record(address, data)).collect();
+    let kept = chunks.filter(|(_, data)| matches!(which, Records::Every) || data.iter().any(|byte| *byte != 0));
+    let records: Vec<String> = kept.map(|(address, data)| record(address, data)).collect();
     records.concat() + &record(records.len() + 1, &[])
 }
 
@@ -24,7 +32,10 @@ fn record(address: usize, data: &[u8]) -> String {
 
 /// A memory of zeros with a tape in it; a refused tape is explained, `name` first.
 pub fn loaded(name: &str, tape: &[u8]) -> Result<Vec<u8>, Failure> {
-    let mut memory = vec![0; MEMORY_LENGTH];
+    loaded_over(vec![0; MEMORY_LENGTH], name, tape)
+}
+
+fn loaded_over(mut memory: Vec<u8>, name: &str, tape: &[u8]) -> Result<Vec<u8>, Failure> {
     let result = load(tape, &mut memory);
     match result.number {
         Number::Done => Ok(memory),
@@ -145,9 +156,25 @@ mod tests {
             *byte = (address % 251) as u8;
         }
         let parts = [(0x40, memory[0x40..0x1234].to_vec()), (0x1234, memory[0x1234..].to_vec())];
-        assert_eq!(loaded("tape", written(&parts).as_bytes()), Ok(memory));
-        assert_eq!(written(&[(0x200, vec![0x55]), (0x300, vec![0; 100])]), ";010200550058\n;0000020002\n");
+        let (whole, short) = (written(&parts, Records::Every), written(&parts, Records::NotZero));
+        assert!(short.len() < whole.len());
+        assert_eq!(loaded("tape", whole.as_bytes()), Ok(memory.clone()));
+        assert_eq!(loaded("tape", short.as_bytes()), Ok(memory.clone()));
+        // Over other bytes the whole tape is the image still, but for the registers; the short one is not.
+        let other = vec![0xA5; MEMORY_LENGTH];
+        let over = |tape: &str| loaded_over(other.clone(), "tape", tape.as_bytes()).unwrap();
+        assert_eq!(over(&whole)[0x40..], memory[0x40..]);
+        assert_ne!(over(&short)[0x40..], memory[0x40..]);
         assert_eq!(loaded("tape", TAPE.as_bytes()).unwrap()[0x200], 0xA9);
+    }
+
+    #[test]
+    fn records_of_zeros_are_left_out_only_where_that_is_asked_for() {
+        let parts = [(0x200, vec![0x55]), (0x300, vec![0; 25])];
+        assert_eq!(written(&parts, Records::NotZero), ";010200550058\n;0000020002\n");
+        let zeros = "00".repeat(24);
+        let whole = format!(";010200550058\n;180300{zeros}001B\n;01031800001C\n;0000040004\n");
+        assert_eq!(written(&parts, Records::Every), whole);
     }
 
     fn refused(tape: &str) -> String {

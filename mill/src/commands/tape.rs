@@ -4,18 +4,24 @@ use crate::arguments::{Arguments, Form};
 use crate::failure::{Failure, Verdict};
 use crate::files::{bytes, note, output, print};
 use crate::image::Images;
-use crate::tape::{loaded, written};
+use crate::tape::{loaded, written, Records};
 use crate::units::grouped;
 use std::path::Path;
 
 pub const COMMAND: Command = Command {
     name: "tape",
-    usage: "mill tape IMAGE@ADDRESS.. [HEXFILE..] [-o TAPE]
+    usage: "mill tape IMAGE@ADDRESS.. [HEXFILE..] [-o TAPE] [--skip-zeros]
        mill tape --check TAPE
   Makes a paper tape of binary images, each with the hexadecimal address where it lies, and of Intel hex files; or
   checks a tape, and names the line, the record, what is found and what is expected.
-  -o TAPE        the file to write (else standard output)",
-    form: Form { valued: &["-o"], flags: &["--check"], needed: &["IMAGE@ADDRESS or TAPE"], more: usize::MAX },
+  -o TAPE        the file to write (else standard output)
+  --skip-zeros   leave out records of zeros: a shorter tape, the same in a memory of zeros alone",
+    form: Form {
+        valued: &["-o"],
+        flags: &["--check", "--skip-zeros"],
+        needed: &["IMAGE@ADDRESS or TAPE"],
+        more: usize::MAX,
+    },
     act,
 };
 
@@ -25,7 +31,8 @@ fn act(arguments: &Arguments) -> Result<Verdict, Failure> {
     }
     let mut images = Images::none();
     arguments.others().iter().try_for_each(|word| images.add(word))?;
-    let tape = written(&images.parts());
+    let which = if arguments.flag("--skip-zeros") { Records::NotZero } else { Records::Every };
+    let tape = written(&images.parts(), which);
     notes(&images);
     output(arguments.value("-o"), |out| Ok(out.write_all(tape.as_bytes())?))?;
     Ok(Verdict::Done)
@@ -45,7 +52,7 @@ fn check(arguments: &Arguments) -> Result<Verdict, Failure> {
     let [name] = arguments.others() else {
         return Err(Failure::Usage("--check takes one tape".to_string()));
     };
-    if arguments.value("-o").is_some() {
+    if arguments.value("-o").is_some() || arguments.flag("--skip-zeros") {
         return Err(Failure::Usage("--check writes no tape".to_string()));
     }
     let tape = bytes(Path::new(name))?;
@@ -72,6 +79,7 @@ mod tests {
         assert_eq!(ended(&[&format!("{tape}@0800"), "-o", "/dev/null"]), Ok(Verdict::Done));
         assert!(matches!(ended(&["--check", tape, tape]), Err(Failure::Usage(_))));
         assert!(matches!(ended(&["--check", tape, "-o", "/dev/null"]), Err(Failure::Usage(_))));
+        assert!(matches!(ended(&["--check", tape, "--skip-zeros"]), Err(Failure::Usage(_))));
         assert!(matches!(ended(&[tape]), Err(Failure::Usage(_))));
         assert!(matches!(ended(&["--check", "/dev/null"]), Err(Failure::Tape(_))));
     }
