@@ -25,7 +25,7 @@ thirteen-no-stop : stopOf 13 ≡ 0
 unfolding stopOf
 thirteen-no-stop = refl
 
-one-no-stop : stopOf 1 ≡ 0
+pub one-no-stop : stopOf 1 ≡ 0
 unfolding stopOf
 one-no-stop = refl
 
@@ -128,27 +128,42 @@ module _ {S : Type 0} (call : Call → WorldOf S → HandedOf S) where
     list-right-after cs sums w n words right =
         rw (list-with-sums cs sums w n words) (right-after sums (w .memory) (lacking cs w .world .memory) right)
 
-  -- where each call is refused with the same number, which is no stop, each hands on
-  calls-refused-by : (number : ℕ) → stopOf number ≡ 0 → (cs : List Call) (sums : List ℕ) (w : WorldOf S)
+  -- a call refused with a number that is no stop hands on world and sums as they were, and the list goes on with the
+  -- rest
+  pub refused-next : (number : ℕ) → stopOf number ≡ 0 → (c : Call) (cs : List Call) (sums : List ℕ) (w : WorldOf S)
+      → withSums sums (call c) (lentOf w) ≡ refusedHanded number (lentOf w) → SixteenBits sums → w .stop ≡ 0
+      → callsWithSums call (c ∷ cs) sums w
+      ≡ (let later = callsWithSums call cs sums w in
+      listedSums (listed (refusedWith number (w .state)) (later .list)) (later .sums))
+  refused-next number none c cs sums w refused words on =
+      rw (
+        going c cs sums w (rw on refl) (refusedHanded number (lentOf w)) refused,
+        refused-hands-on number w none on,
+        sym (sums-kept 0 sums (w .memory) words),
+      )
+
+  -- where each call is refused with the same number, each hands on
+  pub calls-refused-by : (number : ℕ) → stopOf number ≡ 0 → (cs : List Call) (sums : List ℕ) (w : WorldOf S)
       → ((c : Call) → withSums sums (call c) (lentOf w) ≡ refusedHanded number (lentOf w)) → SixteenBits sums → w .stop ≡ 0
       → callsWithSums call cs sums w
       ≡ listedSums (record { world = w; results = map (λ (c : Call). refusedWith number (w .state)) cs }) sums
   unfolding callsWithSums
   calls-refused-by number none [] sums w refused words on = refl
   calls-refused-by number none (c ∷ cs) sums w refused words on =
-      rw (
-        going c cs sums w (rw on refl) (refusedHanded number (lentOf w)) (refused c),
-        refused-hands-on number w none on,
-        sym (sums-kept 0 sums (w .memory) words),
-        calls-refused-by number none cs sums w refused words on,
-      )
+      rw (refused-next number none c cs sums w (refused c) words on, calls-refused-by number none cs sums w refused words on)
 
-  -- with another number of sums, and a memory of 65,536 bytes, that is 13
-  pub calls-refused : (cs : List Call) (sums : List ℕ) (w : WorldOf S) → length (w .memory) ≡ memorySpan
-      → (length sums ≡ pageCount → ⊥) → SixteenBits sums → w .stop ≡ 0
-      → callsWithSums call cs sums w ≡ listedSums (record { world = w; results = map (λ (c : Call). refusedWith 13 (w .state)) cs }) sums
-  calls-refused cs sums w m n words on =
-      calls-refused-by 13 thirteen-no-stop cs sums w (λ c. list-next sums (call c) (lentOf w) m n) words on
+  -- with another number of sums, and a memory of 65,536 bytes, that is 13: of the first call of a list, and of all
+  module _ (sums : List ℕ) (w : WorldOf S) (m : length (w .memory) ≡ memorySpan) (n : length sums ≡ pageCount → ⊥)
+      (words : SixteenBits sums) (on : w .stop ≡ 0) where
+    pub thirteen-next : (c : Call) (cs : List Call)
+        → callsWithSums call (c ∷ cs) sums w
+        ≡ (let later = callsWithSums call cs sums w in
+        listedSums (listed (refusedWith 13 (w .state)) (later .list)) (later .sums))
+    thirteen-next c cs = refused-next 13 thirteen-no-stop c cs sums w (list-next sums (call c) (lentOf w) m n) words on
+
+    pub calls-refused : (cs : List Call)
+        → callsWithSums call cs sums w ≡ listedSums (record { world = w; results = map (λ (c : Call). refusedWith 13 (w .state)) cs }) sums
+    calls-refused cs = calls-refused-by 13 thirteen-no-stop cs sums w (λ c. list-next sums (call c) (lentOf w) m n) words on
 
 -- ---- of a chip
 
