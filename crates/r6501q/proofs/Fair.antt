@@ -43,7 +43,7 @@ back-kept w e = rw (host-kept (w .state) e)
 abbrev hostOf : Listed World Result → HostListed
 hostOf l = record { world = hostWorld (l .world); results = hostResults (l .results) }
 
-host-calls : (halt : ℕ) (cs : List Call) (w : HostWorld) → flagsFit (w .state) ≡ true
+pub host-calls : (halt : ℕ) (cs : List Call) (w : HostWorld) → flagsFit (w .state) ≡ true
     → hostCalls halt cs w ≡ hostOf (calls (machine (haltOf halt)) cs (worldFromHost w))
 unfolding hostCalls calls hostResults
 host-calls halt [] w e = rw (back-kept w e)

@@ -1,3 +1,4 @@
 pub mod Host
 pub mod Calls
 pub mod Lists
+pub mod Shifted
