@@ -54,12 +54,12 @@ unfolding waitAfter
 wait-add wait true g h = omega arith
 wait-add wait false g h = refl
 
-zero-a : (c : CounterA) (running : Bool) → passA c running (clocksOf 0) ≡ c
+pub zero-a : (c : CounterA) (running : Bool) → passA c running (clocksOf 0) ≡ c
 unfolding passA
 zero-a c true = let e : c .count - 0 ≡ c .count = omega arith in rw e
 zero-a c false = refl
 
-zero-b : (c : CounterB) (running : Bool) → passB c running (clocksOf 0) ≡ c
+pub zero-b : (c : CounterB) (running : Bool) → passB c running (clocksOf 0) ≡ c
 unfolding passB
 zero-b c true = let e : c .count - 0 ≡ c .count = omega arith in rw e
 zero-b c false = refl

@@ -30,7 +30,7 @@ use Rattle.r6501q_gaps.proofs.Same.{same-levels, levels-same, reset-sam
 
 -- ---- no edge between equal levels
 
-no-rise : (pin x : ℕ) → rose pin x x ≡ false
+pub no-rise : (pin x : ℕ) → rose pin x x ≡ false
 unfolding rose
 no-rise pin x = neither (bit pin x)
   where
@@ -102,11 +102,11 @@ still-b s =
     ap (λ (r : Bool). clockB c mode r .underflow) (no-rise 5 (s .last .ports)) ∙ underflow-b c mode
 
 -- a counter, or the wait, that counts down is above 0, or it does not count down
-not-at-zero : (running : Bool) (count : ℕ) → (running ≡ true → 0 < count) → (running && eqb count 0) ≡ false
+pub not-at-zero : (running : Bool) (count : ℕ) → (running ≡ true → 0 < count) → (running && eqb count 0) ≡ false
 not-at-zero true count h = ne-eqb count 0 (λ e. let k = h refl in omega arith)
 not-at-zero false count h = refl
 
-above-zero : (running : Bool) (count : ℕ) → (running && eqb count 0) ≡ false → running ≡ true → 0 < count
+pub above-zero : (running : Bool) (count : ℕ) → (running && eqb count 0) ≡ false → running ≡ true → 0 < count
 above-zero true count e z = let k = eqb-false count 0 e in omega arith
 above-zero false count e z = absurd (false≢true z)
 
@@ -182,7 +182,7 @@ unfolding countA runningA setWhere flipWhere
 counted-a-quiet p x h =
     rw (no-rise 4 x, clock-passes-a (p .countera) (modeA (p .control .mcr) (p .control .sccr)) (not (bit 4 x)) h)
 
-counted-b-quiet : (p : Peripherals) (x : ℕ) → (runningB (p .control) ≡ true → 0 < p .counterb .count)
+pub counted-b-quiet : (p : Peripherals) (x : ℕ) → (runningB (p .control) ≡ true → 0 < p .counterb .count)
     → countB p x x ≡ withCounterB p (passB (p .counterb) (runningB (p .control)) (clocksOf 1))
 unfolding countB runningB setWhere flipWhere
 counted-b-quiet p x h = rw (no-rise 5 x, clock-passes-b (p .counterb) (modeB (p .control .mcr)) h)
@@ -196,7 +196,7 @@ heard-none : (p : Peripherals) (x : ℕ) → heardBy p (ticksOf false) x x ≡ p
 unfolding heardBy receiverClock ticksOf
 heard-none p x = rw (no-rise 4 x)
 
-worked-quiet : (p : Peripherals) (x : ℕ) → (runningA (p .control) x ≡ true → 0 < p .countera .count)
+pub worked-quiet : (p : Peripherals) (x : ℕ) → (runningA (p .control) x ≡ true → 0 < p .countera .count)
     → (runningB (p .control) ≡ true → 0 < p .counterb .count) → worked p x x ≡ passCounters p x (clocksOf 1)
 unfolding worked
 worked-quiet p x a b =
@@ -207,22 +207,26 @@ worked-quiet p x a b =
 abbrev pub workedTo : State → Peripherals → State
 workedTo s p = record { cpu = s .cpu; due = s .due; peripherals = p; external = s .external; last = s .last; clock = s .clock }
 
--- steps 1 to 3
-pub ready-still : (s : State) → Still s → readyOf s [] ≡ workedTo (ahead s) (passCounters (s .peripherals) (s .last .ports) (clocksOf 1))
+-- steps 1 to 3, where the levels are the last ones
+pub ready-worked : (s : State) → levelsOf s ≡ s .last → (s .last .res ≡ false → isReset s ≡ true)
+    → readyOf s [] ≡ workedTo (ahead s) (worked (s .peripherals) (s .last .ports) (s .last .ports))
 unfolding readyOf
+ready-worked s levels reset = rw (inputsSet-ahead s, sensed-ahead s levels reset)
+
+pub ready-still : (s : State) → Still s → readyOf s [] ≡ workedTo (ahead s) (passCounters (s .peripherals) (s .last .ports) (clocksOf 1))
 ready-still s q =
-    rw (inputsSet-ahead s, sensed-ahead s (q .levels) (q .reset), worked-quiet (s .peripherals) (s .last .ports) (q .above-a) (q .above-b))
+    ready-worked s (q .levels) (q .reset) ∙ rw (worked-quiet (s .peripherals) (s .last .ports) (q .above-a) (q .above-b))
 
 ready-quiet : (s : State) → Quiet s → readyOf s [] ≡ workedTo (ahead s) (passCounters (s .peripherals) (s .last .ports) (clocksOf 1))
 ready-quiet s q = ready-still s (q .still)
 
 -- the CPU neither starts nor puts a byte: it waits, and where a byte waits for more than a clock
-not-put : (r b : Bool) (wait : ℕ) → (r ≡ true → 0 < wait - digit b) → (r && b && eqb wait 1) ≡ false
+pub not-put : (r b : Bool) (wait : ℕ) → (r ≡ true → 0 < wait - digit b) → (r && b && eqb wait 1) ≡ false
 not-put true true wait h = ne-eqb wait 1 (λ e. let k = h refl in omega arith)
 not-put true false wait h = refl
 not-put false b wait h = refl
 
-not-over : (r : Bool) (d wait : ℕ) → (r ≡ true → 0 < wait - d) → r ≡ true → 0 < wait
+pub not-over : (r : Bool) (d wait : ℕ) → (r ≡ true → 0 < wait - d) → r ≡ true → 0 < wait
 not-over r d wait h e = let k = h e in omega arith
 
 acts-later : (r b : Bool) (wait : ℕ) → (r && eqb wait 0) ≡ false → (r && b && eqb wait 1) ≡ false → r ≡ true → 0 < wait - digit b

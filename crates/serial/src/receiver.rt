@@ -109,7 +109,7 @@ fn status_after(scsr: u8, wrong: bool, low: bool) -> u8
 }
 
 // The register with a level shifted into bit 10.
-fn with_level(register: u16, high: bool) -> u16
+pub fn with_level(register: u16, high: bool) -> u16
     ensures { λ r. ⌜ r ≡ withLevel register high ⌝ }
 {
     if high {

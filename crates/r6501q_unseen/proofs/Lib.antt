@@ -1,0 +1,6 @@
+pub mod CounterA
+pub mod Transmission
+pub mod Reception
+pub mod Clocks
+pub mod TickClocks
+pub mod Laws
