@@ -1,6 +1,7 @@
 pub mod Laws
 pub mod Runs
 pub mod Spanned
+pub mod Ticked
 pub mod Fair
 pub mod Halted
 pub mod Held

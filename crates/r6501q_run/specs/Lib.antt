@@ -1,3 +1,4 @@
 pub mod Leap
 pub mod Spanned
 pub mod Fair
+pub mod Ticked

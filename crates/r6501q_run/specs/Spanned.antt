@@ -1,38 +1,12 @@
 -- The leaps of a span: some of the leaps of a run, done together.
 use mathlib.Core.Path.{_≡_}
-use mathlib.Core.Bool.{cond}
 use mathlib.Core.List.{List}
-use Prim.Native.Nat.{ℕ, _+_, _-_, _≤_}
-use lib.Dec.{eqb}
-use lib.ListN.{drop}
-use Rattle.counters.specs.declared.time.Clocks.{Clocks}
+use Prim.Native.Nat.{ℕ, _+_, _≤_}
 use Rattle.leaps.specs.Leaps.{ByLeaps}
 use Rattle.cpu_access.specs.declared.halt.Halt.{Halt}
-use Rattle.r6501q_spans.specs.declared.Working.{Working}
-use Rattle.r6501q_gaps.specs.Gaps.{clocksOf}
-use Rattle.r6501q_spans.specs.Spans.{spanOf, workingState}
 use Rattle.r6501q_step.specs.R6501q.{chip}
 use Rattle.r6501q_step.specs.World.{worldOf}
 use Rattle.r6501q_run.specs.declared.Leaped.{Leaped}
-
--- the clocks in which only the CPU acts
-unfoldable pub spanFrom : Leaped → List ℕ → Clocks
-spanFrom at inputClocks =
-    cond (eqb (at .progress .stop) 0)
-    (spanOf (at .left .0) (at .progress .state) (drop (at .progress .read) inputClocks)) (clocksOf 0)
-
--- the run after the leaps of a span
-abbrev pub spannedTo : Leaped → Working → Leaped
-spannedTo at v = record {
-  progress = record {
-    state = workingState (at .progress .state) v;
-    read = at .progress .read;
-    written = at .progress .written;
-    stop = at .progress .stop;
-  };
-  left = clocksOf (at .left .0 - v .work .gone .0);
-  leaps = at .leaps + v .work .leaps;
-}
 
 -- `r` is reached from `at` by so many whole leaps of document 01's, each the gap, the gap passed and the event clock,
 -- and the count is raised by as many. How many leaps, none at least, is left free. They are the same for any codes

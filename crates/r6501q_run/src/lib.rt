@@ -13,7 +13,8 @@ ghost use Rattle.r6501q_step.specs.R6501q.{chip, machine};
 ghost use Rattle.r6501q_step.specs.World.{worldOf};
 ghost use Rattle.r6501q_step.specs.Calls.{handed, leapsFrom};
 ghost use Rattle.r6501q_run.specs.Leap.{passedBy, goesOn, runFrom, runEnded, beginRun, Leaping};
-ghost use Rattle.r6501q_run.specs.Spanned.{spanFrom, spannedTo, Spanned};
+ghost use Rattle.r6501q_run.specs.Spanned.{Spanned};
+ghost use Rattle.r6501q_run.specs.Ticked.{SpanBegun, sharedIn, tickedTo, Ending};
 use counters::time::Clocks;
 use cpu_access::halt::Halt;
 use page_sums::WRONG_PAGE_LIST;
@@ -30,6 +31,10 @@ use r6501q_step::call_refusal;
 use r6501q_step::leaps_from;
 use r6501q_step::refused;
 use r6501q_step::result_of;
+use r6501q_unseen::Ticking;
+use r6501q_unseen::on_tick;
+use r6501q_unseen::ticking_of;
+use r6501q_unseen::ticks_in;
 
 // How far a run has come: the clocks left, and the leaps done.
 pub struct Leaped {
@@ -170,10 +175,10 @@ fn leap_once(
     }
 }
 
-// The clocks in which only the CPU acts; none where the run has stopped.
+// The clocks in which nothing but the CPU does what can be seen; none where the run has stopped.
 fn span_from(at: Leaped, inputclocks: &[u32]) -> Clocks
     requires { ⌜ at .progress .read ≤ length (now inputclocks) ⌝ }
-    ensures { λ r. ⌜ r ≡ spanFrom at (now (inputclocks .entry)) ⌝ }
+    ensures { λ r. ⌜ (0 < r .0 → SpanBegun at (now (inputclocks .entry)) (r .0)) ⌝ }
 {
     if at.progress.stop != 0 {
         return Clocks(0);
@@ -182,13 +187,27 @@ fn span_from(at: Leaped, inputclocks: &[u32]) -> Clocks
     r6501q_spans::span(at.progress.state, at.left, &inputclocks[from..])
 }
 
-// A run after the leaps of a span.
-fn spanned_to(at: Leaped, v: Working) -> Leaped
-    requires { ⌜ (at .progress .state .clock + v .work .gone .0 ≤ 4294967295)
-        × (at .leaps + v .work .leaps ≤ 4294967295) × (v .work .gone .0 ≤ at .left .0) ⌝ }
-    ensures { λ r. ⌜ r ≡ spannedTo at v ⌝ }
+// The CPU's event clocks from one state of it to the next, none or one, that are ticks too.
+fn shared_in(ticking: Ticking, v: Working, next: Working) -> u32
+    requires { ⌜ 0 < ticking .period ⌝ }
+    ensures { λ r. ⌜ r ≡ sharedIn ticking v next ⌝ }
 {
-    let state = r6501q_spans::working_state(at.progress.state, v);
+    if v.work.gone.0 < next.work.gone.0 {
+        if on_tick(ticking, next.work.gone.0) {
+            return 1;
+        }
+    }
+    0
+}
+
+// A run after the leaps of a span.
+fn spanned_to(at: Leaped, v: Working, shared: u32) -> Leaped
+    requires { ⌜ Ending at v shared ⌝ }
+    ensures { λ r. ⌜ r ≡ tickedTo at v shared ⌝ }
+{
+    let before = at.progress.state;
+    let ticks = ticks_in(before.peripherals, before.last.ports, v.work.gone);
+    let state = r6501q_spans::working_state(before, v);
     let progress = Progress {
         state: state,
         read: at.progress.read,
@@ -198,12 +217,12 @@ fn spanned_to(at: Leaped, v: Working) -> Leaped
     Leaped {
         progress: progress,
         left: Clocks(at.left.0 - v.work.gone.0),
-        leaps: at.leaps + v.work.leaps,
+        leaps: at.leaps + (v.work.leaps + ticks - shared),
     }
 }
 
-// The leaps of a span, one for each instruction that starts in it and one for each byte that is put in it, up to the
-// first that is not the CPU's alone.
+// The leaps of a span, one for each instruction that starts in it, for each byte that is put in it and for each tick
+// before, up to the first that is not the CPU's alone.
 fn leap_within(
     at: Leaped,
     span: Clocks,
@@ -214,19 +233,23 @@ fn leap_within(
     halt: Halt,
 ) -> Leaped
     requires { ⌜ (at .progress .state .clock + at .left .0 ≤ 4294967295) × (at .leaps + at .left .0 ≤ 4294967295) ⌝ }
-    requires { ⌜ (span ≡ spanFrom at (now inputclocks)) × (0 < span .0) ⌝ }
+    requires { ⌜ SpanBegun at (now inputclocks) (span .0) ⌝ }
     requires { ⌜ now entries ≡ opcodeTable ⌝ }
     ensures { λ r. ⌜ Spanned halt at (now (memory .entry)) r (now (memory .exit)) (now (inputclocks .entry)) ⌝ }
     ensures { λ _. ⌜ now (sums .exit) ≡ sumsAfter (now (sums .entry)) (now (memory .entry)) (now (memory .exit)) ⌝ }
 {
-    let mut v = begin_work(at.progress.state);
+    let before = at.progress.state;
+    let ticking = ticking_of(before.peripherals, before.last.ports);
+    let mut v = begin_work(before);
+    let mut shared = 0u32;
     let mut on = true;
     while on {
         let next = work_once(v, span, memory, sums, entries, halt);
         on = v.work.gone.0 < next.work.gone.0;
+        shared = shared + shared_in(ticking, v, next);
         v = next;
     }
-    spanned_to(at, v)
+    spanned_to(at, v, shared)
 }
 
 // The leaps of a span, if there is one.

@@ -1,12 +1,10 @@
--- Spans: clocks in which nothing of the chip acts but the CPU.
+-- Spans: clocks in which nothing but the CPU does what can be seen.
 use mathlib.Core.Path.{_≡_}
-use mathlib.Core.Bool.{Bool, true, false, _&&_, _||_, not, cond}
+use mathlib.Core.Bool.{Bool, false, _&&_, _||_, not, cond}
 use mathlib.Core.List.{List, []}
-use Prim.Native.Nat.{ℕ, _+_, _-_, min}
+use Prim.Native.Nat.{ℕ, _+_, _-_}
 use lib.Dec.{ltb, leb, eqb}
 use Rattle.cpu_alu.specs.Status.{packed, unpacked}
-use Rattle.counters.specs.declared.time.Clocks.{Clocks}
-use Rattle.r6501q_state.specs.declared.state.Cpu.{Cpu}
 use Rattle.r6501q_state.specs.declared.state.State.{State}
 use Rattle.r6501q_state.specs.Control.{pending}
 use Rattle.cpu_access.specs.declared.stack.Write.{Write}
@@ -23,9 +21,9 @@ use Rattle.cpu.specs.declared.Outcome.{Outcome}
 use Rattle.cpu.specs.declared.Outcome.the-variants.{Stopped, Asked, Done}
 use Rattle.cpu.specs.declared.quiet.Work.{Work}
 use Rattle.cpu.specs.Instruction.{instructionOf}
-use Rattle.cpu.specs.Quiet.{nextWork, Quietly}
-use Rattle.r6501q_cpu.specs.Processor.{registersOf, cpuOf}
-use Rattle.r6501q_gaps.specs.Gaps.{clocksOf, toInput, toChange, toUnderflowA, toUnderflowB, passCounters}
+use Rattle.cpu.specs.Quiet.{nextWork}
+use Rattle.r6501q_cpu.specs.Processor.{registersOf}
+use Rattle.r6501q_gaps.specs.Gaps.{clocksOf}
 use Rattle.r6501q_clock.specs.Commit.{committed}
 use Rattle.r6501q_spans.specs.declared.Working.{Working}
 
@@ -37,31 +35,10 @@ onlyCpu s =
     && not (pending (s .peripherals .control))
     && eqb (packed (unpacked (s .cpu .p))) (s .cpu .p)
 
--- the clocks before the next event clock that is one by anything but the CPU: the least over the other kinds
--- of event, n clocks being left. With RES high, RES low changes nothing.
-unfoldable pub nearestEvent : ℕ → State → List ℕ → ℕ
-nearestEvent n s clocks =
-    min n (min (toInput n (s .clock) clocks) (min (toChange n s) (min (toUnderflowA n s) (toUnderflowB n s))))
-
--- none where more than the CPU may act
-unfoldable pub spanOf : ℕ → State → List ℕ → Clocks
-spanOf n s clocks = cond (onlyCpu s) (clocksOf (nearestEvent n s clocks)) (clocksOf 0)
-
 abbrev pub beginWork : State → Working
 beginWork s = record {
   work = record { registers = registersOf (s .cpu); wait = s .cpu .wait; gone = clocksOf 0; leaps = 0 };
   waiting = s .cpu .waiting;
-}
-
--- the state in a span that began with `s`: its clock and the counters that run go on, and all else but the CPU stays
-abbrev pub workingState : State → Working → State
-workingState s v = record {
-  cpu = cpuOf (v .work .registers) (v .work .wait) (v .waiting);
-  due = s .due;
-  peripherals = passCounters (s .peripherals) (s .last .ports) (v .work .gone);
-  external = s .external;
-  last = s .last;
-  clock = s .clock + v .work .gone .0;
 }
 
 abbrev pub noneWaiting : Work → Working
@@ -108,14 +85,6 @@ unfoldable pub memoryAfter : Halt → ℕ → Work → List ℕ → List ℕ
 memoryAfter halt span w memory =
     cond (leb (span - w .gone .0) (w .wait)) memory (memoryBy halt memory (instructionOf (w .registers) [] memory))
 
--- the instructions that write nothing, and the one after them. How many of those there are is left free, none at least:
--- the work may stop at once, and what is left over is done by the next leap.
-pub record InstructionsWorked (halt : Halt) (span : ℕ) (w : Work) (memory : List ℕ) (r : Working) (memory' : List ℕ) : Type 0 where
-  pub at : Work
-  pub quietly : Quietly span [] memory w at
-  pub work : r ≡ workAfter halt span at memory
-  pub bytes : memory' ≡ memoryAfter halt span at memory
-
 -- ---- a byte waits: it is put
 
 -- the clocks waited, on the last of which the byte is put
@@ -139,6 +108,7 @@ unfoldable pub memoryPut : Halt → ℕ → Work → Write → List ℕ → List
 memoryPut halt span w x memory = cond (putsWithin halt span w x) (committed memory (oneWrite x)) memory
 
 abbrev pub WorkedOn : Halt → ℕ → Work → Waiting → List ℕ → Working → List ℕ → Type 0
-WorkedOn halt span w waiting.Nothing memory r memory' = InstructionsWorked halt span w memory r memory'
+WorkedOn halt span w waiting.Nothing memory r memory' =
+    (r ≡ workAfter halt span w memory) × (memory' ≡ memoryAfter halt span w memory)
 WorkedOn halt span w (waiting.Byte x) memory r memory' =
     (r ≡ workPut halt span w x) × (memory' ≡ memoryPut halt span w x memory)

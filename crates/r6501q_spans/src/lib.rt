@@ -1,16 +1,18 @@
-// Spans: clocks in which nothing of the chip acts but the CPU. Each instruction that starts in a span is a leap of its
-// own; it is done on a small record, and the rest of the chip is brought up to date once, at the end.
+// Spans: clocks in which nothing but the CPU does what can be seen. Each instruction that starts in a span is a leap of
+// its own; it is done on a small record, and the rest of the chip is brought up to date once, at the end.
 ghost use mathlib.Core.Path.{_≡_};
-ghost use Prim.Native.Nat.{_+_, _≤_};
+ghost use Prim.Native.Nat.{_+_, _≤_, _<_};
 ghost use Rattle.page_sums.specs.PageSums.{sumsAfter};
 ghost use Rattle.cpu_opcodes.specs.Table.{opcodeTable};
 ghost use Rattle.cpu.specs.Quiet.{WithinSpan};
-ghost use Rattle.r6501q_spans.specs.Spans.{onlyCpu, spanOf, beginWork, workingState, noneWaiting, writesRegister, endsSpan, continuedBy, committedBy, putWork, workPut, memoryPut, InstructionsWorked, WorkedOn};
+ghost use Rattle.r6501q_unseen.specs.Unseen.{Unseen};
+ghost use Rattle.r6501q_spans.specs.Spans.{onlyCpu, beginWork, noneWaiting, writesRegister, endsSpan, continuedBy, committedBy, workAfter, memoryAfter, putWork, workPut, memoryPut, WorkedOn};
+ghost use Rattle.r6501q_spans.specs.Ticked.{AloneSeen, tickedState};
 use counters::time::Clocks;
 use cpu::Outcome;
 use cpu::quiet::Work;
 use cpu::quiet::next_work;
-use cpu::quiet::run_instructions;
+use cpu::quiet::one_outcome;
 use cpu_access::halt::Halt;
 use cpu_access::halt::halts;
 use cpu_access::stack::Write;
@@ -26,10 +28,10 @@ use r6501q_cpu::cpu_of;
 use r6501q_cpu::registers_of;
 use r6501q_gaps::distances::to_change;
 use r6501q_gaps::distances::to_input;
-use r6501q_gaps::distances::to_underflow_a;
-use r6501q_gaps::distances::to_underflow_b;
 use r6501q_gaps::nearer;
 use r6501q_state::state::State;
+use r6501q_unseen::unseen_clocks;
+use r6501q_unseen::work_unseen;
 
 // The CPU at work in a span, and the byte that waits.
 pub struct Working {
@@ -46,15 +48,14 @@ fn only_cpu(s: State) -> bool
     undisturbed & !s.peripherals.control.pending() & (status.pack() == s.cpu.p)
 }
 
-// The clocks in which nothing but the CPU acts, at most those left. `clocks` are those of the rest of the input list.
+// The clocks in which nothing but the CPU does what can be seen, at most those left. `clocks` are those of the rest of
+// the input list.
 pub fn span(s: State, left: Clocks, clocks: &[u32]) -> Clocks
-    ensures { λ r. ⌜ r ≡ spanOf (left .0) s (now (clocks .entry)) ⌝ }
+    ensures { λ r. ⌜ (0 < r .0 → AloneSeen (left .0) s (now (clocks .entry)) (r .0)) × (r .0 ≤ 2147483647) ⌝ }
 {
     if only_cpu(s) {
-        let underflow = nearer(to_underflow_a(left, s), to_underflow_b(left, s));
-        let change = nearer(to_change(left, s), underflow);
-        let input = nearer(to_input(left, s.clock, clocks), change);
-        return nearer(left, input);
+        let input = nearer(to_input(left, s.clock, clocks), to_change(left, s));
+        return unseen_clocks(s.peripherals, s.last.ports, nearer(left, input));
     }
     Clocks(0)
 }
@@ -78,15 +79,19 @@ pub fn begin_work(s: State) -> Working
 }
 
 // The chip brought up to date. The clock must have room for what is gone.
-pub fn working_state(s: State, v: Working) -> State
+pub fn working_state(mut s: State, v: Working) -> State
     requires { ⌜ s .clock + v .work .gone .0 ≤ 4294967295 ⌝ }
-    ensures { λ r. ⌜ r ≡ workingState s v ⌝ }
+    requires { ⌜ Unseen (v .work .gone .0) (s .last .ports) (s .peripherals) ⌝ }
+    ensures { λ r. ⌜ r ≡ tickedState s v ⌝ }
 {
-    let mut state = r6501q_gaps::pass(s, v.work.gone);
+    let peripherals = work_unseen(s.peripherals, s.last.ports, v.work.gone);
     let waiting = v.waiting;
     let cpu = cpu_of(v.work.registers, v.work.wait, waiting);
-    state.cpu = cpu;
-    state
+    let clock = s.clock + v.work.gone.0;
+    s.cpu = cpu;
+    s.peripherals = peripherals;
+    s.clock = clock;
+    s
 }
 
 fn none_waiting(w: Work) -> Working
@@ -141,9 +146,9 @@ fn continue_work(
     }
 }
 
-// The instructions that write nothing, and the one that comes next, if it starts within the span, reads no register of
-// the chip, and pushes neither to one nor at the halt address. `entries` is what `cpu_opcodes::opcode_table` gave.
-fn work_instructions(
+// The next instruction, if it starts within the span, reads no register of the chip, and pushes neither to one nor at
+// the halt address. `entries` is what `cpu_opcodes::opcode_table` gave.
+fn work_instruction(
     w: Work,
     span: Clocks,
     memory: &mut [u8],
@@ -153,20 +158,19 @@ fn work_instructions(
 ) -> Working
     requires { ⌜ WithinSpan w (span .0) ⌝ }
     requires { ⌜ now entries ≡ opcodeTable ⌝ }
-    ensures { λ r. ⌜ InstructionsWorked halt (span .0) w (now (memory .entry)) r (now (memory .exit)) ⌝ }
+    ensures { λ r. ⌜ r ≡ workAfter halt (span .0) w (now (memory .entry)) ⌝ }
+    ensures { λ _. ⌜ now (memory .exit) ≡ memoryAfter halt (span .0) w (now (memory .entry)) ⌝ }
     ensures { λ _. ⌜ now (sums .exit) ≡ sumsAfter (now (sums .entry)) (now (memory .entry)) (now (memory .exit)) ⌝ }
 {
-    let answers = [0u8; 0];
-    let stopped = run_instructions(w, span, &answers, memory, entries);
-    let at = stopped.at;
-    if span.0 - at.gone.0 <= at.wait as u32 {
-        return none_waiting(at);
+    if span.0 - w.gone.0 <= w.wait as u32 {
+        return none_waiting(w);
     }
-    let outcome = stopped.outcome;
+    let answers = [0u8; 0];
+    let outcome = one_outcome(w.registers, &answers, memory, entries);
     match outcome {
-        Outcome::Stopped(_) => none_waiting(at),
-        Outcome::Asked(_) => none_waiting(at),
-        Outcome::Done(worked) => continue_work(at, worked, memory, sums, halt),
+        Outcome::Stopped(_) => none_waiting(w),
+        Outcome::Asked(_) => none_waiting(w),
+        Outcome::Done(worked) => continue_work(w, worked, memory, sums, halt),
     }
 }
 
@@ -213,8 +217,8 @@ fn put_within(
     }
 }
 
-// One leap of a span by the byte that waits, or some by instructions; none where neither can be done in it. `entries`
-// is what `cpu_opcodes::opcode_table` gave.
+// The CPU's next step in a span: the byte that waits is put, or an instruction starts; none where neither can be done in
+// it. `entries` is what `cpu_opcodes::opcode_table` gave.
 pub fn work_once(
     v: Working,
     span: Clocks,
@@ -231,7 +235,7 @@ pub fn work_once(
     let work = v.work;
     let waiting = v.waiting;
     match waiting {
-        Waiting::Nothing => work_instructions(work, span, memory, sums, entries, halt),
+        Waiting::Nothing => work_instruction(work, span, memory, sums, entries, halt),
         Waiting::Byte(x) => put_within(work, x, span, memory, sums, halt),
     }
 }

@@ -27,7 +27,7 @@ leap-within-requires : tie.Need-leap-within-requires
 leap-within-requires c κs =
     let root = c .before .before .before .before .before .before .before .before .before in
     let some = c .before .before .if1 .left in
-    (root .pre .0, ((c .before .before .before .before .span-from .ensures, omega (arith, some)), root .pre .1 .1))
+    (root .pre .0, (c .before .before .before .before .span-from .ensures (omega (arith, some)), root .pre .1 .1))
 
 -- src/lib.rt:233:1
 same-length : tie.Need-same-length

@@ -1,7 +1,5 @@
-use mathlib.Core.Path.{sym}
-use borrow.Author.Tests.{ne-eqb, eq-eqb}
+use native.Mathlib.Omega.{arith}
 use Rattle.r6501q_step.proofs.Worlds.{lent-part}
-use Rattle.r6501q_run.specs.Spanned.{spanFrom}
 use borrow.Author.Needs.{needs}
 use Rattle.r6501q_run.proofs.span_from.Statement.{statement}
 use Rattle.r6501q_run.proofs.span_from.Tie as tie
@@ -9,35 +7,37 @@ use Rattle.r6501q_run.proofs.span_from.Reads as reads
 use Rattle.r6501q_run.proofs.span_from.Lts as lts
 use Rattle.r6501q_spans.proofs.span.Reads as span-reads
 
--- src/lib.rt:137:9
+-- src/lib.rt:184:9
 returns : tie.Need-returns
-unfolding spanFrom
-returns c = rw (ne-eqb _ 0 (c .if1 .taken))
+returns c = λ some. absurd (omega arith)
 
--- src/lib.rt:140:45
+-- src/lib.rt:187:52
 mul-span : tie.Need-mul-span
 mul-span c = search needs
 
--- src/lib.rt:140:45
+-- src/lib.rt:187:52
 sub-span : tie.Need-sub-span
 sub-span c = search needs
 
--- src/lib.rt:140:45
+-- src/lib.rt:187:52
 part-span-start : tie.Need-part-span-start
 part-span-start c = search needs
 
--- src/lib.rt:140:45
+-- src/lib.rt:187:52
 part-span-end : tie.Need-part-span-end
 part-span-end c = search needs
 
--- src/lib.rt:140:5
+-- src/lib.rt:187:5
 span-requires : tie.Need-span-requires
 span-requires c κs = search needs
 
--- src/lib.rt:132:1
+-- src/lib.rt:179:1
 returns-2 : tie.Need-returns-2
-unfolding spanFrom
-returns-2 c = rw (c .span .ensures, eq-eqb _ 0 (c .before .before .if1 .left), lent-part _ _)
+returns-2 c = λ some. record {
+  on = c .before .before .if1 .left;
+  alone = rw (lent-part _ _) at (c .span .ensures .0 some);
+  short = c .span .ensures .1;
+}
 
 pub span-from-spec : {M : Type 1} → statement M
 span-from-spec =

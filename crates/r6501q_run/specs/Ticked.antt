@@ -1,0 +1,52 @@
+-- The leaps of a span that goes on through ticks.
+use mathlib.Core.Path.{_≡_}
+use mathlib.Core.Bool.{cond}
+use mathlib.Core.List.{List}
+use Prim.Native.Nat.{ℕ, _+_, _-_, _≤_}
+use lib.Dec.{ltb}
+use lib.ListN.{drop}
+use Rattle.bits.specs.Bits.{digit}
+use Rattle.r6501q_gaps.specs.Gaps.{clocksOf}
+use Rattle.r6501q_unseen.specs.declared.Ticking.{Ticking}
+use Rattle.r6501q_unseen.specs.Unseen.{ticksIn, Unseen, onTick}
+use Rattle.r6501q_spans.specs.declared.Working.{Working}
+use Rattle.r6501q_spans.specs.Ticked.{AloneSeen, tickedState}
+use Rattle.r6501q_run.specs.declared.Leaped.{Leaped}
+
+-- at its start nothing has stopped, and in the span only the CPU does what can be seen
+pub record SpanBegun (at : Leaped) (inputClocks : List ℕ) (span : ℕ) : Type 0 where
+  pub on : at .progress .stop ≡ 0
+  pub alone : AloneSeen (at .left .0) (at .progress .state) (drop (at .progress .read) inputClocks) span
+  pub short : span ≤ 2147483647
+
+-- the CPU's event clock, if there was one from `v` to `r`, is a tick's too
+unfoldable pub sharedIn : Ticking → Working → Working → ℕ
+sharedIn t v r = cond (ltb (v .work .gone .0) (r .work .gone .0)) (digit (onTick t (r .work .gone .0))) 0
+
+-- the clocks that the CPU acted on, and the ticks
+abbrev pub leapsTo : Leaped → Working → ℕ
+leapsTo at v =
+    v .work .leaps + ticksIn (v .work .gone .0) (at .progress .state .last .ports) (at .progress .state .peripherals)
+
+-- the run after the leaps of a span: one for each clock that the CPU acted on and for each tick, those on which both
+-- came counted once
+abbrev pub tickedTo : Leaped → Working → ℕ → Leaped
+tickedTo at v shared = record {
+  progress = record {
+    state = tickedState (at .progress .state) v;
+    read = at .progress .read;
+    written = at .progress .written;
+    stop = at .progress .stop;
+  };
+  left = clocksOf (at .left .0 - v .work .gone .0);
+  leaps = at .leaps + (leapsTo at v - shared);
+}
+
+-- what `tickedTo` asks
+pub record Ending (at : Leaped) (v : Working) (shared : ℕ) : Type 0 where
+  pub clock : at .progress .state .clock + v .work .gone .0 ≤ 4294967295
+  pub left : v .work .gone .0 ≤ at .left .0
+  pub unseen : Unseen (v .work .gone .0) (at .progress .state .last .ports) (at .progress .state .peripherals)
+  pub all : leapsTo at v ≤ 4294967295
+  pub fewer : shared ≤ leapsTo at v
+  pub leaps : at .leaps + (leapsTo at v - shared) ≤ 4294967295
