@@ -114,14 +114,14 @@ pub fn relative(offset: Fetched) -> Place
     crossing(offset.pc, target, offset.pc, bus)
 }
 
-fn at_zero_page(operand: Fetched) -> Place
+pub fn at_zero_page(operand: Fetched) -> Place
     ensures { λ r. ⌜ r ≡ atZeroPage operand ⌝ }
 {
     let bus = operand.bus;
     place_at(operand.value as u16, operand.pc, bus)
 }
 
-fn at_zero_page_indexed(index: u8, operand: Fetched) -> Place
+pub fn at_zero_page_indexed(index: u8, operand: Fetched) -> Place
     ensures { λ r. ⌜ r ≡ atZeroPageIndexed index operand ⌝ }
 {
     let bus = operand.bus;
@@ -129,21 +129,21 @@ fn at_zero_page_indexed(index: u8, operand: Fetched) -> Place
     place_at(z as u16, operand.pc, bus)
 }
 
-fn at_absolute(operand: FetchedWord) -> Place
+pub fn at_absolute(operand: FetchedWord) -> Place
     ensures { λ r. ⌜ r ≡ atAbsolute operand ⌝ }
 {
     let bus = operand.bus;
     place_at(operand.value, operand.pc, bus)
 }
 
-fn at_indexed(index: u8, operand: FetchedWord) -> Place
+pub fn at_indexed(index: u8, operand: FetchedWord) -> Place
     ensures { λ r. ⌜ r ≡ atIndexed index operand ⌝ }
 {
     let bus = operand.bus;
     indexed_by(index, operand.value, operand.pc, bus)
 }
 
-fn at_indexed_indirect(answers: &[u8], memory: &[u8], x: u8, operand: Fetched) -> Place
+pub fn at_indexed_indirect(answers: &[u8], memory: &[u8], x: u8, operand: Fetched) -> Place
     ensures { λ r. ⌜ r ≡ atIndexedIndirect (now (answers .entry)) (now (memory .entry)) x operand ⌝ }
 {
     let before = operand.bus;
@@ -153,7 +153,7 @@ fn at_indexed_indirect(answers: &[u8], memory: &[u8], x: u8, operand: Fetched) -
     place_at(pointer.value, operand.pc, bus)
 }
 
-fn at_indirect_indexed(answers: &[u8], memory: &[u8], y: u8, operand: Fetched) -> Place
+pub fn at_indirect_indexed(answers: &[u8], memory: &[u8], y: u8, operand: Fetched) -> Place
     ensures { λ r. ⌜ r ≡ atIndirectIndexed (now (answers .entry)) (now (memory .entry)) y operand ⌝ }
 {
     let before = operand.bus;
@@ -162,7 +162,7 @@ fn at_indirect_indexed(answers: &[u8], memory: &[u8], y: u8, operand: Fetched) -
     indexed_by(y, pointer.value, operand.pc, bus)
 }
 
-fn at_indirect(answers: &[u8], memory: &[u8], operand: FetchedWord) -> Place
+pub fn at_indirect(answers: &[u8], memory: &[u8], operand: FetchedWord) -> Place
     ensures { λ r. ⌜ r ≡ atIndirect (now (answers .entry)) (now (memory .entry)) operand ⌝ }
 {
     let before = operand.bus;

@@ -8,7 +8,7 @@ use memory::is_register;
 use page_sums::commit_byte;
 
 // A write to memory, where there is one; those at register addresses are not for memory.
-fn put_write(memory: &mut [u8], sums: &mut [u16], there: bool, w: Write)
+pub fn put_write(memory: &mut [u8], sums: &mut [u16], there: bool, w: Write)
     ensures { λ _. ⌜ now (memory .exit) ≡ putWrite there w (now (memory .entry)) ⌝ }
     ensures { λ _. ⌜ now (sums .exit) ≡ sumsAfter (now (sums .entry)) (now (memory .entry)) (now (memory .exit)) ⌝ }
 {

@@ -8,7 +8,7 @@ use native.Mathlib.Nat.{add-zero, add-assoc}
 use native.Mathlib.Omega.{arith}
 use lib.Dec.{ltb}
 use lib.ListN.{length, drop}
-use borrow.Author.Tests.{ltb-true, ltb-false, lt-ltb, le-ltb, eq-eqb}
+use borrow.Author.Tests.{ltb-true, ltb-false, lt-ltb, le-ltb, eq-eqb, ne-eqb}
 use Rattle.bits.specs.Bits.{digit}
 use Rattle.bits.proofs.Cond.{cond-both, digit-le}
 use Rattle.cpu_operations.specs.declared.Written.the-variants.{Nothing, Stored}
@@ -49,7 +49,12 @@ use Rattle.r6501q_spans.proofs.Ticked.{waited, nextWorking, byteWaiting, ticked
 use Rattle.r6501q_spans.proofs.Ticked.{ticked-waits, tick-gap, cpu-gap, ticked-passed, ticked-none, until-start}
 use Rattle.r6501q_spans.proofs.Ticked.{instruction-there, until-put, byte-there}
 use Rattle.r6501q_run.specs.declared.Leaped.{Leaped}
-use Rattle.r6501q_run.specs.Ticked.{SpanBegun, sharedIn, leapsTo, tickedTo, Ending}
+use Rattle.r6501q_fast.specs.declared.RanOn.{RanOn}
+use Rattle.r6501q_fast.specs.Attempts as turns
+use Rattle.r6501q_fast.specs.Attempts.{InTurn, sharedBy, RunsOn}
+use Rattle.r6501q_fast.proofs.Turns.{shared-most}
+use Rattle.r6501q_run.specs.declared.Stepped.{Stepped}
+use Rattle.r6501q_run.specs.Ticked.{SpanBegun, sharedIn, leapsTo, tickedTo, Ending, StepsOn}
 use Rattle.r6501q_run.specs.Spanned.{Spanned}
 use Rattle.r6501q_run.proofs.Runs.{leap-reaches}
 use Rattle.r6501q_run.proofs.Spanned.{work-either, put-either, room-after, room-put, no-end, same-memory}
@@ -393,6 +398,34 @@ module _ (halt : Halt) (at : Leaped) (clocks : List ℕ) (span : ℕ) (on : at .
         (rw (pushes, waits, same-memory memory Nothing refl, ticks start (omega arith)) at begun) (omega arith)
         (omega arith) q
 
+    -- instructions one after the other
+    pushing-shared : (shared k start : ℕ)
+        → shared + (k + sharedBy ticking start start) ≡ shared + k + digit (onTick ticking start)
+    unfolding sharedBy
+    pushing-shared shared k start = rw (eq-eqb start start refl) (omega arith)
+
+    storing-shared : (shared k start later : ℕ) → start < later
+        → shared + (k + sharedBy ticking start later)
+        ≡ shared + k + digit (onTick ticking start) + digit (onTick ticking later)
+    unfolding sharedBy
+    storing-shared shared k start later h = rw (ne-eqb later start (λ e. omega (arith, h, e))) (omega arith)
+
+    pub leapt-ran : (w : Work) (counted : ℕ) (memory₀ memory : List ℕ) → LeaptTo memory₀ (noneWaiting w) counted memory
+        → {w' : Work} {memory' : List ℕ} {k : ℕ} → InTurn halt span ticking w memory w' memory' k
+        → LeaptTo memory₀ (noneWaiting w') (counted + k) memory'
+    leapt-ran w counted memory₀ memory so-far turns.none = rw (add-zero counted) so-far
+    leapt-ran w counted memory₀ memory so-far
+        (turns.more {v} {w'} {before} {memory'} {shared} ran (turns.pushing worked inside e z q)) =
+        rw (pushing-shared counted shared (v .gone .0 + v .wait + 1))
+        (leapt-pushing v (counted + shared) memory₀ before (leapt-ran w counted memory₀ memory so-far ran) worked inside
+        e z q)
+    leapt-ran w counted memory₀ memory so-far
+        (turns.more {v} {w'} {before} {memory'} {shared} ran (turns.storing worked x fits long e z q)) =
+        rw (storing-shared counted shared (v .gone .0 + v .wait + 1) (v .gone .0 + v .wait + 1 + (worked .length - 1))
+        (omega (arith, long)))
+        (leapt-storing v (counted + shared) memory₀ before (leapt-ran w counted memory₀ memory so-far ran) worked x fits
+        long e z q)
+
     -- the next step of the CPU, whatever it comes to
     pub leapt-worked : (w : Work) (shared : ℕ) (memory₀ memory : List ℕ) → w .gone .0 ≤ span
         → LeaptTo memory₀ (noneWaiting w) shared memory
@@ -574,6 +607,36 @@ module _ (halt : Halt) (at : Leaped) (clocks : List ℕ) (span : ℕ) (memory₀
         → WorkedOn halt span (u .work) (u .waiting) memory v memory' → length memory' ≡ length memory
         → Within halt at clocks span memory₀ memory' v (shared + sharedIn t u v)
     within-goes memory memory' u v shared i o k = within-on memory memory' (u .work) (u .waiting) shared v i o k
+
+    within-ran : (memory memory' : List ℕ) (w : Work) (waits : Waiting) (shared : ℕ) (r : RanOn)
+        → Within halt at clocks span memory₀ memory (record { work = w; waiting = waits }) shared
+        → RunsOn halt span t w waits memory r memory' → WithinSpan (r .working .work) span
+        → length memory' ≡ length memory
+        → Within halt at clocks span memory₀ memory' (r .working) (shared + r .shared)
+    within-ran memory memory' w waiting.Nothing shared r i o room k =
+        let b = i .begun in
+        let none : r .working ≡ noneWaiting (r .working .work) =
+        ap (λ (x : Waiting). record { work = r .working .work; waiting = x }) (o .1) in
+        record {
+          begun = b;
+          leapt =
+              rw none
+              (leapt-ran halt at clocks span (b .on) (b .alone) t ticks w shared memory₀ memory (i .leapt) (o .0));
+          room = room;
+          shares = omega (arith, i .shares, shared-most halt span t w memory (o .0));
+          kept = k ∙ i .kept;
+        }
+    within-ran memory memory' w (waiting.Byte x) shared r i o room k = rw (o .0, o .1, add-zero shared) i
+
+    pub within-steps : (memory memory' : List ℕ) (v : Working) (shared : ℕ) (r : Stepped)
+        → Within halt at clocks span memory₀ memory v shared → StepsOn halt span t v memory r memory'
+        → Within halt at clocks span memory₀ memory' (r .working) (shared + r .shared)
+    within-steps memory memory' v shared r i o =
+        let ran = within-ran memory (o .between) (v .work) (v .waiting) shared (o .middle) i (o .ran) (o .room) (o .kept) in
+        let all : shared + r .shared ≡ shared + o .middle .shared + sharedIn t (o .middle .working) (r .working) =
+        rw (o .shared) (omega arith) in
+        rw all
+        (within-goes (o .between) memory' (o .middle .working) (r .working) (shared + o .middle .shared) ran (o .step) (o .keeps))
 
   -- what is handed back at its end
   module _ (memory : List ℕ) (v : Working) (shared : ℕ) (i : Within halt at clocks span memory₀ memory v shared) where

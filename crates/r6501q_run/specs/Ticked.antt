@@ -4,13 +4,19 @@ use mathlib.Core.Bool.{cond}
 use mathlib.Core.List.{List}
 use Prim.Native.Nat.{ℕ, _+_, _-_, _≤_}
 use lib.Dec.{ltb}
-use lib.ListN.{drop}
+use lib.ListN.{drop, length}
 use Rattle.bits.specs.Bits.{digit}
+use Rattle.cpu_access.specs.declared.halt.Halt.{Halt}
+use Rattle.cpu.specs.Quiet.{WithinSpan}
 use Rattle.r6501q_gaps.specs.Gaps.{clocksOf}
 use Rattle.r6501q_unseen.specs.declared.Ticking.{Ticking}
 use Rattle.r6501q_unseen.specs.Unseen.{ticksIn, Unseen, onTick}
 use Rattle.r6501q_spans.specs.declared.Working.{Working}
+use Rattle.r6501q_spans.specs.Spans.{WorkedOn}
 use Rattle.r6501q_spans.specs.Ticked.{AloneSeen, tickedState}
+use Rattle.r6501q_fast.specs.declared.RanOn.{RanOn}
+use Rattle.r6501q_fast.specs.Attempts.{RunsOn}
+use Rattle.r6501q_run.specs.declared.Stepped.{Stepped}
 use Rattle.r6501q_run.specs.declared.Leaped.{Leaped}
 
 -- at its start nothing has stopped, and in the span only the CPU does what can be seen
@@ -50,3 +56,17 @@ pub record Ending (at : Leaped) (v : Working) (shared : ℕ) : Type 0 where
   pub all : leapsTo at v ≤ 4294967295
   pub fewer : shared ≤ leapsTo at v
   pub leaps : at .leaps + (leapsTo at v - shared) ≤ 4294967295
+
+-- the leaps of a span further on from `v`: instructions by their opcodes (`middle`, `between`), then one more step of
+-- the CPU, with how many of the clocks that it acted on had a tick too
+pub record StepsOn (halt : Halt) (span : ℕ) (t : Ticking) (v : Working) (memory : List ℕ) (r : Stepped)
+    (memory' : List ℕ) : Type 0 where
+  pub middle : RanOn
+  pub between : List ℕ
+  pub ran : RunsOn halt span t (v .work) (v .waiting) memory middle between
+  pub step : WorkedOn halt span (middle .working .work) (middle .working .waiting) between (r .working) memory'
+  pub shared : r .shared ≡ middle .shared + sharedIn t (middle .working) (r .working)
+  pub room : WithinSpan (middle .working .work) span
+  pub fewer : middle .shared ≤ middle .working .work .gone .0
+  pub kept : length between ≡ length memory
+  pub keeps : length memory' ≡ length between

@@ -8,17 +8,19 @@ ghost use Rattle.leaps.specs.Lists.{runOf, plainRunOf};
 ghost use Rattle.leaps.specs.Calls.{callStart};
 ghost use Rattle.leaps.specs.Summed.{withSums};
 ghost use Rattle.cpu_opcodes.specs.Table.{opcodeTable};
+ghost use Rattle.cpu.specs.Quiet.{WithinSpan};
 ghost use Rattle.r6501q_gaps.specs.Gaps.{gapOf, clocksOf};
 ghost use Rattle.r6501q_step.specs.R6501q.{chip, machine};
 ghost use Rattle.r6501q_step.specs.World.{worldOf};
 ghost use Rattle.r6501q_step.specs.Calls.{handed, leapsFrom};
 ghost use Rattle.r6501q_run.specs.Leap.{passedBy, goesOn, runFrom, runEnded, beginRun, Leaping};
 ghost use Rattle.r6501q_run.specs.Spanned.{Spanned};
-ghost use Rattle.r6501q_run.specs.Ticked.{SpanBegun, sharedIn, tickedTo, Ending};
+ghost use Rattle.r6501q_run.specs.Ticked.{SpanBegun, sharedIn, tickedTo, Ending, StepsOn};
 use counters::time::Clocks;
 use cpu_access::halt::Halt;
 use page_sums::WRONG_PAGE_LIST;
 use page_sums::page_list_refused;
+use r6501q_fast::run_working;
 use r6501q_spans::Working;
 use r6501q_spans::begin_work;
 use r6501q_spans::work_once;
@@ -41,6 +43,12 @@ pub struct Leaped {
     pub progress: Progress,
     pub left: Clocks,
     pub leaps: u32,
+}
+
+// The CPU in a span after some leaps, and how many of the clocks that it acted on had a tick too.
+pub struct Stepped {
+    pub working: Working,
+    pub shared: u32,
 }
 
 // The gap before the next event clock of a call.
@@ -200,6 +208,31 @@ fn shared_in(ticking: Ticking, v: Working, next: Working) -> u32
     0
 }
 
+// The leaps of a span further on: instructions by their opcodes, as many as there are, then one more step of the CPU.
+fn steps_on(
+    v: Working,
+    span: Clocks,
+    ticking: Ticking,
+    memory: &mut [u8],
+    sums: &mut [u16],
+    entries: &[u16],
+    halt: Halt,
+) -> Stepped
+    requires { ⌜ WithinSpan (v .work) (span .0) ⌝ }
+    requires { ⌜ (span .0 ≤ 2147483647) × (0 < ticking .period) ⌝ }
+    requires { ⌜ now entries ≡ opcodeTable ⌝ }
+    ensures { λ r. ⌜ StepsOn halt (span .0) ticking v (now (memory .entry)) r (now (memory .exit)) ⌝ }
+    ensures { λ _. ⌜ now (sums .exit) ≡ sumsAfter (now (sums .entry)) (now (memory .entry)) (now (memory .exit)) ⌝ }
+{
+    let ran = run_working(v, span, ticking, memory, sums, halt);
+    let between = ran.working;
+    let next = work_once(between, span, memory, sums, entries, halt);
+    Stepped {
+        working: next,
+        shared: ran.shared + shared_in(ticking, between, next),
+    }
+}
+
 // A run after the leaps of a span.
 fn spanned_to(at: Leaped, v: Working, shared: u32) -> Leaped
     requires { ⌜ Ending at v shared ⌝ }
@@ -244,9 +277,10 @@ fn leap_within(
     let mut shared = 0u32;
     let mut on = true;
     while on {
-        let next = work_once(v, span, memory, sums, entries, halt);
+        let stepped = steps_on(v, span, ticking, memory, sums, entries, halt);
+        let next = stepped.working;
         on = v.work.gone.0 < next.work.gone.0;
-        shared = shared + shared_in(ticking, v, next);
+        shared = shared + stepped.shared;
         v = next;
     }
     spanned_to(at, v, shared)

@@ -94,7 +94,7 @@ pub fn working_state(mut s: State, v: Working) -> State
     s
 }
 
-fn none_waiting(w: Work) -> Working
+pub fn none_waiting(w: Work) -> Working
     ensures { λ r. ⌜ r ≡ noneWaiting w ⌝ }
 {
     Working {
@@ -114,7 +114,7 @@ fn writes_register(w: Writes) -> bool
 }
 
 // Whether a clock with these writes is left to the clock's own rules.
-fn ends_span(w: Writes, halt: Halt) -> bool
+pub fn ends_span(w: Writes, halt: Halt) -> bool
     ensures { λ r. ⌜ r ≡ endsSpan halt w ⌝ }
 {
     let register = writes_register(w);

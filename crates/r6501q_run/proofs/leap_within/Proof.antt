@@ -8,18 +8,10 @@ use Rattle.page_sums.specs.PageSums.{sumsAfter, SixteenBits}
 use Rattle.page_sums.proofs.Sums.{sums-kept, sums-then, sums-length}
 use Rattle.r6501q_unseen.proofs.Clocks.{unseen-fewer}
 use Rattle.r6501q_run.proofs.Spanned.{fewer-left}
-use Rattle.r6501q_run.proofs.Ticked.{shares-at-most, ticks-of, some-period, Within, within-begins, within-goes}
-use Rattle.r6501q_run.proofs.Ticked.{within-ends, ending}
+use Rattle.r6501q_run.proofs.Ticked.{ticks-of, some-period, Within, within-begins, within-steps, within-ends, ending}
 use borrow.Author.Needs.{needs}
 use Rattle.r6501q_run.proofs.leap_within.Statement.{statement}
 use Rattle.r6501q_run.proofs.leap_within.Tie as tie
-use Rattle.r6501q_run.proofs.leap_within.Reads as reads
-use Rattle.r6501q_run.proofs.leap_within.Lts as lts
-use Rattle.r6501q_run.proofs.shared_in.Reads as shared-in-reads
-use Rattle.r6501q_run.proofs.spanned_to.Reads as spanned-to-reads
-use Rattle.r6501q_spans.proofs.begin_work.Reads as begin-work-reads
-use Rattle.r6501q_spans.proofs.work_once.Reads as work-once-reads
-use Rattle.r6501q_unseen.proofs.ticking_of.Reads as ticking-of-reads
 
 abbrev Inv-loop : tie.InvT-loop
 Inv-loop at span memory₀ sums₀ inputclocks entries halt ticking v₀ shared₀ on₀ memory sums v shared on =
@@ -50,65 +42,51 @@ loop-holds c =
       sums-kept 0 (now (at .sums)) (now (at .memory)) words,
     )
 
--- src/lib.rt:247:13
-work-once-requires : tie.Need-work-once-requires Inv-loop μ-loop
-work-once-requires c κs = (
-  c .before .before .before .loop .inv .0 .room,
-  c .before .before .before .before .before .before .before .before .before .before .before .pre .1 .1,
-)
+steps-on-requires : tie.Need-steps-on-requires Inv-loop μ-loop
+steps-on-requires c κs =
+    let i = c .before .before .before .loop .inv .0 in
+    let ticking = c .before .before .before .before .before .ticking-of in
+    (i .room, ((i .begun .short, some-period _ _ (ticking .result) (ticking .ensures)), c .before .before .before .before .before .before .before .before .before .before .before .pre .1 .1))
 
--- src/lib.rt:249:27
-shared-in-requires : tie.Need-shared-in-requires Inv-loop μ-loop
-shared-in-requires c κs =
-    let ticking =
-    c .before .before .before .before .before .before .before .before .before .before .before .before .ticking-of in
-    some-period _ _ (ticking .result) (ticking .ensures)
-
--- src/lib.rt:249:18
 add-shared : tie.Need-add-shared Inv-loop μ-loop
 add-shared c =
-    let i = c .before .before .before .before .before .before .before .before .before .before .before .loop .inv .0 in
-    let most = shares-at-most _ _ _ _ (c .shared-in .ensures) in
-    omega (arith, i .shares, i .room .gone, i .begun .short, most)
+    let root = c .before .before .before .before .before .before .before .before .before .before .before .before .before .before .before .before .before .before .before .before in
+    let at = root .args in
+    let loop = c .before .before .before .before .before .before .before .before .before .before .before .before .loop in
+    let ticking = c .before .before .before .before .before .before .before .before .before .before .before .before .before .before .ticking-of in
+    let done = c .before .before .before .before .before .before .before .before .steps-on in
+    let next =
+    within-steps (at .halt) (at .at) (now (at .inputclocks)) (at .span .0) (now (at .memory)) (ticking .result)
+    (ticks-of (at .span .0) _ _ (ticking .result) (ticking .ensures) (loop .inv .0 .begun .short))
+    (loop .memory) _ (loop .v) (loop .shared) _ (loop .inv .0) (done .ensures .0) in
+    omega (arith, next .shares, next .room .gone, loop .inv .0 .begun .short)
 
--- src/lib.rt:246:5
 loop-less : tie.Need-loop-less Inv-loop μ-loop
 loop-less c =
-    let root =
-    c .before .before .before .before .before .before .before .before .before .before .before .before .before .before
-    .before .before .before .before .before in
+    let root = c .before .before .before .before .before .before .before .before .before .before .before .before .before .before .before .before .before .before .before .before in
     let at = root .args in
-    let loop = c .before .before .before .before .before .before .before .before .before .before .before .loop in
-    let ticking =
-    c .before .before .before .before .before .before .before .before .before .before .before .before .before
-    .ticking-of in
-    let done = c .before .before .before .before .before .before .before .work-once in
+    let loop = c .before .before .before .before .before .before .before .before .before .before .before .before .loop in
+    let ticking = c .before .before .before .before .before .before .before .before .before .before .before .before .before .before .ticking-of in
+    let done = c .before .before .before .before .before .before .before .before .steps-on in
     let next =
-    within-goes (at .halt) (at .at) (now (at .inputclocks)) (at .span .0) (now (at .memory)) (ticking .result)
+    within-steps (at .halt) (at .at) (now (at .inputclocks)) (at .span .0) (now (at .memory)) (ticking .result)
     (ticks-of (at .span .0) _ _ (ticking .result) (ticking .ensures) (loop .inv .0 .begun .short))
-    (loop .memory) _ (loop .v) _ (loop .shared) (loop .inv .0) (done .ensures .0) (done .kept .1 .1 .0) in
-    rw (c .before .before .before .before .before .before .before .before .before .before .loop-test .taken)
-    (fewer-left (at .span .0) (loop .v .work .gone .0) _ (next .room .gone))
+    (loop .memory) _ (loop .v) (loop .shared) _ (loop .inv .0) (done .ensures .0) in
+    rw (c .before .before .before .before .before .before .before .before .before .before .before .loop-test .taken) (fewer-left (at .span .0) (loop .v .work .gone .0) _ (next .room .gone))
 
--- src/lib.rt:246:5
 loop-again : tie.Need-loop-again Inv-loop μ-loop
 loop-again c =
-    let root =
-    c .before .before .before .before .before .before .before .before .before .before .before .before .before .before
-    .before .before .before .before .before in
+    let root = c .before .before .before .before .before .before .before .before .before .before .before .before .before .before .before .before .before .before .before .before in
     let at = root .args in
-    let loop = c .before .before .before .before .before .before .before .before .before .before .before .loop in
-    let ticking =
-    c .before .before .before .before .before .before .before .before .before .before .before .before .before
-    .ticking-of in
-    let done = c .before .before .before .before .before .before .before .work-once in
+    let loop = c .before .before .before .before .before .before .before .before .before .before .before .before .loop in
+    let ticking = c .before .before .before .before .before .before .before .before .before .before .before .before .before .before .ticking-of in
+    let done = c .before .before .before .before .before .before .before .before .steps-on in
     let next =
-    within-goes (at .halt) (at .at) (now (at .inputclocks)) (at .span .0) (now (at .memory)) (ticking .result)
+    within-steps (at .halt) (at .at) (now (at .inputclocks)) (at .span .0) (now (at .memory)) (ticking .result)
     (ticks-of (at .span .0) _ _ (ticking .result) (ticking .ensures) (loop .inv .0 .begun .short))
-    (loop .memory) _ (loop .v) _ (loop .shared) (loop .inv .0) (done .ensures .0) (done .kept .1 .1 .0) in (
-      rw (c .shared-in .ensures) next,
-      sums-then 0 (now (at .sums)) (now (at .memory)) (loop .memory) (done .last .1 .1 .0) (loop .inv .1)
-          (done .ensures .1),
+    (loop .memory) _ (loop .v) (loop .shared) _ (loop .inv .0) (done .ensures .0) in (
+      next,
+      sums-then 0 (now (at .sums)) (now (at .memory)) (loop .memory) (done .last .1 .1 .1 .0) (loop .inv .1) (done .ensures .1),
     )
 
 -- src/lib.rt:252:5
@@ -145,8 +123,7 @@ leap-within-spec =
     ticking-of-requires
     begin-work-requires
     loop-holds
-    work-once-requires
-    shared-in-requires
+    steps-on-requires
     add-shared
     loop-less
     loop-again

@@ -1,0 +1,4 @@
+pub mod Commits
+pub mod Opcodes
+pub mod Tried
+pub mod Turns
