@@ -3,5 +3,6 @@ pub mod Chip
 pub mod World
 pub mod Lists
 pub mod Calls
+pub mod Lent
 pub mod Summed
 pub mod Shifted

@@ -4,12 +4,14 @@ use mathlib.Core.Bool.{Bool, true, false, _&&_, cond}
 use mathlib.Core.List.{List}
 use Prim.Native.Nat.{ℕ}
 use lib.ListN.{length}
+use denote.Ref.{now}
 use Rattle.page_sums.specs.PageSums.{totalCall}
 use Rattle.bit_rate.specs.BitRate.{latchFor}
 use Rattle.refusals.specs.Refusals.{refusalOf}
 use Rattle.leaps.specs.World as leaps
 use Rattle.leaps.specs.Calls as calls
 use Rattle.leaps.specs.Calls.{refusedHanded}
+use Rattle.leaps.specs.Lent.{Lent}
 use Rattle.r6501q_state.specs.State.{wellFormed}
 use Rattle.r6501q_step.specs.R6501q.{World, Handed, Result, r6501qLimits}
 use Rattle.tape.specs.Tapes.{loadOf, loadWithSumsOf}
@@ -39,6 +41,11 @@ hostHanded r memory outputClocks outputWords = record {
   outputClocks = outputClocks;
   outputWords = outputWords;
 }
+
+-- the result of a call, and the lent lists at its exit
+abbrev pub hostAtExit : HostResult → Lent → Lent → Lent → HostHanded
+hostAtExit r memory outputClocks outputWords =
+    hostHanded r (now (memory .exit)) (now (outputClocks .exit)) (now (outputWords .exit))
 
 -- the library's world that a host's stands for, and back
 abbrev pub worldFromHost : HostWorld → World

@@ -5,12 +5,12 @@ ghost use Rattle.bits.specs.Bits.{digit};
 ghost use Rattle.page_sums.specs.PageSums.{sumsAfter};
 ghost use Rattle.refusals.specs.Refusals.{refusalOf};
 ghost use Rattle.leaps.specs.Lists.{stepOf, runOf, plainRunOf};
-ghost use Rattle.leaps.specs.Calls.{callStart};
+ghost use Rattle.leaps.specs.Lent.{atEntry};
 ghost use Rattle.leaps.specs.Summed.{withSums};
 ghost use Rattle.r6501q_state.specs.State.{fresh};
 ghost use Rattle.r6501q_step.specs.R6501q.{r6501qLimits, machine};
 ghost use Rattle.r6501q.specs.Host.{haltOf, hostState, hostRefused};
-ghost use Rattle.r6501q.specs.Calls.{hostWellFormed, hostHanded, hostCall, hostLoad, hostLoadWithSums, hostLoaded, hostTotal, hostLatch};
+ghost use Rattle.r6501q.specs.Calls.{hostWellFormed, hostCall, hostLoad, hostLoadWithSums, hostLoaded, hostTotal, hostLatch, hostAtExit};
 use bits::digit8;
 use host::HostLatchResult;
 use host::HostLoadResult;
@@ -110,9 +110,9 @@ pub extern "C" fn r6501q_step(
     outputwords: &mut [u32],
     halt: u32,
 ) -> HostResult
-    ensures { λ r. ⌜ hostHanded r (now (memory .exit)) (now (outputclocks .exit)) (now (outputwords .exit))
-        ≡ hostCall (stepOf (machine (haltOf halt))) 1 (callStart state (now (memory .entry)) (now (inputclocks .entry))
-        (now (inputcodes .entry)) (now (outputclocks .entry)) (now (outputwords .entry))) ⌝ }
+    ensures { λ r. ⌜ hostAtExit r memory outputclocks outputwords
+        ≡ hostCall (stepOf (machine (haltOf halt))) 1
+        (atEntry state memory inputclocks inputcodes outputclocks outputwords) ⌝ }
 {
     if !flags_fit(state) {
         return flag_refused(
@@ -149,13 +149,12 @@ pub extern "C" fn r6501q_run(
     n: u32,
     halt: u32,
 ) -> HostResult
-    ensures { λ r. ⌜ hostHanded r (now (memory .exit)) (now (outputclocks .exit)) (now (outputwords .exit))
-        ≡ hostCall (runOf (machine (haltOf halt)) n) n (callStart state (now (memory .entry)) (now (inputclocks .entry))
-        (now (inputcodes .entry)) (now (outputclocks .entry)) (now (outputwords .entry))) ⌝ }
-    ensures { λ r. ⌜ hostHanded r (now (memory .exit)) (now (outputclocks .exit)) (now (outputwords .exit))
-        ≡ hostCall (plainRunOf (machine (haltOf halt)) n) n (callStart state (now (memory .entry))
-        (now (inputclocks .entry)) (now (inputcodes .entry)) (now (outputclocks .entry))
-        (now (outputwords .entry))) ⌝ }
+    ensures { λ r. ⌜ hostAtExit r memory outputclocks outputwords
+        ≡ hostCall (runOf (machine (haltOf halt)) n) n
+        (atEntry state memory inputclocks inputcodes outputclocks outputwords) ⌝ }
+    ensures { λ r. ⌜ hostAtExit r memory outputclocks outputwords
+        ≡ hostCall (plainRunOf (machine (haltOf halt)) n) n
+        (atEntry state memory inputclocks inputcodes outputclocks outputwords) ⌝ }
 {
     if !flags_fit(state) {
         return flag_refused(
@@ -202,10 +201,9 @@ pub extern "C" fn r6501q_step_with_sums(
     outputwords: &mut [u32],
     halt: u32,
 ) -> HostResult
-    ensures { λ r. ⌜ hostHanded r (now (memory .exit)) (now (outputclocks .exit)) (now (outputwords .exit))
-        ≡ withSums (now (sums .entry)) (hostCall (stepOf (machine (haltOf halt))) 1) (callStart state
-        (now (memory .entry)) (now (inputclocks .entry)) (now (inputcodes .entry)) (now (outputclocks .entry))
-        (now (outputwords .entry))) ⌝ }
+    ensures { λ r. ⌜ hostAtExit r memory outputclocks outputwords
+        ≡ withSums (now (sums .entry)) (hostCall (stepOf (machine (haltOf halt))) 1)
+        (atEntry state memory inputclocks inputcodes outputclocks outputwords) ⌝ }
     ensures { λ _. ⌜ now (sums .exit) ≡ sumsAfter (now (sums .entry)) (now (memory .entry)) (now (memory .exit)) ⌝ }
 {
     if page_list_refused(memory.len(), sums.len()) {
@@ -248,14 +246,12 @@ pub extern "C" fn r6501q_run_with_sums(
     n: u32,
     halt: u32,
 ) -> HostResult
-    ensures { λ r. ⌜ hostHanded r (now (memory .exit)) (now (outputclocks .exit)) (now (outputwords .exit))
-        ≡ withSums (now (sums .entry)) (hostCall (runOf (machine (haltOf halt)) n) n) (callStart state
-        (now (memory .entry)) (now (inputclocks .entry)) (now (inputcodes .entry)) (now (outputclocks .entry))
-        (now (outputwords .entry))) ⌝ }
-    ensures { λ r. ⌜ hostHanded r (now (memory .exit)) (now (outputclocks .exit)) (now (outputwords .exit))
-        ≡ withSums (now (sums .entry)) (hostCall (plainRunOf (machine (haltOf halt)) n) n) (callStart state
-        (now (memory .entry)) (now (inputclocks .entry)) (now (inputcodes .entry)) (now (outputclocks .entry))
-        (now (outputwords .entry))) ⌝ }
+    ensures { λ r. ⌜ hostAtExit r memory outputclocks outputwords
+        ≡ withSums (now (sums .entry)) (hostCall (runOf (machine (haltOf halt)) n) n)
+        (atEntry state memory inputclocks inputcodes outputclocks outputwords) ⌝ }
+    ensures { λ r. ⌜ hostAtExit r memory outputclocks outputwords
+        ≡ withSums (now (sums .entry)) (hostCall (plainRunOf (machine (haltOf halt)) n) n)
+        (atEntry state memory inputclocks inputcodes outputclocks outputwords) ⌝ }
     ensures { λ _. ⌜ now (sums .exit) ≡ sumsAfter (now (sums .entry)) (now (memory .entry)) (now (memory .exit)) ⌝ }
 {
     if page_list_refused(memory.len(), sums.len()) {

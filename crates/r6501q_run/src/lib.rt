@@ -5,14 +5,14 @@ ghost use lib.ListN.{length, drop};
 ghost use Rattle.page_sums.specs.PageSums.{sumsAfter};
 ghost use Rattle.leaps.specs.Leaps.{leapOf, leftAfter};
 ghost use Rattle.leaps.specs.Lists.{runOf, plainRunOf};
-ghost use Rattle.leaps.specs.Calls.{callStart};
+ghost use Rattle.leaps.specs.Lent.{atEntry};
 ghost use Rattle.leaps.specs.Summed.{withSums};
 ghost use Rattle.cpu_opcodes.specs.Table.{opcodeTable};
 ghost use Rattle.cpu.specs.Quiet.{WithinSpan};
 ghost use Rattle.r6501q_gaps.specs.Gaps.{gapOf, clocksOf};
 ghost use Rattle.r6501q_step.specs.R6501q.{chip, machine};
-ghost use Rattle.r6501q_step.specs.World.{worldOf};
-ghost use Rattle.r6501q_step.specs.Calls.{handed, leapsFrom};
+ghost use Rattle.r6501q_step.specs.World.{worldAtEntry, worldAtExit};
+ghost use Rattle.r6501q_step.specs.Calls.{leapsFrom, atExit};
 ghost use Rattle.r6501q_run.specs.Leap.{passedBy, goesOn, runFrom, runEnded, beginRun, Leaping};
 ghost use Rattle.r6501q_run.specs.Spanned.{Spanned};
 ghost use Rattle.r6501q_run.specs.Ticked.{SpanBegun, sharedIn, tickedTo, Ending, StepsOn};
@@ -102,10 +102,8 @@ fn leap(
     requires { ⌜ p .stop ≡ 0 ⌝ }
     requires { ⌜ gap ≡ gapOf (left .0) (p .state) (drop (p .read) (now inputclocks)) ⌝ }
     requires { ⌜ now entries ≡ opcodeTable ⌝ }
-    ensures { λ r. ⌜ worldOf r (now (memory .exit)) (now (inputclocks .entry)) (now (inputcodes .entry))
-        (now (outputclocks .exit)) (now (outputwords .exit))
-        ≡ leapOf (chip halt) (left .0) (worldOf p (now (memory .entry)) (now (inputclocks .entry))
-        (now (inputcodes .entry)) (now (outputclocks .entry)) (now (outputwords .entry))) ⌝ }
+    ensures { λ r. ⌜ worldAtExit r memory inputclocks inputcodes outputclocks outputwords
+        ≡ leapOf (chip halt) (left .0) (worldAtEntry p memory inputclocks inputcodes outputclocks outputwords) ⌝ }
     ensures { λ _. ⌜ now (sums .exit) ≡ sumsAfter (now (sums .entry)) (now (memory .entry)) (now (memory .exit)) ⌝ }
 {
     let passed = pass_progress(p, gap);
@@ -149,13 +147,12 @@ fn leap_once(
     requires { ⌜ (0 < at .left .0) × (at .progress .stop ≡ 0) ⌝ }
     requires { ⌜ at .leaps + at .left .0 ≤ 4294967295 ⌝ }
     requires { ⌜ now entries ≡ opcodeTable ⌝ }
-    ensures { λ r. ⌜ worldOf (r .progress) (now (memory .exit)) (now (inputclocks .entry)) (now (inputcodes .entry))
-        (now (outputclocks .exit)) (now (outputwords .exit))
-        ≡ leapOf (chip halt) (at .left .0) (worldOf (at .progress) (now (memory .entry)) (now (inputclocks .entry))
-        (now (inputcodes .entry)) (now (outputclocks .entry)) (now (outputwords .entry))) ⌝ }
-    ensures { λ r. ⌜ r .left ≡ clocksOf (leftAfter (chip halt) (at .left .0) (worldOf (at .progress)
-        (now (memory .entry)) (now (inputclocks .entry)) (now (inputcodes .entry)) (now (outputclocks .entry))
-        (now (outputwords .entry)))) ⌝ }
+    ensures { λ r. ⌜ worldAtExit (r .progress) memory inputclocks inputcodes outputclocks outputwords
+        ≡ leapOf (chip halt) (at .left .0)
+        (worldAtEntry (at .progress) memory inputclocks inputcodes outputclocks outputwords) ⌝ }
+    ensures { λ r. ⌜ r .left
+        ≡ clocksOf (leftAfter (chip halt) (at .left .0)
+        (worldAtEntry (at .progress) memory inputclocks inputcodes outputclocks outputwords)) ⌝ }
     ensures { λ r. ⌜ r .leaps ≡ at .leaps + leapsFrom (at .progress .state .clock) (r .progress .state .clock) ⌝ }
     ensures { λ _. ⌜ now (sums .exit) ≡ sumsAfter (now (sums .entry)) (now (memory .entry)) (now (memory .exit)) ⌝ }
 {
@@ -371,12 +368,10 @@ fn run_into(
     n: u32,
     halt: Halt,
 ) -> CallResult
-    ensures { λ r. ⌜ handed r (now (memory .exit)) (now (outputclocks .exit)) (now (outputwords .exit))
-        ≡ runOf (machine halt) n (callStart state (now (memory .entry)) (now (inputclocks .entry))
-        (now (inputcodes .entry)) (now (outputclocks .entry)) (now (outputwords .entry))) ⌝ }
-    ensures { λ r. ⌜ handed r (now (memory .exit)) (now (outputclocks .exit)) (now (outputwords .exit))
-        ≡ plainRunOf (machine halt) n (callStart state (now (memory .entry)) (now (inputclocks .entry))
-        (now (inputcodes .entry)) (now (outputclocks .entry)) (now (outputwords .entry))) ⌝ }
+    ensures { λ r. ⌜ atExit r memory outputclocks outputwords
+        ≡ runOf (machine halt) n (atEntry state memory inputclocks inputcodes outputclocks outputwords) ⌝ }
+    ensures { λ r. ⌜ atExit r memory outputclocks outputwords
+        ≡ plainRunOf (machine halt) n (atEntry state memory inputclocks inputcodes outputclocks outputwords) ⌝ }
     ensures { λ _. ⌜ now (sums .exit) ≡ sumsAfter (now (sums .entry)) (now (memory .entry)) (now (memory .exit)) ⌝ }
 {
     let number = call_refusal(
@@ -417,12 +412,10 @@ pub fn run(
     n: u32,
     halt: Halt,
 ) -> CallResult
-    ensures { λ r. ⌜ handed r (now (memory .exit)) (now (outputclocks .exit)) (now (outputwords .exit))
-        ≡ runOf (machine halt) n (callStart state (now (memory .entry)) (now (inputclocks .entry))
-        (now (inputcodes .entry)) (now (outputclocks .entry)) (now (outputwords .entry))) ⌝ }
-    ensures { λ r. ⌜ handed r (now (memory .exit)) (now (outputclocks .exit)) (now (outputwords .exit))
-        ≡ plainRunOf (machine halt) n (callStart state (now (memory .entry)) (now (inputclocks .entry))
-        (now (inputcodes .entry)) (now (outputclocks .entry)) (now (outputwords .entry))) ⌝ }
+    ensures { λ r. ⌜ atExit r memory outputclocks outputwords
+        ≡ runOf (machine halt) n (atEntry state memory inputclocks inputcodes outputclocks outputwords) ⌝ }
+    ensures { λ r. ⌜ atExit r memory outputclocks outputwords
+        ≡ plainRunOf (machine halt) n (atEntry state memory inputclocks inputcodes outputclocks outputwords) ⌝ }
 {
     let mut none = [0u16; 0];
     run_into(
@@ -450,12 +443,12 @@ pub fn run_with_sums(
     n: u32,
     halt: Halt,
 ) -> CallResult
-    ensures { λ r. ⌜ handed r (now (memory .exit)) (now (outputclocks .exit)) (now (outputwords .exit))
-        ≡ withSums (now (sums .entry)) (runOf (machine halt) n) (callStart state (now (memory .entry))
-        (now (inputclocks .entry)) (now (inputcodes .entry)) (now (outputclocks .entry)) (now (outputwords .entry))) ⌝ }
-    ensures { λ r. ⌜ handed r (now (memory .exit)) (now (outputclocks .exit)) (now (outputwords .exit))
-        ≡ withSums (now (sums .entry)) (plainRunOf (machine halt) n) (callStart state (now (memory .entry))
-        (now (inputclocks .entry)) (now (inputcodes .entry)) (now (outputclocks .entry)) (now (outputwords .entry))) ⌝ }
+    ensures { λ r. ⌜ atExit r memory outputclocks outputwords
+        ≡ withSums (now (sums .entry)) (runOf (machine halt) n)
+        (atEntry state memory inputclocks inputcodes outputclocks outputwords) ⌝ }
+    ensures { λ r. ⌜ atExit r memory outputclocks outputwords
+        ≡ withSums (now (sums .entry)) (plainRunOf (machine halt) n)
+        (atEntry state memory inputclocks inputcodes outputclocks outputwords) ⌝ }
     ensures { λ _. ⌜ now (sums .exit) ≡ sumsAfter (now (sums .entry)) (now (memory .entry)) (now (memory .exit)) ⌝ }
 {
     if page_list_refused(memory.len(), sums.len()) {

@@ -2,7 +2,9 @@
 use mathlib.Core.List.{List}
 use Prim.Native.Nat.{ℕ}
 use lib.Dec.{ltb}
+use denote.Ref.{now}
 use Rattle.bits.specs.Bits.{digit}
+use Rattle.leaps.specs.Lent.{Lent}
 use Rattle.r6501q_state.specs.declared.state.State.{State}
 use Rattle.r6501q_step.specs.declared.Progress.{Progress}
 use Rattle.r6501q_step.specs.declared.CallResult.{CallResult}
@@ -20,6 +22,11 @@ handed r memory outputClocks outputWords = record {
   outputClocks = outputClocks;
   outputWords = outputWords;
 }
+
+-- the result of a call, and the lent lists at its exit
+abbrev pub atExit : CallResult → Lent → Lent → Lent → Handed
+atExit r memory outputClocks outputWords =
+    handed r (now (memory .exit)) (now (outputClocks .exit)) (now (outputWords .exit))
 
 -- a call begins: nothing is read, written or stopped
 abbrev pub begin : State → Progress

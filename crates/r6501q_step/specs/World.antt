@@ -3,8 +3,10 @@ use mathlib.Core.Path.{_≡_}
 use mathlib.Core.List.{List}
 use Prim.Native.Nat.{ℕ, _+_, _≤_, _<_}
 use lib.ListN.{length, drop}
+use denote.Ref.{now}
 use Rattle.bits.specs.Bits.{digit}
 use Rattle.refusals.specs.Refusals.{lastClock}
+use Rattle.leaps.specs.Lent.{Lent}
 use Rattle.cpu_access.specs.declared.halt.Halt.{Halt}
 use Rattle.r6501q_clock.specs.declared.Ended.{Ended}
 use Rattle.r6501q_step.specs.declared.Progress.{Progress}
@@ -23,6 +25,17 @@ worldOf p memory inputClocks inputCodes outputClocks outputWords = record {
   written = p .written;
   stop = p .stop;
 }
+
+-- the lent lists at a clock's entry and at its exit, and how far the call has come there; the inputs do not change
+abbrev pub worldAtEntry : Progress → Lent → Lent → Lent → Lent → Lent → World
+worldAtEntry p memory inputClocks inputCodes outputClocks outputWords =
+    worldOf p (now (memory .entry)) (now (inputClocks .entry)) (now (inputCodes .entry)) (now (outputClocks .entry))
+    (now (outputWords .entry))
+
+abbrev pub worldAtExit : Progress → Lent → Lent → Lent → Lent → Lent → World
+worldAtExit p memory inputClocks inputCodes outputClocks outputWords =
+    worldOf p (now (memory .exit)) (now (inputClocks .entry)) (now (inputCodes .entry)) (now (outputClocks .exit))
+    (now (outputWords .exit))
 
 -- the two ends of a clock, of what the code carries: a stop, and nothing else changes; or the clock done, of which
 -- `due` inputs were due

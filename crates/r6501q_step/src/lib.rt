@@ -8,15 +8,15 @@ ghost use Rattle.pin_lists.specs.PinLists.{dueCount};
 ghost use Rattle.refusals.specs.Refusals.{lastClock, refusalOf};
 ghost use Rattle.leaps.specs.World.{putRecord};
 ghost use Rattle.leaps.specs.Lists.{stepOf};
-ghost use Rattle.leaps.specs.Calls.{callStart};
+ghost use Rattle.leaps.specs.Lent.{atEntry};
 ghost use Rattle.leaps.specs.Summed.{withSums};
 ghost use Rattle.cpu_opcodes.specs.Table.{opcodeTable};
 ghost use Rattle.r6501q_state.specs.State.{wellFormed};
 ghost use Rattle.r6501q_clock.specs.Clock.{clockOf};
 ghost use Rattle.r6501q_clock.specs.Commit.{committed};
 ghost use Rattle.r6501q_step.specs.R6501q.{r6501qLimits, stopAfter, plain, machine};
-ghost use Rattle.r6501q_step.specs.World.{worldOf, progressTo, stoppedWith, Going};
-ghost use Rattle.r6501q_step.specs.Calls.{handed, begin, refusalResult, progressResult, leapsFrom};
+ghost use Rattle.r6501q_step.specs.World.{progressTo, stoppedWith, Going, worldAtEntry, worldAtExit};
+ghost use Rattle.r6501q_step.specs.Calls.{begin, refusalResult, progressResult, leapsFrom, atExit};
 use cpu_access::halt::Halt;
 use cpu_access::halt::halts;
 use cpu_access::stack::Writes;
@@ -170,10 +170,8 @@ pub fn advance(
 ) -> Progress
     requires { ⌜ Going p (now inputclocks) (now inputcodes) (now outputclocks) (now outputwords) ⌝ }
     requires { ⌜ now entries ≡ opcodeTable ⌝ }
-    ensures { λ r. ⌜ worldOf r (now (memory .exit)) (now (inputclocks .entry)) (now (inputcodes .entry))
-        (now (outputclocks .exit)) (now (outputwords .exit))
-        ≡ plain halt (worldOf p (now (memory .entry)) (now (inputclocks .entry)) (now (inputcodes .entry))
-        (now (outputclocks .entry)) (now (outputwords .entry))) ⌝ }
+    ensures { λ r. ⌜ worldAtExit r memory inputclocks inputcodes outputclocks outputwords
+        ≡ plain halt (worldAtEntry p memory inputclocks inputcodes outputclocks outputwords) ⌝ }
     ensures { λ _. ⌜ now (sums .exit) ≡ sumsAfter (now (sums .entry)) (now (memory .entry)) (now (memory .exit)) ⌝ }
 {
     let due = due_from(inputclocks, p.read, p.state.clock + 1);
@@ -288,9 +286,8 @@ fn step_into(
     outputwords: &mut [u32],
     halt: Halt,
 ) -> CallResult
-    ensures { λ r. ⌜ handed r (now (memory .exit)) (now (outputclocks .exit)) (now (outputwords .exit))
-        ≡ stepOf (machine halt) (callStart state (now (memory .entry)) (now (inputclocks .entry))
-        (now (inputcodes .entry)) (now (outputclocks .entry)) (now (outputwords .entry))) ⌝ }
+    ensures { λ r. ⌜ atExit r memory outputclocks outputwords
+        ≡ stepOf (machine halt) (atEntry state memory inputclocks inputcodes outputclocks outputwords) ⌝ }
     ensures { λ _. ⌜ now (sums .exit) ≡ sumsAfter (now (sums .entry)) (now (memory .entry)) (now (memory .exit)) ⌝ }
 {
     let number = call_refusal(
@@ -331,9 +328,8 @@ pub fn step(
     outputwords: &mut [u32],
     halt: Halt,
 ) -> CallResult
-    ensures { λ r. ⌜ handed r (now (memory .exit)) (now (outputclocks .exit)) (now (outputwords .exit))
-        ≡ stepOf (machine halt) (callStart state (now (memory .entry)) (now (inputclocks .entry))
-        (now (inputcodes .entry)) (now (outputclocks .entry)) (now (outputwords .entry))) ⌝ }
+    ensures { λ r. ⌜ atExit r memory outputclocks outputwords
+        ≡ stepOf (machine halt) (atEntry state memory inputclocks inputcodes outputclocks outputwords) ⌝ }
 {
     let mut none = [0u16; 0];
     step_into(
@@ -359,9 +355,9 @@ pub fn step_with_sums(
     outputwords: &mut [u32],
     halt: Halt,
 ) -> CallResult
-    ensures { λ r. ⌜ handed r (now (memory .exit)) (now (outputclocks .exit)) (now (outputwords .exit))
-        ≡ withSums (now (sums .entry)) (stepOf (machine halt)) (callStart state (now (memory .entry))
-        (now (inputclocks .entry)) (now (inputcodes .entry)) (now (outputclocks .entry)) (now (outputwords .entry))) ⌝ }
+    ensures { λ r. ⌜ atExit r memory outputclocks outputwords
+        ≡ withSums (now (sums .entry)) (stepOf (machine halt))
+        (atEntry state memory inputclocks inputcodes outputclocks outputwords) ⌝ }
     ensures { λ _. ⌜ now (sums .exit) ≡ sumsAfter (now (sums .entry)) (now (memory .entry)) (now (memory .exit)) ⌝ }
 {
     if page_list_refused(memory.len(), sums.len()) {

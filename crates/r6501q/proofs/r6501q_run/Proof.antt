@@ -1,4 +1,9 @@
 use Rattle.r6501q.specs.Calls.{hostCall}
+use mathlib.Core.Path.{sym, _∙_}
+use denote.Ref.{now}
+use Rattle.leaps.specs.Lists.{runOf, plainRunOf}
+use Rattle.r6501q_step.specs.R6501q.{machine}
+use Rattle.r6501q.proofs.Called.{host-called}
 use borrow.Author.Tests.{not-true, not-false}
 use borrow.Author.Needs.{needs}
 use Rattle.r6501q.proofs.r6501q_run.Statement.{statement}
@@ -55,8 +60,22 @@ same-length-3 c = search needs
 
 -- src/lib.rt:122:1
 returns-2 : tie.Need-returns-2
-unfolding hostCall
-returns-2 c = (rw (← (c .before .before .before .before .before .before .before .before .before .before .before .before .before .before .flags-fit .ensures), ← (c .before .before .before .before .before .before .before .before .before .before .before .before .state-of .ensures), ← (c .before .before .before .before .before .before .before .before .halt-of .ensures), ← (c .before .before .before .before .before .before .before .run .ensures .0), c .host-result .ensures, not-false (c .before .before .before .before .before .before .before .before .before .before .before .before .before .before .flags-fit .result) (c .before .before .before .before .before .before .before .before .before .before .before .before .before .if1 .left)), rw (← (c .before .before .before .before .before .before .before .before .before .before .before .before .before .before .flags-fit .ensures), ← (c .before .before .before .before .before .before .before .before .before .before .before .before .state-of .ensures), ← (c .before .before .before .before .before .before .before .before .halt-of .ensures), ← (c .before .before .before .before .before .before .before .run .ensures .1), c .host-result .ensures, not-false (c .before .before .before .before .before .before .before .before .before .before .before .before .before .before .flags-fit .result) (c .before .before .before .before .before .before .before .before .before .before .before .before .before .if1 .left)))
+returns-2 c =
+    let at = c .before .before .before .before .before .before .before .before .before .before .before .before .before .before .before .before .before .before .before .before
+    .args in
+    let fits = sym (c .before .before .before .before .before .before .before .before .before .before .before .before .before .before .flags-fit .ensures)
+    ∙ not-false (c .before .before .before .before .before .before .before .before .before .before .before .before .before .before .flags-fit .result)
+    (c .before .before .before .before .before .before .before .before .before .before .before .before .before .if1 .left) in
+    let state = c .before .before .before .before .before .before .before .before .before .before .before .before .state-of in
+    let halt = c .before .before .before .before .before .before .before .before .halt-of in
+    let run = c .before .before .before .before .before .before .before .run in (
+      host-called (λ h. runOf (machine h) (at .n)) (at .n) (now (at .memory)) (now (at .inputclocks)) (now (at .inputcodes))
+          (now (at .outputclocks)) (now (at .outputwords)) (at .state) (state .result) _ (halt .result) (run .result) _ _ _
+          _ fits (state .ensures) (halt .ensures) (c .host-result .ensures) (run .ensures .0),
+      host-called (λ h. plainRunOf (machine h) (at .n)) (at .n) (now (at .memory)) (now (at .inputclocks)) (now (at .inputcodes))
+          (now (at .outputclocks)) (now (at .outputwords)) (at .state) (state .result) _ (halt .result) (run .result) _ _ _
+          _ fits (state .ensures) (halt .ensures) (c .host-result .ensures) (run .ensures .1),
+    )
 
 pub r6501q-run-spec : {M : Type 1} → statement M
 r6501q-run-spec =
