@@ -5,25 +5,10 @@ use Rattle.bit_rate.specs.BitRate.{latchFor}
 use Rattle.bit_rate.proofs.Laws.{within, most-positive, fewest-positive, latch-fits, latch-beyond, latch-slow, most-bounded, least-bounded, slow-bounded}
 use Rattle.bit_rate.proofs.latch.Statement.{statement}
 use Rattle.bit_rate.proofs.latch.Tie as tie
-use Rattle.bit_rate.proofs.latch.Reads as reads
-use Rattle.bit_rate.proofs.latch.Lts as lts
-use Rattle.bit_rate.proofs.out_of_limits.Reads as out-of-limits-reads
-
-out-of-limits-requires : tie.Need-out-of-limits-requires
-out-of-limits-requires c κs = search needs
 
 returns : tie.Need-returns
 unfolding latchFor
 returns c = rw (sym (c .before .out-of-limits .ensures) ∙ c .if1 .taken) refl
-
-mul-rate : tie.Need-mul-rate
-mul-rate c = search needs
-
-mul-underflows : tie.Need-mul-underflows
-mul-underflows c = search needs
-
-add-fastest : tie.Need-add-fastest
-add-fastest c = search needs
 
 mul-fastest : tie.Need-mul-fastest
 mul-fastest c =
@@ -90,11 +75,11 @@ pub latch-spec : {M : Type 1} → statement M
 latch-spec =
     tie.close
     (tie.spec
-    out-of-limits-requires
+    (λ c κs. search needs)
     returns
-    mul-rate
-    mul-underflows
-    add-fastest
+    (λ c. search needs)
+    (λ c. search needs)
+    (λ c. search needs)
     mul-fastest
     sub-slowest
     mul-slowest

@@ -7,35 +7,20 @@ use Rattle.bits.proofs.Bits.{weight, bit-within, bit-room}
 use borrow.Author.Needs.{needs}
 use Rattle.bits.proofs.with_bit.Statement.{statement}
 use Rattle.bits.proofs.with_bit.Tie as tie
-use Rattle.bits.proofs.with_bit.Reads as reads
-use Rattle.bits.proofs.with_bit.Lts as lts
 
--- src/lib.rt:26:22
-shl-weight : tie.Need-shl-weight
-shl-weight c = search needs
-
--- src/lib.rt:27:24
-shr-cleared : tie.Need-shr-cleared
-shr-cleared c = search needs
-
--- src/lib.rt:27:23
 mul-cleared : tie.Need-mul-cleared
 mul-cleared c = rw (weight 8 _ (c .pre)) (omega (arith, bit-within (c .args .k) (c .args .x)))
 
--- src/lib.rt:27:19
 sub-cleared : tie.Need-sub-cleared
 sub-cleared c = rw (weight 8 _ (c .pre)) (bit-within _ _)
 
--- src/lib.rt:28:13
 add-result : tie.Need-add-result
 add-result c = rw (weight 8 _ (c .before .pre)) (omega (arith, bit-room 8 (c .before .args .k) (c .before .args .x) (c .before .pre) (search needs)))
 
--- src/lib.rt:22:1
 returns : tie.Need-returns
 unfolding withBit
 returns c = rw (weight 8 _ (c .before .pre), c .if1 .taken)
 
--- src/lib.rt:22:1
 returns-2 : tie.Need-returns-2
 unfolding withBit
 returns-2 c =
@@ -46,4 +31,4 @@ returns-2 c =
 pub with-bit-spec : {M : Type 1} → statement M
 with-bit-spec =
     tie.close
-    (tie.spec shl-weight shr-cleared mul-cleared sub-cleared add-result returns returns-2)
+    (tie.spec (λ c. search needs) (λ c. search needs) mul-cleared sub-cleared add-result returns returns-2)

@@ -18,30 +18,9 @@ use Rattle.cpu.proofs.instruction.Tie as tie
 opcodeFetched-as : (answers memory : List ℕ) (r : CpuRegisters) (f : Fetched) (d : Decoded) → f .bus .missing ≡ false → decodeOf (f .value) ≡ d → decodedTo answers memory (withPc (f .pc) r) (f .bus) d ≡ opcodeFetched answers memory r f
 opcodeFetched-as answers memory r f d m e = rw (m, e)
 
-idle-requires : tie.Need-idle-requires
-idle-requires c κs = search needs
-
-fetch-requires : tie.Need-fetch-requires
-fetch-requires c κs = search needs
-
-no-writes-requires : tie.Need-no-writes-requires
-no-writes-requires c κs = search needs
-
-ask-with-requires : tie.Need-ask-with-requires
-ask-with-requires c κs = search needs
-
 returns : tie.Need-returns
 unfolding instructionOf
 returns c = rw (← (c .before .before .before .before .before .idle .ensures), ← (c .before .before .before .before .fetch .ensures), ← (c .before .no-writes .ensures), ← (c .ask-with .ensures), c .before .before .if1 .taken)
-
-decode-in-requires : tie.Need-decode-in-requires
-decode-in-requires c κs = search needs
-
-enum-known-decoded : tie.Need-enum-known-decoded
-enum-known-decoded c = search needs
-
-enum-told : tie.Need-enum-told
-enum-told c = search needs
 
 returns-2 : tie.Need-returns-2
 unfolding instructionOf
@@ -51,9 +30,6 @@ returns-2 c =
     (opcodeFetched-as (at .answers .now) (at .memory .now) (at .registers) (c .before .before .before .before .before .fetch .result) Undefined
     (c .before .before .before .if1 .left)
     (sym (c .before .before .decode-in .ensures) ∙ c .enum-told .given .1))
-
-with-pc-requires : tie.Need-with-pc-requires
-with-pc-requires c κs = search needs
 
 execute-requires : tie.Need-execute-requires
 execute-requires c κs = length-fits _ _ (sym (c .before .before .before .before .decode-in .ensures) ∙ c .before .before .decoded .given .1) .most
@@ -71,15 +47,15 @@ pub instruction-spec : {M : Type 1} → statement M
 instruction-spec =
     tie.close
     (tie.spec
-    idle-requires
-    fetch-requires
-    no-writes-requires
-    ask-with-requires
+    (λ c κs. search needs)
+    (λ c κs. search needs)
+    (λ c κs. search needs)
+    (λ c κs. search needs)
     returns
-    decode-in-requires
-    enum-known-decoded
-    enum-told
+    (λ c κs. search needs)
+    (λ c. search needs)
+    (λ c. search needs)
     returns-2
-    with-pc-requires
+    (λ c κs. search needs)
     execute-requires
     returns-3)

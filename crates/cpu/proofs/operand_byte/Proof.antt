@@ -4,27 +4,9 @@ use borrow.Author.Needs.{needs}
 use Rattle.cpu.proofs.operand_byte.Statement.{statement}
 use Rattle.cpu.proofs.operand_byte.Tie as tie
 
-enum-told : tie.Need-enum-told
-enum-told c = search needs
-
-enum-told-2 : tie.Need-enum-told-2
-enum-told-2 c = search needs
-
-read-requires : tie.Need-read-requires
-read-requires c κs = search needs
-
-enum-told-3 : tie.Need-enum-told-3
-enum-told-3 c = search needs
-
 returns : tie.Need-returns
 unfolding operandByte
 returns c = rw (c .before .enum-told3 .given .1, c .if1 .taken) refl
-
-read-requires-2 : tie.Need-read-requires-2
-read-requires-2 c κs = search needs
-
-enum-told-4 : tie.Need-enum-told-4
-enum-told-4 c = search needs
 
 returns-2 : tie.Need-returns-2
 unfolding operandByte
@@ -46,13 +28,13 @@ pub operand-byte-spec : {M : Type 1} → statement M
 operand-byte-spec =
     tie.close
     (tie.spec
-    enum-told
-    enum-told-2
-    read-requires
-    enum-told-3
+    (λ c. search needs)
+    (λ c. search needs)
+    (λ c κs. search needs)
+    (λ c. search needs)
     returns
-    read-requires-2
-    enum-told-4
+    (λ c κs. search needs)
+    (λ c. search needs)
     returns-2
     returns-3
     returns-4

@@ -3,9 +3,6 @@ use borrow.Author.Needs.{needs}
 use Rattle.cpu.proofs.outcome_of.Statement.{statement}
 use Rattle.cpu.proofs.outcome_of.Tie as tie
 
-ask-with-requires : tie.Need-ask-with-requires
-ask-with-requires c κs = search needs
-
 returns : tie.Need-returns
 unfolding outcomeOf
 returns c = rw (← (c .ask-with .ensures), c .before .if1 .taken)
@@ -15,4 +12,4 @@ unfolding outcomeOf
 returns-2 c = rw (c .before .if1 .left)
 
 pub outcome-of-spec : {M : Type 1} → statement M
-outcome-of-spec = tie.close (tie.spec ask-with-requires returns returns-2)
+outcome-of-spec = tie.close (tie.spec (λ c κs. search needs) returns returns-2)

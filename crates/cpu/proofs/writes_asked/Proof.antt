@@ -3,9 +3,6 @@ use borrow.Author.Needs.{needs}
 use Rattle.cpu.proofs.writes_asked.Statement.{statement}
 use Rattle.cpu.proofs.writes_asked.Tie as tie
 
-no-writes-requires : tie.Need-no-writes-requires
-no-writes-requires c κs = search needs
-
 returns : tie.Need-returns
 unfolding writesAsked
 returns c = rw (← (c .no-writes .ensures), c .before .if1 .taken)
@@ -15,4 +12,4 @@ unfolding writesAsked
 returns-2 c = rw (c .if1 .left)
 
 pub writes-asked-spec : {M : Type 1} → statement M
-writes-asked-spec = tie.close (tie.spec no-writes-requires returns returns-2)
+writes-asked-spec = tie.close (tie.spec (λ c κs. search needs) returns returns-2)

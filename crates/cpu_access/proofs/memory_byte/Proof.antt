@@ -5,9 +5,6 @@ use borrow.Author.Needs.{needs}
 use Rattle.cpu_access.proofs.memory_byte.Statement.{statement}
 use Rattle.cpu_access.proofs.memory_byte.Tie as tie
 
-shared-slice-read-result : tie.Need-shared-slice-read-result
-shared-slice-read-result c = search needs
-
 returns : tie.Need-returns
 unfolding memoryByte
 returns c = search needs
@@ -17,4 +14,4 @@ unfolding memoryByte
 returns-2 c = rw (List·getD-eq-default {A = ℕ} _ 0 (c .if1 .left))
 
 pub memory-byte-spec : {M : Type 1} → statement M
-memory-byte-spec = tie.close (tie.spec shared-slice-read-result returns returns-2)
+memory-byte-spec = tie.close (tie.spec (λ c. search needs) returns returns-2)

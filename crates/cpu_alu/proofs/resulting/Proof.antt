@@ -2,11 +2,8 @@ use borrow.Author.Needs.{needs}
 use Rattle.cpu_alu.proofs.resulting.Statement.{statement}
 use Rattle.cpu_alu.proofs.resulting.Tie as tie
 
-loaded-requires : tie.Need-loaded-requires
-loaded-requires c κs = search needs
-
 returns : tie.Need-returns
 returns c = rw (c .loaded .ensures)
 
 pub resulting-spec : {M : Type 1} → statement M
-resulting-spec = tie.close (tie.spec loaded-requires returns)
+resulting-spec = tie.close (tie.spec (λ c κs. search needs) returns)

@@ -6,9 +6,6 @@ use borrow.Author.Needs.{needs}
 use Rattle.cpu_opcodes.proofs.decode_in.Statement.{statement}
 use Rattle.cpu_opcodes.proofs.decode_in.Tie as tie
 
-mul-entry : tie.Need-mul-entry
-mul-entry c = search needs
-
 shared-slice-read-entry : tie.Need-shared-slice-read-entry
 shared-slice-read-entry c = rw (c .before .before .pre, table-length) (search needs)
 
@@ -16,15 +13,6 @@ returns : tie.Need-returns
 returns c =
     let at = c .before .before .before in
     rw (← at .pre, eq-eqb _ _ (c .if1 .taken)) at (table-decodes (at .args .opcode) (search needs))
-
-operation-of-requires : tie.Need-operation-of-requires
-operation-of-requires c κs = search needs
-
-mode-of-requires : tie.Need-mode-of-requires
-mode-of-requires c κs = search needs
-
-cast-t14 : tie.Need-cast-t14
-cast-t14 c = search needs
 
 returns-2 : tie.Need-returns-2
 returns-2 c =
@@ -36,10 +24,10 @@ pub decode-in-spec : {M : Type 1} → statement M
 decode-in-spec =
     tie.close
     (tie.spec
-    mul-entry
+    (λ c. search needs)
     shared-slice-read-entry
     returns
-    operation-of-requires
-    mode-of-requires
-    cast-t14
+    (λ c κs. search needs)
+    (λ c κs. search needs)
+    (λ c. search needs)
     returns-2)

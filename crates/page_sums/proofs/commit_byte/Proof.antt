@@ -9,24 +9,6 @@ use borrow.Author.Needs.{needs}
 use Rattle.page_sums.proofs.commit_byte.Statement.{statement}
 use Rattle.page_sums.proofs.commit_byte.Tie as tie
 
-add-change-sum : tie.Need-add-change-sum
-add-change-sum c = search needs
-
-slice-read-change-sum : tie.Need-slice-read-change-sum
-slice-read-change-sum c = search needs
-
-change-sum-requires : tie.Need-change-sum-requires
-change-sum-requires c κs = search needs
-
-slice-write-part : tie.Need-slice-write-part
-slice-write-part c = search needs
-
-same-length : tie.Need-same-length
-same-length c = search needs
-
-same-length-2 : tie.Need-same-length-2
-same-length-2 c = search needs
-
 returns : tie.Need-returns
 returns c =
     let start = c .before .before .before .before .before .before .before in
@@ -41,10 +23,10 @@ pub commit-byte-spec : {M : Type 1} → statement M
 commit-byte-spec =
     tie.close
     (tie.spec
-    add-change-sum
-    slice-read-change-sum
-    change-sum-requires
-    slice-write-part
-    same-length
-    same-length-2
+    (λ c. search needs)
+    (λ c. search needs)
+    (λ c κs. search needs)
+    (λ c. search needs)
+    (λ c. search needs)
+    (λ c. search needs)
     returns)

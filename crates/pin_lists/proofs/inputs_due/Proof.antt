@@ -7,8 +7,6 @@ use Rattle.pin_lists.specs.PinLists.{dueCount}
 use Rattle.pin_lists.proofs.Steps.{due-end, due-other, due-more}
 use Rattle.pin_lists.proofs.inputs_due.Statement.{statement}
 use Rattle.pin_lists.proofs.inputs_due.Tie as tie
-use Rattle.pin_lists.proofs.inputs_due.Reads as reads
-use Rattle.pin_lists.proofs.inputs_due.Lts as lts
 
 abbrev Inv-loop : tie.InvT-loop
 Inv-loop clock clocks i₀ i = (i ≤ length clocks) × (i + dueCount clock (drop i clocks) ≡ dueCount clock clocks)
@@ -16,39 +14,28 @@ Inv-loop clock clocks i₀ i = (i ≤ length clocks) × (i + dueCount clock (dro
 abbrev μ-loop : tie.MeasureT-loop
 μ-loop clock clocks i₀ i = length clocks - i
 
--- src/lib.rt:45:5
 loop-holds : tie.Need-loop-holds Inv-loop μ-loop
 loop-holds c = omega arith
 
--- src/lib.rt:46:12
-mul-if1 : tie.Need-mul-if1 Inv-loop μ-loop
-mul-if1 c = search needs
-
--- src/lib.rt:46:12
 shared-slice-read-if1 : tie.Need-shared-slice-read-if1 Inv-loop μ-loop
 shared-slice-read-if1 c = omega arith
 
--- src/lib.rt:47:13
 returns : tie.Need-returns Inv-loop μ-loop
 returns c =
     let e = due-other (c .before .before .before .before .args .clock) (c .before .before .before .loop .i) (c .before .before .before .before .args .clocks .now) (c .before .before .loop-test .taken) (c .if1 .taken) in
     omega (arith, e, c .before .before .before .loop .inv .1)
 
--- src/lib.rt:49:9
 add-i : tie.Need-add-i Inv-loop μ-loop
 add-i c = omega arith
 
--- src/lib.rt:45:5
 loop-less : tie.Need-loop-less Inv-loop μ-loop
 loop-less c = omega arith
 
--- src/lib.rt:45:5
 loop-again : tie.Need-loop-again Inv-loop μ-loop
 loop-again c =
     let e = due-more (c .before .before .before .before .args .clock) (c .before .before .before .loop .i) (c .before .before .before .before .args .clocks .now) (c .before .before .loop-test .taken) (c .if1 .left) in
     (omega arith, omega (arith, e, c .before .before .before .loop .inv .1))
 
--- src/lib.rt:41:1
 returns-2 : tie.Need-returns-2 Inv-loop μ-loop
 returns-2 c =
     let e = due-end (c .before .before .args .clock) (c .before .loop .i) (c .before .before .args .clocks .now) (c .loop-test .left) in
@@ -61,7 +48,7 @@ inputs-due-spec =
     Inv-loop
     μ-loop
     loop-holds
-    mul-if1
+    (λ c. search needs)
     shared-slice-read-if1
     returns
     add-i

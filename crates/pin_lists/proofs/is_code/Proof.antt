@@ -2,10 +2,7 @@ use Rattle.pin_lists.specs.PinLists.{codeRight}
 use mathlib.Core.Path.{refl}
 use Rattle.pin_lists.proofs.is_code.Statement.{statement}
 use Rattle.pin_lists.proofs.is_code.Tie as tie
-use Rattle.pin_lists.proofs.is_code.Reads as reads
-use Rattle.pin_lists.proofs.is_code.Lts as lts
 
--- src/lib.rt:6:1
 returns : tie.Need-returns
 unfolding codeRight
 returns c = refl

@@ -7,9 +7,6 @@ use Rattle.r6501q_clock.proofs.Inputs.{inputs-more, inputs-over}
 use Rattle.r6501q_clock.specs.Clock.{withInputs}
 use Rattle.r6501q_clock.proofs.apply_inputs.Statement.{statement}
 use Rattle.r6501q_clock.proofs.apply_inputs.Tie as tie
-use Rattle.r6501q_clock.proofs.apply_inputs.Reads as reads
-use Rattle.r6501q_clock.proofs.apply_inputs.Lts as lts
-use Rattle.r6501q_state.proofs.state.Levels.input.Reads as input-reads
 
 abbrev Inv-loop : tie.InvT-loop
 Inv-loop codes set₀ i₀ set i = (i ≤ length codes) × (withInputs set (drop i codes) ≡ withInputs set₀ codes)
@@ -17,33 +14,23 @@ Inv-loop codes set₀ i₀ set i = (i ≤ length codes) × (withInputs set (drop
 abbrev μ-loop : tie.MeasureT-loop
 μ-loop codes set₀ i₀ set i = length codes - i
 
--- src/lib.rt:26:5
 loop-holds : tie.Need-loop-holds Inv-loop μ-loop
 loop-holds c = (omega arith, refl)
 
--- src/lib.rt:27:25
 shared-slice-read-input : tie.Need-shared-slice-read-input Inv-loop μ-loop
 shared-slice-read-input c = omega arith
 
--- src/lib.rt:27:9
-input-requires : tie.Need-input-requires Inv-loop μ-loop
-input-requires c κs = search needs
-
--- src/lib.rt:28:9
 add-i : tie.Need-add-i Inv-loop μ-loop
 add-i c = omega arith
 
--- src/lib.rt:26:5
 loop-less : tie.Need-loop-less Inv-loop μ-loop
 loop-less c = omega arith
 
--- src/lib.rt:26:5
 loop-again : tie.Need-loop-again Inv-loop μ-loop
 loop-again c =
     let h : c .before .before .before .loop .i < length (c .before .before .before .before .before .args .codes .now) = omega arith in
     (omega arith, rw (c .input .ensures) (sym (inputs-more _ _ _ h) ∙ c .before .before .before .loop .inv .1))
 
--- src/lib.rt:21:1
 returns : tie.Need-returns Inv-loop μ-loop
 returns c = sym (inputs-over _ _ _ (c .loop-test .left)) ∙ c .before .loop .inv .1
 
@@ -55,7 +42,7 @@ apply-inputs-spec =
     μ-loop
     loop-holds
     shared-slice-read-input
-    input-requires
+    (λ c κs. search needs)
     add-i
     loop-less
     loop-again

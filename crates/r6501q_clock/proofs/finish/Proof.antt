@@ -2,15 +2,11 @@ use mathlib.Core.Path.{refl}
 use Rattle.r6501q_clock.specs.Clock.{finished}
 use Rattle.r6501q_clock.proofs.finish.Statement.{statement}
 use Rattle.r6501q_clock.proofs.finish.Tie as tie
-use Rattle.r6501q_clock.proofs.finish.Reads as reads
-use Rattle.r6501q_clock.proofs.finish.Lts as lts
 
--- src/lib.rt:39:9
 returns : tie.Need-returns
 unfolding finished
 returns c = rw (c .if1 .taken) refl
 
--- src/lib.rt:34:1
 returns-2 : tie.Need-returns-2
 unfolding finished
 returns-2 c = rw (c .before .before .if1 .left) refl

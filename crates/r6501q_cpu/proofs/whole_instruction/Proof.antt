@@ -11,9 +11,6 @@ use Rattle.r6501q_cpu.specs.Asking.{instructionFrom, answeredInstruction
 use Rattle.r6501q_cpu.proofs.Asks.{turn-over, turn-answered}
 use Rattle.r6501q_cpu.proofs.whole_instruction.Statement.{statement}
 use Rattle.r6501q_cpu.proofs.whole_instruction.Tie as tie
-use Rattle.r6501q_cpu.proofs.whole_instruction.Reads as reads
-use Rattle.r6501q_cpu.proofs.whole_instruction.Lts as lts
-use Rattle.r6501q_cpu.proofs.take_turn.Reads as take-turn-reads
 
 abbrev Inv-loop : tie.InvT-loop
 Inv-loop s memory entries answers₀ peripherals₀ count₀ answers peripherals count =
@@ -22,28 +19,16 @@ Inv-loop s memory entries answers₀ peripherals₀ count₀ answers peripherals
 abbrev μ-loop : tie.MeasureT-loop
 μ-loop s memory entries answers₀ peripherals₀ count₀ answers peripherals count = 6 - count
 
--- src/lib.rt:147:5
 loop-holds : tie.Need-loop-holds Inv-loop μ-loop
 unfolding answeredInstruction
 loop-holds c = (omega arith, refl, refl)
 
--- src/lib.rt:148:48
 array-share-prefix-answers : tie.Need-array-share-prefix-answers Inv-loop μ-loop
 array-share-prefix-answers c = rw (c .before .loop .inv .1) (c .before .loop .inv .0)
 
--- src/lib.rt:148:48
 slice-aggregate-take-turn : tie.Need-slice-aggregate-take-turn Inv-loop μ-loop
 slice-aggregate-take-turn c = sym (length-take-le _ _ (rw (c .before .before .loop .inv .1) (c .before .before .loop .inv .0)))
 
--- src/lib.rt:148:13
-take-turn-requires : tie.Need-take-turn-requires Inv-loop μ-loop
-take-turn-requires c κs = search needs
-
--- src/lib.rt:150:24
-enum-known-turned : tie.Need-enum-known-turned Inv-loop μ-loop
-enum-known-turned c = search needs
-
--- src/lib.rt:151:17
 returns : tie.Need-returns Inv-loop μ-loop
 returns c =
     let at = c .before .before .before .before .before .before .loop in
@@ -51,23 +36,15 @@ returns c =
     let over = sym (c .before .before .before .take-turn .ensures) ∙ c .before .turned .given .1 in
     sym (turn-over _ _ _ _ _ _ _ left over) ∙ at .inv .2
 
--- src/lib.rt:153:28
-enum-known-turned-2 : tie.Need-enum-known-turned-2 Inv-loop μ-loop
-enum-known-turned-2 c = search needs
-
--- src/lib.rt:154:17
 array-write-answers : tie.Need-array-write-answers Inv-loop μ-loop
 array-write-answers c = omega arith
 
--- src/lib.rt:156:17
 add-count : tie.Need-add-count Inv-loop μ-loop
 add-count c = omega arith
 
--- src/lib.rt:147:5
 loop-less : tie.Need-loop-less Inv-loop μ-loop
 loop-less c = omega arith
 
--- src/lib.rt:147:5
 loop-again : tie.Need-loop-again Inv-loop μ-loop
 loop-again c =
     let at = c .before .before .before .before .before .before .before .loop in
@@ -76,7 +53,6 @@ loop-again c =
     let asked = sym (c .before .before .before .before .take-turn .ensures) ∙ c .before .before .turned2 .given .1 in
     (omega arith, rw (length-set (at .answers) (at .count) (c .before .before .turned2 .given .0 .0 .value)) (at .inv .1), rw (add-one (at .count), take-suc-set (at .answers) (at .count) _ room) (sym (turn-answered _ _ _ _ _ _ _ _ left asked) ∙ at .inv .2))
 
--- src/lib.rt:140:1
 returns-2 : tie.Need-returns-2 Inv-loop μ-loop
 unfolding instructionFrom
 returns-2 c = let none : 6 - c .before .loop .count ≡ 0 = omega arith in rw (none) at (c .before .loop .inv .2)
@@ -90,10 +66,10 @@ whole-instruction-spec =
     loop-holds
     array-share-prefix-answers
     slice-aggregate-take-turn
-    take-turn-requires
-    enum-known-turned
+    (λ c κs. search needs)
+    (λ c. search needs)
     returns
-    enum-known-turned-2
+    (λ c. search needs)
     array-write-answers
     add-count
     loop-less

@@ -4,31 +4,18 @@ use borrow.Author.Tests.{not-true, not-false}
 use borrow.Author.Needs.{needs}
 use Rattle.r6501q_gaps.proofs.wait_after.Statement.{statement}
 use Rattle.r6501q_gaps.proofs.wait_after.Tie as tie
-use Rattle.r6501q_gaps.proofs.wait_after.Reads as reads
-use Rattle.r6501q_gaps.proofs.wait_after.Lts as lts
 
--- src/lib.rt:50:9
 returns : tie.Need-returns
 unfolding waitAfter
 returns c = rw (not-true (c .before .args .high) (c .if1 .taken))
 
--- src/lib.rt:53:23
-cast-result : tie.Need-cast-result
-cast-result c = search needs
-
--- src/lib.rt:53:16
-sub-result : tie.Need-sub-result
-sub-result c = search needs
-
--- src/lib.rt:53:9
 returns-2 : tie.Need-returns-2
 unfolding waitAfter
 returns-2 c = rw (not-false (c .before .before .before .before .args .high) (c .before .before .before .if1 .left))
 
--- src/lib.rt:46:1
 returns-3 : tie.Need-returns-3
 unfolding waitAfter
 returns-3 c = rw (not-false (c .before .before .before .args .high) (c .before .before .if1 .left)) (omega (arith, c .if2 .left))
 
 pub wait-after-spec : {M : Type 1} → statement M
-wait-after-spec = tie.close (tie.spec returns cast-result sub-result returns-2 returns-3)
+wait-after-spec = tie.close (tie.spec returns (λ c. search needs) (λ c. search needs) returns-2 returns-3)

@@ -8,39 +8,16 @@ use Rattle.r6501q_run.proofs.Runs.{gap-fits, passed-goes, leap-reaches,
 use borrow.Author.Needs.{needs}
 use Rattle.r6501q_run.proofs.leap.Statement.{statement}
 use Rattle.r6501q_run.proofs.leap.Tie as tie
-use Rattle.r6501q_run.proofs.leap.Reads as reads
-use Rattle.r6501q_run.proofs.leap.Lts as lts
-use Rattle.r6501q_run.proofs.pass_progress.Reads as pass-progress-reads
-use Rattle.r6501q_step.proofs.advance.Reads as advance-reads
 
--- src/lib.rt:98:9
 pass-progress-requires : tie.Need-pass-progress-requires
 pass-progress-requires c κs = gap-fits _ _ _ _ _ _ _ (c .before .before .before .before .before .before .before .pre .0) (c .before .before .before .before .before .before .before .pre .1 .1 .0)
 
--- src/lib.rt:100:9
 advance-requires : tie.Need-advance-requires
 advance-requires c κs =
     let root = c .before .before .before .before .before .before .before .before .before .before .before .before .before .before .before in
     let goes = passed-goes _ _ _ _ _ _ _ (root .pre .0) (root .pre .1 .0) (c .before .before .before .before .if1 .taken) in
     (rw (c .before .before .before .before .before .before .before .pass-progress .ensures) goes, root .pre .1 .1 .1)
 
--- src/lib.rt:100:9
-same-length : tie.Need-same-length
-same-length c = search needs
-
--- src/lib.rt:100:9
-same-length-2 : tie.Need-same-length-2
-same-length-2 c = search needs
-
--- src/lib.rt:100:9
-same-length-3 : tie.Need-same-length-3
-same-length-3 c = search needs
-
--- src/lib.rt:100:9
-same-length-4 : tie.Need-same-length-4
-same-length-4 c = search needs
-
--- src/lib.rt:100:9
 returns : tie.Need-returns
 returns c =
     let root = c .before .before .before .before .before .before .before .before .before .before .before .before .before .before .before .before .before .before .before .before .before .before .before .before in
@@ -52,7 +29,6 @@ returns c =
       went .1,
     )
 
--- src/lib.rt:75:1
 returns-2 : tie.Need-returns-2
 returns-2 c =
     let root = c .before .before .before .before .before .before .before .before .before .before .before in
@@ -70,9 +46,9 @@ leap-spec =
     (tie.spec
     pass-progress-requires
     advance-requires
-    same-length
-    same-length-2
-    same-length-3
-    same-length-4
+    (λ c. search needs)
+    (λ c. search needs)
+    (λ c. search needs)
+    (λ c. search needs)
     returns
     returns-2)

@@ -9,11 +9,6 @@ use Rattle.r6501q_run.proofs.Spanned.{run-later, leaping-later}
 use borrow.Author.Needs.{needs}
 use Rattle.r6501q_run.proofs.leap_on.Statement.{statement}
 use Rattle.r6501q_run.proofs.leap_on.Tie as tie
-use Rattle.r6501q_run.proofs.leap_on.Reads as reads
-use Rattle.r6501q_run.proofs.leap_on.Lts as lts
-use Rattle.r6501q_run.proofs.goes_on.Reads as goes-on-reads
-use Rattle.r6501q_run.proofs.leap_once.Reads as leap-once-reads
-use Rattle.r6501q_run.proofs.leap_span.Reads as leap-span-reads
 
 abbrev Inv-loop : tie.InvT-loop
 Inv-loop memory₀ sums₀ inputclocks inputcodes outputclocks₀ outputwords₀ entries halt at₀ memory sums outputclocks outputwords at = Running halt at₀ memory₀ inputclocks inputcodes outputclocks₀ outputwords₀ memory outputclocks outputwords at × (sums ≡ sumsAfter sums₀ memory₀ memory)
@@ -21,7 +16,6 @@ Inv-loop memory₀ sums₀ inputclocks inputcodes outputclocks₀ outputwords₀
 abbrev μ-loop : tie.MeasureT-loop
 μ-loop memory₀ sums₀ inputclocks inputcodes outputclocks₀ outputwords₀ entries halt at₀ memory sums outputclocks outputwords at = at .left .0
 
--- src/lib.rt:277:5
 loop-holds : tie.Need-loop-holds Inv-loop μ-loop
 loop-holds c =
     let root = c .before .before .before .before .before .before .before in
@@ -31,18 +25,12 @@ loop-holds c =
       sums-kept 0 (now (at .sums)) (now (at .memory)) words,
     )
 
--- src/lib.rt:277:11
-goes-on-requires : tie.Need-goes-on-requires Inv-loop μ-loop
-goes-on-requires c κs = search needs
-
--- src/lib.rt:278:9
 leap-once-requires : tie.Need-leap-once-requires Inv-loop μ-loop
 leap-once-requires c κs =
     let loop = c .before .before .before .before .before .before .loop in
     let on = sym (c .before .before .before .before .before .goes-on .ensures) ∙ c .before .before .before .before .if1 .taken in
     (loop .inv .0 .leaping, ((goes-some (loop .at) on, goes-unstopped (loop .at) on), (loop .inv .0 .bound, c .before .before .before .before .before .before .before .before .before .before .before .before .before .before .pre .1 .1)))
 
--- src/lib.rt:289:9
 leap-span-requires : tie.Need-leap-span-requires Inv-loop μ-loop
 leap-span-requires c κs =
     let root = c .before .before .before .before .before .before .before .before .before .before .before .before .before .before .before .before .before .before .before .before .before .before .before .before .before in
@@ -56,7 +44,6 @@ leap-span-requires c κs =
     let fits = later-bound (at .halt) (loop .memory) (now (at .inputclocks)) (now (at .inputcodes)) (loop .outputclocks) (loop .outputwords) _ _ _ (loop .at) (done .result) (loop .inv .0 .leaping) some unstopped (loop .inv .0 .bound) (done .ensures .0) (done .ensures .1 .0) (done .ensures .1 .1 .0) in
     ((l .clock, fits .0), (l .read, root .pre .1 .1))
 
--- src/lib.rt:277:5
 loop-less : tie.Need-loop-less Inv-loop μ-loop
 loop-less c =
     let root = c .before .before .before .before .before .before .before .before .before .before .before .before .before .before .before .before .before .before .before .before .before .before .before .before .before .before .before .before .before .before in
@@ -69,7 +56,6 @@ loop-less c =
     let fits = later-bound (at .halt) (loop .memory) (now (at .inputclocks)) (now (at .inputcodes)) (loop .outputclocks) (loop .outputwords) _ _ _ (loop .at) (done .result) (loop .inv .0 .leaping) some unstopped (loop .inv .0 .bound) (done .ensures .0) (done .ensures .1 .0) (done .ensures .1 .1 .0) in
     omega (arith, c .before .before .before .before .leap-span .ensures .0 .left, fits .1)
 
--- src/lib.rt:277:5
 loop-again : tie.Need-loop-again Inv-loop μ-loop
 loop-again c =
     let root = c .before .before .before .before .before .before .before .before .before .before .before .before .before .before .before .before .before .before .before .before .before .before .before .before .before .before .before .before .before .before in
@@ -96,25 +82,20 @@ loop-again c =
           (sums-then 0 sums memory (loop .memory) (done .last .1 .0) (loop .inv .1) (done .ensures .1 .1 .1)) (span .ensures .1),
     )
 
--- src/lib.rt:255:1
 same-length : tie.Need-same-length Inv-loop μ-loop
 same-length c = c .before .before .loop .inv .0 .memory-kept
 
--- src/lib.rt:255:1
 same-length-2 : tie.Need-same-length-2 Inv-loop μ-loop
 same-length-2 c =
     let at = c .before .before .before .before .before .before .before .before .before .before .args in
     ap length (c .before .before .loop .inv .1) ∙ sums-length 0 (now (at .sums)) (now (at .memory)) (c .before .before .loop .memory)
 
--- src/lib.rt:255:1
 same-length-3 : tie.Need-same-length-3 Inv-loop μ-loop
 same-length-3 c = c .before .before .loop .inv .0 .times-kept
 
--- src/lib.rt:255:1
 same-length-4 : tie.Need-same-length-4 Inv-loop μ-loop
 same-length-4 c = c .before .before .loop .inv .0 .words-kept
 
--- src/lib.rt:255:1
 returns : tie.Need-returns Inv-loop μ-loop
 returns c =
     let at = c .before .before .before .before .before .before .before .before .before .before .args in
@@ -129,7 +110,7 @@ leap-on-spec =
     Inv-loop
     μ-loop
     loop-holds
-    goes-on-requires
+    (λ c κs. search needs)
     leap-once-requires
     leap-span-requires
     loop-less

@@ -21,15 +21,6 @@ abbrev μ-loop : tie.MeasureT-loop
 μ-loop at span memory₀ sums₀ inputclocks entries halt ticking v₀ shared₀ on₀ memory sums v shared on =
     cond on (span .0 - v .work .gone .0 + 1) 0
 
--- src/lib.rt:242:9
-ticking-of-requires : tie.Need-ticking-of-requires Inv-loop μ-loop
-ticking-of-requires c κs = search needs
-
--- src/lib.rt:243:9
-begin-work-requires : tie.Need-begin-work-requires Inv-loop μ-loop
-begin-work-requires c κs = search needs
-
--- src/lib.rt:246:5
 loop-holds : tie.Need-loop-holds Inv-loop μ-loop
 loop-holds c =
     let root = c .before .before .before .before .before .before .before in
@@ -89,7 +80,6 @@ loop-again c =
       sums-then 0 (now (at .sums)) (now (at .memory)) (loop .memory) (done .last .1 .1 .1 .0) (loop .inv .1) (done .ensures .1),
     )
 
--- src/lib.rt:252:5
 spanned-to-requires : tie.Need-spanned-to-requires Inv-loop μ-loop
 spanned-to-requires c κs =
     let root = c .before .before .before .before .before .before .before .before .before in
@@ -97,18 +87,15 @@ spanned-to-requires c κs =
     ending _ _ _ _ _ _ _ _ i (root .pre .0 .0) (root .pre .0 .1)
     (unseen-fewer _ (root .args .span .0) _ _ (i .room .gone) (i .begun .alone .unseen))
 
--- src/lib.rt:226:1
 same-length : tie.Need-same-length Inv-loop μ-loop
 same-length c = c .before .before .loop .inv .0 .kept
 
--- src/lib.rt:226:1
 same-length-2 : tie.Need-same-length-2 Inv-loop μ-loop
 same-length-2 c =
     let at = c .before .before .before .before .before .before .before .before .before .before .args in
     ap length (c .before .before .loop .inv .1)
     ∙ sums-length 0 (now (at .sums)) (now (at .memory)) (c .before .before .loop .memory)
 
--- src/lib.rt:226:1
 returns : tie.Need-returns Inv-loop μ-loop
 returns c =
     let loop = c .before .before .loop in
@@ -120,8 +107,8 @@ leap-within-spec =
     (tie.spec
     Inv-loop
     μ-loop
-    ticking-of-requires
-    begin-work-requires
+    (λ c κs. search needs)
+    (λ c κs. search needs)
     loop-holds
     steps-on-requires
     add-shared

@@ -5,27 +5,15 @@ use mathlib.Core.Path.{_≡_, ap}
 use borrow.Author.Needs.{needs}
 use Rattle.r6501q_run.proofs.left_after.Statement.{statement}
 use Rattle.r6501q_run.proofs.left_after.Tie as tie
-use Rattle.r6501q_run.proofs.left_after.Reads as reads
-use Rattle.r6501q_run.proofs.left_after.Lts as lts
 
--- src/lib.rt:61:9
 returns : tie.Need-returns
 returns c =
     let at = c .before .before .before .args in
     let none : at .left .0 - (at .gap .0 + 1) ≡ 0 = omega (arith, c .if1 .taken) in
     rw none
 
--- src/lib.rt:63:12
-sub-t4 : tie.Need-sub-t4
-sub-t4 c = search needs
-
--- src/lib.rt:63:12
-sub-t5 : tie.Need-sub-t5
-sub-t5 c = search needs
-
--- src/lib.rt:57:1
 returns-2 : tie.Need-returns-2
 returns-2 c = ap (λ (k : ℕ). clocksOf k) (omega arith)
 
 pub left-after-spec : {M : Type 1} → statement M
-left-after-spec = tie.close (tie.spec returns sub-t4 sub-t5 returns-2)
+left-after-spec = tie.close (tie.spec returns (λ c. search needs) (λ c. search needs) returns-2)

@@ -12,21 +12,7 @@ use Rattle.r6501q_step.specs.R6501q.{World, machine}
 use borrow.Author.Needs.{needs}
 use Rattle.r6501q_run.proofs.run_with_sums.Statement.{statement}
 use Rattle.r6501q_run.proofs.run_with_sums.Tie as tie
-use Rattle.r6501q_run.proofs.run_with_sums.Reads as reads
-use Rattle.r6501q_run.proofs.run_with_sums.Lts as lts
-use Rattle.page_sums.proofs.page_list_refused.Reads as page-list-refused-reads
-use Rattle.r6501q_run.proofs.run_into.Reads as run-into-reads
-use Rattle.r6501q_step.proofs.refused.Reads as refused-reads
 
--- src/lib.rt:401:8
-page-list-refused-requires : tie.Need-page-list-refused-requires
-page-list-refused-requires c κs = search needs
-
--- src/lib.rt:402:9
-refused-requires : tie.Need-refused-requires
-refused-requires c κs = search needs
-
--- src/lib.rt:402:9
 returns : tie.Need-returns
 returns c =
     let at = c .before .before .before .before .before .before .before .before .before .args in
@@ -39,27 +25,6 @@ returns c =
     let kept = sums-kept 0 (now (at .sums)) (now (at .memory)) words in
     (rw (c .refused .ensures) (sym leaps), (rw (c .refused .ensures) (sym plains), kept))
 
--- src/lib.rt:404:5
-run-into-requires : tie.Need-run-into-requires
-run-into-requires c κs = search needs
-
--- src/lib.rt:385:1
-same-length : tie.Need-same-length
-same-length c = search needs
-
--- src/lib.rt:385:1
-same-length-2 : tie.Need-same-length-2
-same-length-2 c = search needs
-
--- src/lib.rt:385:1
-same-length-3 : tie.Need-same-length-3
-same-length-3 c = search needs
-
--- src/lib.rt:385:1
-same-length-4 : tie.Need-same-length-4
-same-length-4 c = search needs
-
--- src/lib.rt:385:1
 returns-2 : tie.Need-returns-2
 returns-2 c =
     let at = c .before .before .before .before .before .before .before .before .before .before .before .before .before .before .before .before .before .before .before .before .before .args in
@@ -75,12 +40,12 @@ pub run-with-sums-spec : {M : Type 1} → statement M
 run-with-sums-spec =
     tie.close
     (tie.spec
-    page-list-refused-requires
-    refused-requires
+    (λ c κs. search needs)
+    (λ c κs. search needs)
     returns
-    run-into-requires
-    same-length
-    same-length-2
-    same-length-3
-    same-length-4
+    (λ c κs. search needs)
+    (λ c. search needs)
+    (λ c. search needs)
+    (λ c. search needs)
+    (λ c. search needs)
     returns-2)

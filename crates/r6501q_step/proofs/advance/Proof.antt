@@ -10,22 +10,7 @@ use Rattle.r6501q_step.proofs.Worlds.{plain-stops, plain-moves, due-fit
 use borrow.Author.Needs.{needs}
 use Rattle.r6501q_step.proofs.advance.Statement.{statement}
 use Rattle.r6501q_step.proofs.advance.Tie as tie
-use Rattle.r6501q_step.proofs.advance.Reads as reads
-use Rattle.r6501q_step.proofs.advance.Lts as lts
-use Rattle.r6501q_step.proofs.complete.Reads as complete-reads
-use Rattle.r6501q_step.proofs.due_from.Reads as due-from-reads
-use Rattle.r6501q_step.proofs.outcome_from.Reads as outcome-from-reads
-use Rattle.r6501q_step.proofs.stop_at.Reads as stop-at-reads
 
--- src/lib.rt:179:45
-add-due-from : tie.Need-add-due-from
-add-due-from c = search needs
-
--- src/lib.rt:179:9
-due-from-requires : tie.Need-due-from-requires
-due-from-requires c κs = search needs
-
--- src/lib.rt:181:9
 outcome-from-requires : tie.Need-outcome-from-requires
 outcome-from-requires c κs =
     let root = c .before .before .before .before .before .before .before .before .before .before .before in
@@ -34,19 +19,6 @@ outcome-from-requires c κs =
     let codes = now (root .args .inputcodes) in
     ((going .clock, rw (c .before .before .due-from .ensures) (due-fits _ _ clocks codes (going .read) (going .inputs))), root .pre .1)
 
--- src/lib.rt:183:26
-enum-known-clocked : tie.Need-enum-known-clocked
-enum-known-clocked c = search needs
-
--- src/lib.rt:183:37
-stop-at-requires : tie.Need-stop-at-requires
-stop-at-requires c κs = search needs
-
--- src/lib.rt:184:23
-enum-known-clocked-2 : tie.Need-enum-known-clocked-2
-enum-known-clocked-2 c = search needs
-
--- src/lib.rt:184:33
 complete-requires : tie.Need-complete-requires
 complete-requires c κs =
     let root = c .before .before .before .before .before .before .before .before .before .before .before .before .before .before .before .before .before .before .before in
@@ -58,11 +30,6 @@ complete-requires c κs =
     rw (due .ensures) (due-fits _ _ clocks codes (going .read) (going .inputs)) in
     (omega (arith, fits, root .good), omega (arith, going .written, root .good))
 
--- src/lib.rt:160:1
-same-length : tie.Need-same-length
-same-length c = search needs
-
--- src/lib.rt:160:1
 returns : tie.Need-returns
 returns c =
     let root = c .before .before .before .before .before .before .before .before .before .before .before .before .before .before .before .before in
@@ -73,23 +40,6 @@ returns c =
       sums-kept 0 (now (at .sums)) (now (at .memory)) words,
     )
 
--- src/lib.rt:160:1
-same-length-2 : tie.Need-same-length-2
-same-length-2 c = search needs
-
--- src/lib.rt:160:1
-same-length-3 : tie.Need-same-length-3
-same-length-3 c = search needs
-
--- src/lib.rt:160:1
-same-length-4 : tie.Need-same-length-4
-same-length-4 c = search needs
-
--- src/lib.rt:160:1
-same-length-5 : tie.Need-same-length-5
-same-length-5 c = search needs
-
--- src/lib.rt:160:1
 returns-2 : tie.Need-returns-2
 returns-2 c =
     let root = c .before .before .before .before .before .before .before .before .before .before .before .before .before .before .before .before .before .before .before .before .before .before .before .before .before .before .before .before in
@@ -108,17 +58,17 @@ pub advance-spec : {M : Type 1} → statement M
 advance-spec =
     tie.close
     (tie.spec
-    add-due-from
-    due-from-requires
+    (λ c. search needs)
+    (λ c κs. search needs)
     outcome-from-requires
-    enum-known-clocked
-    stop-at-requires
-    enum-known-clocked-2
+    (λ c. search needs)
+    (λ c κs. search needs)
+    (λ c. search needs)
     complete-requires
-    same-length
+    (λ c. search needs)
     returns
-    same-length-2
-    same-length-3
-    same-length-4
-    same-length-5
+    (λ c. search needs)
+    (λ c. search needs)
+    (λ c. search needs)
+    (λ c. search needs)
     returns-2)

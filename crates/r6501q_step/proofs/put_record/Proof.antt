@@ -4,36 +4,19 @@ use borrow.Author.Tests.{lt-ltb, le-ltb, le-leb, lt-leb, eq-eqb, ne-eqb}
 use borrow.Author.Needs.{needs}
 use Rattle.r6501q_step.proofs.put_record.Statement.{statement}
 use Rattle.r6501q_step.proofs.put_record.Tie as tie
-use Rattle.r6501q_step.proofs.put_record.Reads as reads
-use Rattle.r6501q_step.proofs.put_record.Lts as lts
 
--- src/lib.rt:42:13
-mul-list : tie.Need-mul-list
-mul-list c = search needs
-
--- src/lib.rt:42:13
-slice-write-list : tie.Need-slice-write-list
-slice-write-list c = search needs
-
--- src/lib.rt:37:1
-same-length : tie.Need-same-length
-same-length c = search needs
-
--- src/lib.rt:37:1
 returns : tie.Need-returns
 unfolding putRecord
 returns c = rw (c .before .if1 .taken)
 
--- src/lib.rt:37:1
 returns-2 : tie.Need-returns-2
 unfolding putRecord
 returns-2 c = rw (c .before .if1 .taken, set-out _ _ _ (c .if2 .left))
 
--- src/lib.rt:37:1
 returns-3 : tie.Need-returns-3
 unfolding putRecord
 returns-3 c = rw (c .if1 .left)
 
 pub put-record-spec : {M : Type 1} → statement M
 put-record-spec =
-    tie.close (tie.spec mul-list slice-write-list same-length returns returns-2 returns-3)
+    tie.close (tie.spec (λ c. search needs) (λ c. search needs) (λ c. search needs) returns returns-2 returns-3)

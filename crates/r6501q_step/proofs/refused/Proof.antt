@@ -1,10 +1,7 @@
 use mathlib.Core.Path.{refl}
 use Rattle.r6501q_step.proofs.refused.Statement.{statement}
 use Rattle.r6501q_step.proofs.refused.Tie as tie
-use Rattle.r6501q_step.proofs.refused.Reads as reads
-use Rattle.r6501q_step.proofs.refused.Lts as lts
 
--- src/lib.rt:151:1
 returns : tie.Need-returns
 returns c = refl
 

@@ -12,21 +12,7 @@ use Rattle.r6501q_step.specs.R6501q.{World, machine}
 use borrow.Author.Needs.{needs}
 use Rattle.r6501q_step.proofs.step_with_sums.Statement.{statement}
 use Rattle.r6501q_step.proofs.step_with_sums.Tie as tie
-use Rattle.r6501q_step.proofs.step_with_sums.Reads as reads
-use Rattle.r6501q_step.proofs.step_with_sums.Lts as lts
-use Rattle.page_sums.proofs.page_list_refused.Reads as page-list-refused-reads
-use Rattle.r6501q_step.proofs.refused.Reads as refused-reads
-use Rattle.r6501q_step.proofs.step_into.Reads as step-into-reads
 
--- src/lib.rt:358:8
-page-list-refused-requires : tie.Need-page-list-refused-requires
-page-list-refused-requires c κs = search needs
-
--- src/lib.rt:359:9
-refused-requires : tie.Need-refused-requires
-refused-requires c κs = search needs
-
--- src/lib.rt:359:9
 returns : tie.Need-returns
 returns c =
     let at = c .before .before .before .before .before .before .before .before .before .args in
@@ -36,27 +22,6 @@ returns c =
     let wrong : pageListRefused (length (now (at .memory))) (length (now (at .sums))) ≡ true = sym told ∙ c .before .if1 .taken in
     (rw (c .refused .ensures) (sym (list-refused (now (at .sums)) (stepOf (machine (at .halt))) start wrong)), sums-kept 0 (now (at .sums)) (now (at .memory)) words)
 
--- src/lib.rt:361:5
-step-into-requires : tie.Need-step-into-requires
-step-into-requires c κs = search needs
-
--- src/lib.rt:343:1
-same-length : tie.Need-same-length
-same-length c = search needs
-
--- src/lib.rt:343:1
-same-length-2 : tie.Need-same-length-2
-same-length-2 c = search needs
-
--- src/lib.rt:343:1
-same-length-3 : tie.Need-same-length-3
-same-length-3 c = search needs
-
--- src/lib.rt:343:1
-same-length-4 : tie.Need-same-length-4
-same-length-4 c = search needs
-
--- src/lib.rt:343:1
 returns-2 : tie.Need-returns-2
 returns-2 c =
     let at = c .before .before .before .before .before .before .before .before .before .before .before .before .before .before .before .before .before .before .before .before .before .args in
@@ -70,12 +35,12 @@ pub step-with-sums-spec : {M : Type 1} → statement M
 step-with-sums-spec =
     tie.close
     (tie.spec
-    page-list-refused-requires
-    refused-requires
+    (λ c κs. search needs)
+    (λ c κs. search needs)
     returns
-    step-into-requires
-    same-length
-    same-length-2
-    same-length-3
-    same-length-4
+    (λ c κs. search needs)
+    (λ c. search needs)
+    (λ c. search needs)
+    (λ c. search needs)
+    (λ c. search needs)
     returns-2)

@@ -17,12 +17,6 @@ abbrev μ-loop : tie.MeasureT-loop
 loop-holds : tie.Need-loop-holds Inv-loop μ-loop
 loop-holds c = (spelling-begins (c .before .args .base) (c .before .args .count) (c .before .args .n) (c .before .args .at) (now (c .before .args .text)), refl)
 
-sub-left : tie.Need-sub-left Inv-loop μ-loop
-sub-left c = search needs
-
-rem-digit : tie.Need-rem-digit Inv-loop μ-loop
-rem-digit c = search needs
-
 digit-requires : tie.Need-digit-requires Inv-loop μ-loop
 digit-requires c κs = let small = mod-lt (c .before .loop .rest) (c .before .before .before .pre .0 .0) in omega arith
 
@@ -32,17 +26,8 @@ add-text c = omega (arith, c .before .before .loop .inv .0 .within)
 slice-write-text : tie.Need-slice-write-text Inv-loop μ-loop
 slice-write-text c = omega (arith, c .before .before .loop .inv .0 .within)
 
-div-rest : tie.Need-div-rest Inv-loop μ-loop
-div-rest c = search needs
-
-loop-less : tie.Need-loop-less Inv-loop μ-loop
-loop-less c = search needs
-
 loop-again : tie.Need-loop-again Inv-loop μ-loop
 loop-again c = (spelling-on (c .before .before .before .before .args .base) (c .before .before .before .before .args .count) (c .before .before .before .before .args .n) (c .before .before .before .before .args .at) (now (c .before .before .before .before .args .text)) (c .before .before .loop .left) (c .before .before .loop .rest) (c .digit .result) (c .before .before .loop .text) (c .before .loop-test .taken) (c .before .before .loop .inv .0) (c .digit .ensures), simp length-set (c .before .before .loop .inv .1))
-
-add-result : tie.Need-add-result Inv-loop μ-loop
-add-result c = search needs
 
 same-length : tie.Need-same-length Inv-loop μ-loop
 same-length c = c .before .loop .inv .1
@@ -57,14 +42,14 @@ put-digits-spec =
     Inv-loop
     μ-loop
     loop-holds
-    sub-left
-    rem-digit
+    (λ c. search needs)
+    (λ c. search needs)
     digit-requires
     add-text
     slice-write-text
-    div-rest
-    loop-less
+    (λ c. search needs)
+    (λ c. search needs)
     loop-again
-    add-result
+    (λ c. search needs)
     same-length
     returns)

@@ -8,17 +8,8 @@ use borrow.Author.Needs.{needs}
 use Rattle.record_text.proofs.put_end.Statement.{statement}
 use Rattle.record_text.proofs.put_end.Tie as tie
 
-slice-aggregate-put-characters : tie.Need-slice-aggregate-put-characters
-slice-aggregate-put-characters c = search needs
-
-put-characters-requires : tie.Need-put-characters-requires
-put-characters-requires c κs = search needs
-
 put-decimal-requires : tie.Need-put-decimal-requires
 put-decimal-requires c κs = omega (arith, place-of (c .before .before .before .put-characters .ensures), decimal-length (c .before .before .before .before .before .before .before .args .done))
-
-slice-aggregate-put-characters-2 : tie.Need-slice-aggregate-put-characters-2
-slice-aggregate-put-characters-2 c = search needs
 
 put-characters-requires-2 : tie.Need-put-characters-requires-2
 put-characters-requires-2 c κs = omega (arith, place-of (c .before .before .before .before .before .before .before .before .put-characters .ensures), place-of (c .before .before .before .before .put-decimal .ensures), decimal-length (c .before .before .before .before .before .before .before .before .before .before .before .before .args .done))
@@ -26,14 +17,8 @@ put-characters-requires-2 c κs = omega (arith, place-of (c .before .before .bef
 put-decimal-requires-2 : tie.Need-put-decimal-requires-2
 put-decimal-requires-2 c κs = omega (arith, place-of (c .before .before .before .before .before .before .before .before .before .before .before .before .put-characters .ensures), place-of (c .before .before .before .before .before .before .before .before .put-decimal .ensures), place-of (c .before .before .before .put-characters2 .ensures), decimal-length (c .before .before .before .before .before .before .before .before .before .before .before .before .before .before .before .before .args .done), byte-length (c .before .before .before .before .before .before .before .before .before .before .before .before .before .before .before .before .args .number) (omega arith))
 
-slice-aggregate-put-characters-3 : tie.Need-slice-aggregate-put-characters-3
-slice-aggregate-put-characters-3 c = search needs
-
 put-characters-requires-3 : tie.Need-put-characters-requires-3
 put-characters-requires-3 c κs = omega (arith, place-of (c .before .before .before .before .before .before .before .before .before .before .before .before .before .before .before .before .before .put-characters .ensures), place-of (c .before .before .before .before .before .before .before .before .before .before .before .before .before .put-decimal .ensures), place-of (c .before .before .before .before .before .before .before .before .put-characters2 .ensures), place-of (c .before .before .before .before .put-decimal2 .ensures), decimal-length (c .before .before .before .before .before .before .before .before .before .before .before .before .before .before .before .before .before .before .before .before .before .args .done), byte-length (c .before .before .before .before .before .before .before .before .before .before .before .before .before .before .before .before .before .before .before .before .before .args .number) (omega arith))
-
-same-length : tie.Need-same-length
-same-length c = search needs
 
 returns : tie.Need-returns
 unfolding endLine
@@ -43,13 +28,13 @@ pub put-end-spec : {M : Type 1} → statement M
 put-end-spec =
     tie.close
     (tie.spec
-    slice-aggregate-put-characters
-    put-characters-requires
+    (λ c. search needs)
+    (λ c κs. search needs)
     put-decimal-requires
-    slice-aggregate-put-characters-2
+    (λ c. search needs)
     put-characters-requires-2
     put-decimal-requires-2
-    slice-aggregate-put-characters-3
+    (λ c. search needs)
     put-characters-requires-3
-    same-length
+    (λ c. search needs)
     returns)

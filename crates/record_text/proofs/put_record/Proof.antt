@@ -11,23 +11,14 @@ use Rattle.record_text.proofs.put_record.Tie as tie
 put-decimal-requires : tie.Need-put-decimal-requires
 put-decimal-requires c κs = omega (arith, decimal-length (c .before .before .args .clock))
 
-slice-aggregate-put-characters : tie.Need-slice-aggregate-put-characters
-slice-aggregate-put-characters c = search needs
-
 put-characters-requires : tie.Need-put-characters-requires
 put-characters-requires c κs = omega (arith, place-of (c .before .before .before .before .put-decimal .ensures), decimal-length (c .before .before .before .before .before .before .before .args .clock))
 
 put-word-requires : tie.Need-put-word-requires
 put-word-requires c κs = omega (arith, place-of (c .before .before .before .before .before .before .before .before .put-decimal .ensures), place-of (c .before .before .before .put-characters .ensures), decimal-length (c .before .before .before .before .before .before .before .before .before .before .before .args .clock))
 
-slice-aggregate-put-characters-2 : tie.Need-slice-aggregate-put-characters-2
-slice-aggregate-put-characters-2 c = search needs
-
 put-characters-requires-2 : tie.Need-put-characters-requires-2
 put-characters-requires-2 c κs = omega (arith, place-of (c .before .before .before .before .before .before .before .before .before .before .before .before .before .put-decimal .ensures), place-of (c .before .before .before .before .before .before .before .before .put-characters .ensures), place-of (c .before .before .before .before .put-word .ensures), decimal-length (c .before .before .before .before .before .before .before .before .before .before .before .before .before .before .before .before .args .clock), word-length (c .before .before .before .before .before .before .before .before .before .before .before .before .before .before .before .before .args .word))
-
-same-length : tie.Need-same-length
-same-length c = search needs
 
 returns : tie.Need-returns
 unfolding recordLine
@@ -38,10 +29,10 @@ put-record-spec =
     tie.close
     (tie.spec
     put-decimal-requires
-    slice-aggregate-put-characters
+    (λ c. search needs)
     put-characters-requires
     put-word-requires
-    slice-aggregate-put-characters-2
+    (λ c. search needs)
     put-characters-requires-2
-    same-length
+    (λ c. search needs)
     returns)

@@ -3,16 +3,9 @@ use Rattle.refusals.specs.Refusals.{lastClock}
 use Rattle.refusals.proofs.Accepted.{clocks-left}
 use Rattle.refusals.proofs.passes_last.Statement.{statement}
 use Rattle.refusals.proofs.passes_last.Tie as tie
-use Rattle.refusals.proofs.passes_last.Reads as reads
-use Rattle.refusals.proofs.passes_last.Lts as lts
 
--- src/lib.rt:24:5
-sub-result : tie.Need-sub-result
-sub-result c = search needs
-
--- src/lib.rt:21:1
 returns : tie.Need-returns
 returns c = clocks-left lastClock (c .args .clock) (c .args .n) (search needs)
 
 pub passes-last-spec : {M : Type 1} → statement M
-passes-last-spec = tie.close (tie.spec sub-result returns)
+passes-last-spec = tie.close (tie.spec (λ c. search needs) returns)

@@ -7,12 +7,6 @@ use borrow.Author.Needs.{needs}
 use Rattle.replay_text.proofs.replay_input.Statement.{statement}
 use Rattle.replay_text.proofs.replay_input.Tie as tie
 
-replay-requires : tie.Need-replay-requires
-replay-requires c κs = search needs
-
-same-length : tie.Need-same-length
-same-length c = search needs
-
 returns : tie.Need-returns
 returns c =
     let input = now (c .before .before .before .before .before .before .before .args .input) in
@@ -22,23 +16,14 @@ slice-aggregate-replay : tie.Need-slice-aggregate-replay
 slice-aggregate-replay c =
     sym (length-take-le tapeLength (now (c .before .before .before .before .args .input)) (omega (arith, c .before .if1 .left)))
 
-replay-requires-2 : tie.Need-replay-requires-2
-replay-requires-2 c κs = search needs
-
-same-length-2 : tie.Need-same-length-2
-same-length-2 c = search needs
-
-returns-2 : tie.Need-returns-2
-returns-2 c = search needs
-
 pub replay-input-spec : {M : Type 1} → statement M
 replay-input-spec =
     tie.close
     (tie.spec
-    replay-requires
-    same-length
+    (λ c κs. search needs)
+    (λ c. search needs)
     returns
     slice-aggregate-replay
-    replay-requires-2
-    same-length-2
-    returns-2)
+    (λ c κs. search needs)
+    (λ c. search needs)
+    (λ c. search needs))

@@ -8,24 +8,6 @@ use borrow.Author.Needs.{needs}
 use Rattle.replay_text.proofs.run_loaded.Statement.{statement}
 use Rattle.replay_text.proofs.run_loaded.Tie as tie
 
-fresh-state-requires : tie.Need-fresh-state-requires
-fresh-state-requires c κs = search needs
-
-slice-aggregate-run : tie.Need-slice-aggregate-run
-slice-aggregate-run c = search needs
-
-slice-aggregate-run-2 : tie.Need-slice-aggregate-run-2
-slice-aggregate-run-2 c = search needs
-
-slice-aggregate-run-3 : tie.Need-slice-aggregate-run-3
-slice-aggregate-run-3 c = search needs
-
-slice-aggregate-run-4 : tie.Need-slice-aggregate-run-4
-slice-aggregate-run-4 c = search needs
-
-run-requires : tie.Need-run-requires
-run-requires c κs = search needs
-
 array-share-prefix-outputclocks : tie.Need-array-share-prefix-outputclocks
 array-share-prefix-outputclocks c = written-clocks (now (c .before .before .before .before .before .before .before .before .before .before .before .before .before .args .memory)) (c .before .before .before .before .before .before .before .before .before .before .before .before .before .pre .0) (c .before .before .before .before .before .before .before .before .before .before .fresh-state .result) (c .before .before .before .before .run .result) (c .before .before .before .before .run .last .1 .0) (c .before .before .before .before .run .last .1 .1 .1 .1 .0) (c .before .before .before .before .run .last .1 .1 .1 .1 .1 .0) (c .before .before .before .before .before .before .before .before .before .before .fresh-state .ensures) (c .before .before .before .before .run .ensures .1) refl refl
 
@@ -41,12 +23,6 @@ slice-aggregate-put-outcome-2 c = sym (length-take-le _ _ (array-share-prefix-ou
 put-outcome-requires : tie.Need-put-outcome-requires
 put-outcome-requires c κs = let t = slice-aggregate-put-outcome (c .before .before) in let w = slice-aggregate-put-outcome-2 (c .before) in (sym t ∙ w, omega (arith, array-share-prefix-outputclocks (c .before .before .before)))
 
-same-length : tie.Need-same-length
-same-length c = search needs
-
-same-length-2 : tie.Need-same-length-2
-same-length-2 c = search needs
-
 returns : tie.Need-returns
 returns c = (c .before .before .put-outcome .ensures .0 ∙ ap (λ lines. putOf lines (written 0 (now (c .before .before .before .before .before .before .before .before .before .before .before .before .before .before .before .before .before .before .before .args .text)))) (lines-of-run (now (c .before .before .before .before .before .before .before .before .before .before .before .before .before .before .before .before .before .before .before .args .memory)) (c .before .before .before .before .before .before .before .before .before .before .before .before .before .before .before .before .before .before .before .pre .0) (c .before .before .before .before .before .before .before .before .before .before .before .before .before .before .before .before .fresh-state .result) (c .before .before .before .before .before .before .before .before .before .before .run .result) (c .before .before .before .before .before .before .before .before .before .before .run .last .1 .0) (c .before .before .before .before .before .before .before .before .before .before .run .last .1 .1 .1 .1 .0) (c .before .before .before .before .before .before .before .before .before .before .run .last .1 .1 .1 .1 .1 .0) (c .before .before .before .before .before .before .before .before .before .before .before .before .before .before .before .before .fresh-state .ensures) (c .before .before .before .before .before .before .before .before .before .before .run .ensures .1) refl refl), c .before .before .put-outcome .ensures .1)
 
@@ -54,17 +30,17 @@ pub run-loaded-spec : {M : Type 1} → statement M
 run-loaded-spec =
     tie.close
     (tie.spec
-    fresh-state-requires
-    slice-aggregate-run
-    slice-aggregate-run-2
-    slice-aggregate-run-3
-    slice-aggregate-run-4
-    run-requires
+    (λ c κs. search needs)
+    (λ c. search needs)
+    (λ c. search needs)
+    (λ c. search needs)
+    (λ c. search needs)
+    (λ c κs. search needs)
     array-share-prefix-outputclocks
     slice-aggregate-put-outcome
     array-share-prefix-outputwords
     slice-aggregate-put-outcome-2
     put-outcome-requires
-    same-length
-    same-length-2
+    (λ c. search needs)
+    (λ c. search needs)
     returns)

@@ -34,14 +34,8 @@ part-text-start c = omega arith
 part-text-end : tie.Need-part-text-end Inv-loop μ-loop
 part-text-end c = omega arith
 
-fault-requires : tie.Need-fault-requires Inv-loop μ-loop
-fault-requires c κs = search needs
-
 returns : tie.Need-returns Inv-loop μ-loop
 returns c = sym (check-fault (now (c .before .before .before .before .before .before .before .before .args .tape)) (c .before .before .before .before .before .before .loop .place) (c .before .before .before .before .before .loop-test .taken) (c .before .before .before .if1 .taken) (c .before .before .before .before .before .before .loop .seen) (c .before .fault .result) (c .before .fault .ensures) (c .if2 .taken)) ∙ c .before .before .before .before .before .before .loop .inv .1
-
-count-requires : tie.Need-count-requires Inv-loop μ-loop
-count-requires c κs = search needs
 
 add-ended : tie.Need-add-ended Inv-loop μ-loop
 add-ended c = omega (arith, c .before .before .before .before .before .before .before .loop-test .taken, c .before .before .before .before .before .before .before .before .loop .inv)
@@ -79,9 +73,9 @@ check-spec =
     sub-text
     part-text-start
     part-text-end
-    fault-requires
+    (λ c κs. search needs)
     returns
-    count-requires
+    (λ c κs. search needs)
     add-ended
     ended-requires
     returns-2

@@ -18,9 +18,6 @@ returns c =
     let words : SixteenBits (now (at .sums)) = λ p. omega (arith, c .before .slice-known2 .given p) in
     (rw (ne-eqb _ _ (c .if1 .taken)), sums-kept 0 (now (at .sums)) (now (at .memory)) words)
 
-check-requires : tie.Need-check-requires
-check-requires c κs = search needs
-
 returns-2 : tie.Need-returns-2
 unfolding loadOf
 returns-2 c =
@@ -33,15 +30,6 @@ returns-2 c =
       sums-kept 0 (now (at .sums)) (now (at .memory)) words,
     )
 
-store-requires : tie.Need-store-requires
-store-requires c κs = search needs
-
-same-length : tie.Need-same-length
-same-length c = search needs
-
-same-length-2 : tie.Need-same-length-2
-same-length-2 c = search needs
-
 returns-3 : tie.Need-returns-3
 unfolding loadOf
 returns-3 c =
@@ -53,4 +41,4 @@ returns-3 c =
 pub load-into-spec : {M : Type 1} → statement M
 load-into-spec =
     tie.close
-    (tie.spec returns check-requires returns-2 store-requires same-length same-length-2 returns-3)
+    (tie.spec returns (λ c κs. search needs) returns-2 (λ c κs. search needs) (λ c. search needs) (λ c. search needs) returns-3)

@@ -11,9 +11,6 @@ use borrow.Author.Needs.{needs}
 use Rattle.tape.proofs.load_with_sums.Statement.{statement}
 use Rattle.tape.proofs.load_with_sums.Tie as tie
 
-page-list-refused-requires : tie.Need-page-list-refused-requires
-page-list-refused-requires c κs = search needs
-
 returns : tie.Need-returns
 unfolding loadWithSumsOf
 returns c =
@@ -24,15 +21,6 @@ returns c =
     let wrong : pageListRefused (length memory) (length sums) ≡ true = sym told ∙ c .if1 .taken in
     let words : SixteenBits sums = λ p. omega (arith, c .before .before .slice-known2 .given p) in
     (sym (cond-yes _ (loaded (loadResult 13 0) memory) (loadOf (now (at .tape)) memory) wrong), sums-kept 0 sums memory words)
-
-load-into-requires : tie.Need-load-into-requires
-load-into-requires c κs = search needs
-
-same-length : tie.Need-same-length
-same-length c = search needs
-
-same-length-2 : tie.Need-same-length-2
-same-length-2 c = search needs
 
 returns-2 : tie.Need-returns-2
 unfolding loadWithSumsOf
@@ -48,4 +36,4 @@ returns-2 c =
 pub load-with-sums-spec : {M : Type 1} → statement M
 load-with-sums-spec =
     tie.close
-    (tie.spec page-list-refused-requires returns load-into-requires same-length same-length-2 returns-2)
+    (tie.spec (λ c κs. search needs) returns (λ c κs. search needs) (λ c. search needs) (λ c. search needs) returns-2)

@@ -40,9 +40,6 @@ part-text-start c = omega arith
 part-text-end : tie.Need-part-text-end Inv-loop μ-loop
 part-text-end c = omega arith
 
-count-requires : tie.Need-count-requires Inv-loop μ-loop
-count-requires c κs = search needs
-
 same-length : tie.Need-same-length Inv-loop μ-loop
 same-length c = c .before .before .before .before .before .before .loop .inv .0
 
@@ -59,12 +56,6 @@ returns c =
     let test = c .before .before .before .before .before .loop-test .taken in
     let count = c .before .count in
     (sym (store-last (now (at .tape)) (loop .place) test (c .before .before .before .if1 .taken) (count .result) (count .ensures) (loop .memory) (c .if2 .taken)) ∙ loop .inv .1, loop .inv .2)
-
-address-requires : tie.Need-address-requires Inv-loop μ-loop
-address-requires c κs = search needs
-
-record-data-requires : tie.Need-record-data-requires Inv-loop μ-loop
-record-data-requires c κs = search needs
 
 land-requires : tie.Need-land-requires Inv-loop μ-loop
 land-requires c κs =
@@ -126,12 +117,12 @@ store-spec =
     sub-text
     part-text-start
     part-text-end
-    count-requires
+    (λ c κs. search needs)
     same-length
     same-length-2
     returns
-    address-requires
-    record-data-requires
+    (λ c κs. search needs)
+    (λ c κs. search needs)
     land-requires
     add-place
     loop-less

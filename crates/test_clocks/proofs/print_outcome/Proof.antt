@@ -12,9 +12,6 @@ slice-aggregate-put-outcome c = sym (length-take-le (c .before .before .before .
 slice-aggregate-put-outcome-2 : tie.Need-slice-aggregate-put-outcome-2
 slice-aggregate-put-outcome-2 c = sym (length-take-le (c .before .before .before .before .args .outcome .written) (now (c .before .before .before .before .args .words)) (omega arith))
 
-slice-aggregate-put-outcome-3 : tie.Need-slice-aggregate-put-outcome-3
-slice-aggregate-put-outcome-3 c = search needs
-
 put-outcome-requires : tie.Need-put-outcome-requires
 put-outcome-requires c κs = let t = slice-aggregate-put-outcome (c .before .before) in (sym t ∙ slice-aggregate-put-outcome-2 (c .before), omega arith)
 
@@ -24,21 +21,15 @@ array-share-prefix-text c = search needs
 slice-aggregate-write-all : tie.Need-slice-aggregate-write-all
 slice-aggregate-write-all c = sym (length-take-le _ _ (array-share-prefix-text (c .before)))
 
-write-all-requires : tie.Need-write-all-requires
-write-all-requires c κs = search needs
-
-returns : tie.Need-returns
-returns c = search needs
-
 pub print-outcome-spec : {M : Type 1} → statement M
 print-outcome-spec =
     tie.close
     (tie.spec
     slice-aggregate-put-outcome
     slice-aggregate-put-outcome-2
-    slice-aggregate-put-outcome-3
+    (λ c. search needs)
     put-outcome-requires
     array-share-prefix-text
     slice-aggregate-write-all
-    write-all-requires
-    returns)
+    (λ c κs. search needs)
+    (λ c. search needs))

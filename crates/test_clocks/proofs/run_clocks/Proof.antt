@@ -12,15 +12,6 @@ Inv-loop limit memory₀ clocks codes times₀ words₀ p₀ done₀ memory time
 abbrev μ-loop : tie.MeasureT-loop
 μ-loop limit memory₀ clocks codes times₀ words₀ p₀ done₀ memory times words p done = limit - done
 
-begin-requires : tie.Need-begin-requires Inv-loop μ-loop
-begin-requires c κs = search needs
-
-loop-holds : tie.Need-loop-holds Inv-loop μ-loop
-loop-holds c = search needs
-
-single-clock-requires : tie.Need-single-clock-requires Inv-loop μ-loop
-single-clock-requires c κs = search needs
-
 same-length : tie.Need-same-length Inv-loop μ-loop
 same-length c = c .before .before .before .before .before .before .before .before .single-clock .kept .1 .0 ∙ c .before .before .before .before .before .before .before .before .before .before .before .before .before .loop .inv .2
 
@@ -51,18 +42,15 @@ same-length-5 c = c .before .loop .inv .3
 same-length-6 : tie.Need-same-length-6 Inv-loop μ-loop
 same-length-6 c = c .before .loop .inv .4
 
-returns-2 : tie.Need-returns-2 Inv-loop μ-loop
-returns-2 c = search needs
-
 pub run-clocks-spec : {M : Type 1} → statement M
 run-clocks-spec =
     tie.close
     (tie.spec
     Inv-loop
     μ-loop
-    begin-requires
-    loop-holds
-    single-clock-requires
+    (λ c κs. search needs)
+    (λ c. search needs)
+    (λ c κs. search needs)
     same-length
     same-length-2
     same-length-3
@@ -73,4 +61,4 @@ run-clocks-spec =
     same-length-4
     same-length-5
     same-length-6
-    returns-2)
+    (λ c. search needs))

@@ -5,15 +5,6 @@ use borrow.Author.Needs.{needs}
 use Rattle.test_clocks.proofs.run_loaded.Statement.{statement}
 use Rattle.test_clocks.proofs.run_loaded.Tie as tie
 
-slice-aggregate-read-inputs : tie.Need-slice-aggregate-read-inputs
-slice-aggregate-read-inputs c = search needs
-
-slice-aggregate-read-inputs-2 : tie.Need-slice-aggregate-read-inputs-2
-slice-aggregate-read-inputs-2 c = search needs
-
-read-inputs-requires : tie.Need-read-inputs-requires
-read-inputs-requires c κs = search needs
-
 array-share-prefix-clocks : tie.Need-array-share-prefix-clocks
 array-share-prefix-clocks c = search needs
 
@@ -41,19 +32,13 @@ slice-aggregate-run-lent-4 c = sym (length-take-le _ _ (array-borrow-prefix-word
 run-lent-requires : tie.Need-run-lent-requires
 run-lent-requires c κs = let t = slice-aggregate-run-lent-3 (c .before) in (sym (slice-aggregate-run-lent (c .before .before .before)) ∙ slice-aggregate-run-lent-2 (c .before .before), (refl, omega arith))
 
-same-length : tie.Need-same-length
-same-length c = search needs
-
-returns : tie.Need-returns
-returns c = search needs
-
 pub run-loaded-spec : {M : Type 1} → statement M
 run-loaded-spec =
     tie.close
     (tie.spec
-    slice-aggregate-read-inputs
-    slice-aggregate-read-inputs-2
-    read-inputs-requires
+    (λ c. search needs)
+    (λ c. search needs)
+    (λ c κs. search needs)
     array-share-prefix-clocks
     slice-aggregate-run-lent
     array-share-prefix-codes
@@ -63,5 +48,5 @@ run-loaded-spec =
     array-borrow-prefix-words
     slice-aggregate-run-lent-4
     run-lent-requires
-    same-length
-    returns)
+    (λ c. search needs)
+    (λ c. search needs))

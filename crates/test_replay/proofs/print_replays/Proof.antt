@@ -16,9 +16,6 @@ abbrev μ-loop : tie.MeasureT-loop
 loop-holds : tie.Need-loop-holds Inv-loop μ-loop
 loop-holds c = omega arith
 
-next-mark-requires : tie.Need-next-mark-requires Inv-loop μ-loop
-next-mark-requires c κs = search needs
-
 sub-print-replay : tie.Need-sub-print-replay Inv-loop μ-loop
 sub-print-replay c = omega arith
 
@@ -27,9 +24,6 @@ part-print-replay-start c = omega arith
 
 part-print-replay-end : tie.Need-part-print-replay-end Inv-loop μ-loop
 part-print-replay-end c = omega (arith, mark-within 61 (now (c .before .before .before .before .args .tapes)) (c .before .before .loop .from) (c .before .loop-test .taken))
-
-print-replay-requires : tie.Need-print-replay-requires Inv-loop μ-loop
-print-replay-requires c κs = search needs
 
 add-from : tie.Need-add-from Inv-loop μ-loop
 add-from c = omega (arith, mark-within 61 (now (c .before .before .before .before .before .before .args .tapes)) (c .before .before .before .before .loop .from) (c .before .before .before .loop-test .taken))
@@ -40,9 +34,6 @@ loop-less c = omega (arith, mark-within 61 (now (c .before .before .before .befo
 loop-again : tie.Need-loop-again Inv-loop μ-loop
 loop-again c = omega (arith, mark-within 61 (now (c .before .before .before .before .before .before .args .tapes)) (c .before .before .before .before .loop .from) (c .before .before .before .loop-test .taken))
 
-returns : tie.Need-returns Inv-loop μ-loop
-returns c = search needs
-
 pub print-replays-spec : {M : Type 1} → statement M
 print-replays-spec =
     tie.close
@@ -50,12 +41,12 @@ print-replays-spec =
     Inv-loop
     μ-loop
     loop-holds
-    next-mark-requires
+    (λ c κs. search needs)
     sub-print-replay
     part-print-replay-start
     part-print-replay-end
-    print-replay-requires
+    (λ c κs. search needs)
     add-from
     loop-less
     loop-again
-    returns)
+    (λ c. search needs))

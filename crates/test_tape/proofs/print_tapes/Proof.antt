@@ -16,9 +16,6 @@ abbrev μ-loop : tie.MeasureT-loop
 loop-holds : tie.Need-loop-holds Inv-loop μ-loop
 loop-holds c = omega arith
 
-next-mark-requires : tie.Need-next-mark-requires Inv-loop μ-loop
-next-mark-requires c κs = search needs
-
 sub-print-load : tie.Need-sub-print-load Inv-loop μ-loop
 sub-print-load c = omega arith
 
@@ -27,9 +24,6 @@ part-print-load-start c = omega arith
 
 part-print-load-end : tie.Need-part-print-load-end Inv-loop μ-loop
 part-print-load-end c = omega (arith, mark-within 61 (now (c .before .before .before .before .args .text)) (c .before .before .loop .from) (c .before .loop-test .taken))
-
-print-load-requires : tie.Need-print-load-requires Inv-loop μ-loop
-print-load-requires c κs = search needs
 
 add-from : tie.Need-add-from Inv-loop μ-loop
 add-from c = omega (arith, mark-within 61 (now (c .before .before .before .before .before .before .args .text)) (c .before .before .before .before .loop .from) (c .before .before .before .loop-test .taken))
@@ -40,9 +34,6 @@ loop-less c = omega (arith, mark-within 61 (now (c .before .before .before .befo
 loop-again : tie.Need-loop-again Inv-loop μ-loop
 loop-again c = omega (arith, mark-within 61 (now (c .before .before .before .before .before .before .args .text)) (c .before .before .before .before .loop .from) (c .before .before .before .loop-test .taken))
 
-returns : tie.Need-returns Inv-loop μ-loop
-returns c = search needs
-
 pub print-tapes-spec : {M : Type 1} → statement M
 print-tapes-spec =
     tie.close
@@ -50,12 +41,12 @@ print-tapes-spec =
     Inv-loop
     μ-loop
     loop-holds
-    next-mark-requires
+    (λ c κs. search needs)
     sub-print-load
     part-print-load-start
     part-print-load-end
-    print-load-requires
+    (λ c κs. search needs)
     add-from
     loop-less
     loop-again
-    returns)
+    (λ c. search needs))

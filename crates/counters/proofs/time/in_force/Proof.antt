@@ -1,15 +1,11 @@
 use Rattle.counters.specs.Counters.{inForce}
 use Rattle.counters.proofs.time.in_force.Statement.{statement}
 use Rattle.counters.proofs.time.in_force.Tie as tie
-use Rattle.counters.proofs.time.in_force.Reads as reads
-use Rattle.counters.proofs.time.in_force.Lts as lts
 
--- src/time.rt:19:1
 returns : tie.Need-returns
 unfolding inForce
 returns c = rw (c .if1 .taken)
 
--- src/time.rt:19:1
 returns-2 : tie.Need-returns-2
 unfolding inForce
 returns-2 c = rw (c .if1 .left)

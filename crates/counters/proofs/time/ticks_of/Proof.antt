@@ -1,15 +1,11 @@
 use Rattle.counters.specs.Counters.{ticksOf}
 use Rattle.counters.proofs.time.ticks_of.Statement.{statement}
 use Rattle.counters.proofs.time.ticks_of.Tie as tie
-use Rattle.counters.proofs.time.ticks_of.Reads as reads
-use Rattle.counters.proofs.time.ticks_of.Lts as lts
 
--- src/time.rt:12:1
 returns : tie.Need-returns
 unfolding ticksOf
 returns c = rw (c .if1 .taken)
 
--- src/time.rt:12:1
 returns-2 : tie.Need-returns-2
 unfolding ticksOf
 returns-2 c = rw (c .if1 .left)

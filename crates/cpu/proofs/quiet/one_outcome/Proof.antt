@@ -7,15 +7,10 @@ use Rattle.cpu.specs.Instruction.{instructionOf}
 use Rattle.cpu.proofs.Kept.{none-quiet}
 use Rattle.cpu.proofs.quiet.one_outcome.Statement.{statement}
 use Rattle.cpu.proofs.quiet.one_outcome.Tie as tie
-use Rattle.cpu.proofs.quiet.one_outcome.Reads as reads
-use Rattle.cpu.proofs.quiet.one_outcome.Lts as lts
-use Rattle.cpu.proofs.quiet.run_instructions.Reads as run-instructions-reads
 
--- src/quiet.rt:98:9
 run-instructions-requires : tie.Need-run-instructions-requires
 run-instructions-requires c κs = (record { gone = omega arith; leaps = omega arith }, c .before .before .before .pre)
 
--- src/quiet.rt:88:1
 returns : tie.Need-returns
 returns c =
     let at = c .before .before .before .before .args in

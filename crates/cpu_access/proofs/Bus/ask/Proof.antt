@@ -5,12 +5,6 @@ use borrow.Author.Needs.{needs}
 use Rattle.cpu_access.proofs.Bus.ask.Statement.{statement}
 use Rattle.cpu_access.proofs.Bus.ask.Tie as tie
 
-shared-slice-read-t9 : tie.Need-shared-slice-read-t9
-shared-slice-read-t9 c = search needs
-
-add-t10 : tie.Need-add-t10
-add-t10 c = search needs
-
 returns : tie.Need-returns
 unfolding askOf
 returns c = rw (lt-ltb _ _ (c .before .if1 .taken)) refl
@@ -24,4 +18,4 @@ unfolding askOf
 returns-3 c = rw (c .if2 .left, le-ltb _ _ (c .before .if1 .left)) refl
 
 pub ask-spec : {M : Type 1} → statement M
-ask-spec = tie.close (tie.spec shared-slice-read-t9 add-t10 returns returns-2 returns-3)
+ask-spec = tie.close (tie.spec (λ c. search needs) (λ c. search needs) returns returns-2 returns-3)

@@ -3,21 +3,9 @@ use borrow.Author.Needs.{needs}
 use Rattle.cpu_access.proofs.Bus.read_after.Statement.{statement}
 use Rattle.cpu_access.proofs.Bus.read_after.Tie as tie
 
-is-register-requires : tie.Need-is-register-requires
-is-register-requires c κs = search needs
-
-ask-requires : tie.Need-ask-requires
-ask-requires c κs = search needs
-
 returns : tie.Need-returns
 unfolding readAfter
 returns c = rw (← (c .before .before .is-register .ensures), ← (c .ask .ensures), c .before .if1 .taken)
-
-memory-byte-requires : tie.Need-memory-byte-requires
-memory-byte-requires c κs = search needs
-
-written-over-requires : tie.Need-written-over-requires
-written-over-requires c κs = search needs
 
 returns-2 : tie.Need-returns-2
 unfolding readAfter
@@ -27,9 +15,9 @@ pub read-after-spec : {M : Type 1} → statement M
 read-after-spec =
     tie.close
     (tie.spec
-    is-register-requires
-    ask-requires
+    (λ c κs. search needs)
+    (λ c κs. search needs)
     returns
-    memory-byte-requires
-    written-over-requires
+    (λ c κs. search needs)
+    (λ c κs. search needs)
     returns-2)

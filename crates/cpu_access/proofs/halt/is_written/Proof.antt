@@ -2,10 +2,7 @@ use mathlib.Core.Path.{refl}
 use Rattle.cpu_access.specs.Halt.{isWritten}
 use Rattle.cpu_access.proofs.halt.is_written.Statement.{statement}
 use Rattle.cpu_access.proofs.halt.is_written.Tie as tie
-use Rattle.cpu_access.proofs.halt.is_written.Reads as reads
-use Rattle.cpu_access.proofs.halt.is_written.Lts as lts
 
--- src/halt.rt:13:1
 returns : tie.Need-returns
 unfolding isWritten
 returns c = refl

@@ -3,11 +3,8 @@ use borrow.Author.Needs.{needs}
 use Rattle.cpu_access.proofs.modes.crossing.Statement.{statement}
 use Rattle.cpu_access.proofs.modes.crossing.Tie as tie
 
-other-page-requires : tie.Need-other-page-requires
-other-page-requires c κs = search needs
-
 returns : tie.Need-returns
 returns c = rw (c .other-page .ensures) refl
 
 pub crossing-spec : {M : Type 1} → statement M
-crossing-spec = tie.close (tie.spec other-page-requires returns)
+crossing-spec = tie.close (tie.spec (λ c κs. search needs) returns)

@@ -4,9 +4,6 @@ use borrow.Author.Needs.{needs}
 use Rattle.cpu_access.proofs.modes.displacement.Statement.{statement}
 use Rattle.cpu_access.proofs.modes.displacement.Tie as tie
 
-add-result : tie.Need-add-result
-add-result c = search needs
-
 returns : tie.Need-returns
 unfolding displacement
 returns c = rw (lt-ltb _ _ (c .if1 .taken))
@@ -16,4 +13,4 @@ unfolding displacement
 returns-2 c = rw (le-ltb _ _ (c .if1 .left))
 
 pub displacement-spec : {M : Type 1} → statement M
-displacement-spec = tie.close (tie.spec add-result returns returns-2)
+displacement-spec = tie.close (tie.spec (λ c. search needs) returns returns-2)

@@ -4,15 +4,9 @@ use borrow.Author.Needs.{needs}
 use Rattle.cpu_access.proofs.modes.indexed_by.Statement.{statement}
 use Rattle.cpu_access.proofs.modes.indexed_by.Tie as tie
 
-wrapping-add-u16-requires : tie.Need-wrapping-add-u16-requires
-wrapping-add-u16-requires c κs = search needs
-
-crossing-requires : tie.Need-crossing-requires
-crossing-requires c κs = search needs
-
 returns : tie.Need-returns
 unfolding indexedBy
 returns c = rw (c .crossing .ensures, c .before .wrapping-add-u16 .ensures) refl
 
 pub indexed-by-spec : {M : Type 1} → statement M
-indexed-by-spec = tie.close (tie.spec wrapping-add-u16-requires crossing-requires returns)
+indexed-by-spec = tie.close (tie.spec (λ c κs. search needs) (λ c κs. search needs) returns)

@@ -3,126 +3,6 @@ use borrow.Author.Needs.{needs}
 use Rattle.cpu_access.proofs.modes.locate.Statement.{statement}
 use Rattle.cpu_access.proofs.modes.locate.Tie as tie
 
-enum-told : tie.Need-enum-told
-enum-told c = search needs
-
-no-place-requires : tie.Need-no-place-requires
-no-place-requires c κs = search needs
-
-enum-told-2 : tie.Need-enum-told-2
-enum-told-2 c = search needs
-
-no-place-requires-2 : tie.Need-no-place-requires-2
-no-place-requires-2 c κs = search needs
-
-enum-told-3 : tie.Need-enum-told-3
-enum-told-3 c = search needs
-
-next-address-requires : tie.Need-next-address-requires
-next-address-requires c κs = search needs
-
-place-at-requires : tie.Need-place-at-requires
-place-at-requires c κs = search needs
-
-enum-told-4 : tie.Need-enum-told-4
-enum-told-4 c = search needs
-
-fetch-requires : tie.Need-fetch-requires
-fetch-requires c κs = search needs
-
-at-zero-page-requires : tie.Need-at-zero-page-requires
-at-zero-page-requires c κs = search needs
-
-enum-told-5 : tie.Need-enum-told-5
-enum-told-5 c = search needs
-
-fetch-requires-2 : tie.Need-fetch-requires-2
-fetch-requires-2 c κs = search needs
-
-at-zero-page-indexed-requires : tie.Need-at-zero-page-indexed-requires
-at-zero-page-indexed-requires c κs = search needs
-
-enum-told-6 : tie.Need-enum-told-6
-enum-told-6 c = search needs
-
-fetch-requires-3 : tie.Need-fetch-requires-3
-fetch-requires-3 c κs = search needs
-
-at-zero-page-indexed-requires-2 : tie.Need-at-zero-page-indexed-requires-2
-at-zero-page-indexed-requires-2 c κs = search needs
-
-enum-told-7 : tie.Need-enum-told-7
-enum-told-7 c = search needs
-
-fetch-word-requires : tie.Need-fetch-word-requires
-fetch-word-requires c κs = search needs
-
-at-absolute-requires : tie.Need-at-absolute-requires
-at-absolute-requires c κs = search needs
-
-enum-told-8 : tie.Need-enum-told-8
-enum-told-8 c = search needs
-
-fetch-word-requires-2 : tie.Need-fetch-word-requires-2
-fetch-word-requires-2 c κs = search needs
-
-at-indexed-requires : tie.Need-at-indexed-requires
-at-indexed-requires c κs = search needs
-
-enum-told-9 : tie.Need-enum-told-9
-enum-told-9 c = search needs
-
-fetch-word-requires-3 : tie.Need-fetch-word-requires-3
-fetch-word-requires-3 c κs = search needs
-
-at-indexed-requires-2 : tie.Need-at-indexed-requires-2
-at-indexed-requires-2 c κs = search needs
-
-enum-told-10 : tie.Need-enum-told-10
-enum-told-10 c = search needs
-
-fetch-requires-4 : tie.Need-fetch-requires-4
-fetch-requires-4 c κs = search needs
-
-at-indexed-indirect-requires : tie.Need-at-indexed-indirect-requires
-at-indexed-indirect-requires c κs = search needs
-
-enum-told-11 : tie.Need-enum-told-11
-enum-told-11 c = search needs
-
-fetch-requires-5 : tie.Need-fetch-requires-5
-fetch-requires-5 c κs = search needs
-
-at-indirect-indexed-requires : tie.Need-at-indirect-indexed-requires
-at-indirect-indexed-requires c κs = search needs
-
-enum-told-12 : tie.Need-enum-told-12
-enum-told-12 c = search needs
-
-fetch-word-requires-4 : tie.Need-fetch-word-requires-4
-fetch-word-requires-4 c κs = search needs
-
-at-indirect-requires : tie.Need-at-indirect-requires
-at-indirect-requires c κs = search needs
-
-enum-told-13 : tie.Need-enum-told-13
-enum-told-13 c = search needs
-
-fetch-requires-6 : tie.Need-fetch-requires-6
-fetch-requires-6 c κs = search needs
-
-relative-requires : tie.Need-relative-requires
-relative-requires c κs = search needs
-
-enum-told-14 : tie.Need-enum-told-14
-enum-told-14 c = search needs
-
-fetch-requires-7 : tie.Need-fetch-requires-7
-fetch-requires-7 c κs = search needs
-
-at-zero-page-requires-2 : tie.Need-at-zero-page-requires-2
-at-zero-page-requires-2 c κs = search needs
-
 returns : tie.Need-returns
 unfolding locateOf
 returns c = rw (c .before .enum-told .given .1, ← (c .no-place .ensures))
@@ -183,46 +63,46 @@ pub locate-spec : {M : Type 1} → statement M
 locate-spec =
     tie.close
     (tie.spec
-    enum-told
-    no-place-requires
-    enum-told-2
-    no-place-requires-2
-    enum-told-3
-    next-address-requires
-    place-at-requires
-    enum-told-4
-    fetch-requires
-    at-zero-page-requires
-    enum-told-5
-    fetch-requires-2
-    at-zero-page-indexed-requires
-    enum-told-6
-    fetch-requires-3
-    at-zero-page-indexed-requires-2
-    enum-told-7
-    fetch-word-requires
-    at-absolute-requires
-    enum-told-8
-    fetch-word-requires-2
-    at-indexed-requires
-    enum-told-9
-    fetch-word-requires-3
-    at-indexed-requires-2
-    enum-told-10
-    fetch-requires-4
-    at-indexed-indirect-requires
-    enum-told-11
-    fetch-requires-5
-    at-indirect-indexed-requires
-    enum-told-12
-    fetch-word-requires-4
-    at-indirect-requires
-    enum-told-13
-    fetch-requires-6
-    relative-requires
-    enum-told-14
-    fetch-requires-7
-    at-zero-page-requires-2
+    (λ c. search needs)
+    (λ c κs. search needs)
+    (λ c. search needs)
+    (λ c κs. search needs)
+    (λ c. search needs)
+    (λ c κs. search needs)
+    (λ c κs. search needs)
+    (λ c. search needs)
+    (λ c κs. search needs)
+    (λ c κs. search needs)
+    (λ c. search needs)
+    (λ c κs. search needs)
+    (λ c κs. search needs)
+    (λ c. search needs)
+    (λ c κs. search needs)
+    (λ c κs. search needs)
+    (λ c. search needs)
+    (λ c κs. search needs)
+    (λ c κs. search needs)
+    (λ c. search needs)
+    (λ c κs. search needs)
+    (λ c κs. search needs)
+    (λ c. search needs)
+    (λ c κs. search needs)
+    (λ c κs. search needs)
+    (λ c. search needs)
+    (λ c κs. search needs)
+    (λ c κs. search needs)
+    (λ c. search needs)
+    (λ c κs. search needs)
+    (λ c κs. search needs)
+    (λ c. search needs)
+    (λ c κs. search needs)
+    (λ c κs. search needs)
+    (λ c. search needs)
+    (λ c κs. search needs)
+    (λ c κs. search needs)
+    (λ c. search needs)
+    (λ c κs. search needs)
+    (λ c κs. search needs)
     returns
     returns-2
     returns-3

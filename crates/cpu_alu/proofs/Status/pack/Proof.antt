@@ -5,14 +5,8 @@ use borrow.Author.Needs.{needs}
 use Rattle.cpu_alu.proofs.Status.pack.Statement.{statement}
 use Rattle.cpu_alu.proofs.Status.pack.Tie as tie
 
-digit8-requires : tie.Need-digit8-requires
-digit8-requires c κs = search needs
-
 mul-result : tie.Need-mul-result
 mul-result c = omega (arith, c .digit8 .ensures, digit-le (c .before .args .self .n))
-
-digit8-requires-2 : tie.Need-digit8-requires-2
-digit8-requires-2 c κs = search needs
 
 mul-result-2 : tie.Need-mul-result-2
 mul-result-2 c = omega (arith, c .before .digit8 .ensures, digit-le (c .before .before .args .self .n), c .digit82 .ensures, digit-le (c .before .before .args .self .v))
@@ -20,17 +14,11 @@ mul-result-2 c = omega (arith, c .before .digit8 .ensures, digit-le (c .before .
 add-result : tie.Need-add-result
 add-result c = omega (arith, c .before .digit8 .ensures, digit-le (c .before .before .args .self .n), c .digit82 .ensures, digit-le (c .before .before .args .self .v))
 
-digit8-requires-3 : tie.Need-digit8-requires-3
-digit8-requires-3 c κs = search needs
-
 mul-result-3 : tie.Need-mul-result-3
 mul-result-3 c = omega (arith, c .before .before .digit8 .ensures, digit-le (c .before .before .before .args .self .n), c .before .digit82 .ensures, digit-le (c .before .before .before .args .self .v), c .digit83 .ensures, digit-le (c .before .before .before .args .self .d))
 
 add-result-2 : tie.Need-add-result-2
 add-result-2 c = omega (arith, c .before .before .digit8 .ensures, digit-le (c .before .before .before .args .self .n), c .before .digit82 .ensures, digit-le (c .before .before .before .args .self .v), c .digit83 .ensures, digit-le (c .before .before .before .args .self .d))
-
-digit8-requires-4 : tie.Need-digit8-requires-4
-digit8-requires-4 c κs = search needs
 
 mul-result-4 : tie.Need-mul-result-4
 mul-result-4 c = omega (arith, c .before .before .before .digit8 .ensures, digit-le (c .before .before .before .before .args .self .n), c .before .before .digit82 .ensures, digit-le (c .before .before .before .before .args .self .v), c .before .digit83 .ensures, digit-le (c .before .before .before .before .args .self .d), c .digit84 .ensures, digit-le (c .before .before .before .before .args .self .i))
@@ -38,17 +26,11 @@ mul-result-4 c = omega (arith, c .before .before .before .digit8 .ensures, digit
 add-result-3 : tie.Need-add-result-3
 add-result-3 c = omega (arith, c .before .before .before .digit8 .ensures, digit-le (c .before .before .before .before .args .self .n), c .before .before .digit82 .ensures, digit-le (c .before .before .before .before .args .self .v), c .before .digit83 .ensures, digit-le (c .before .before .before .before .args .self .d), c .digit84 .ensures, digit-le (c .before .before .before .before .args .self .i))
 
-digit8-requires-5 : tie.Need-digit8-requires-5
-digit8-requires-5 c κs = search needs
-
 mul-result-5 : tie.Need-mul-result-5
 mul-result-5 c = omega (arith, c .before .before .before .before .digit8 .ensures, digit-le (c .before .before .before .before .before .args .self .n), c .before .before .before .digit82 .ensures, digit-le (c .before .before .before .before .before .args .self .v), c .before .before .digit83 .ensures, digit-le (c .before .before .before .before .before .args .self .d), c .before .digit84 .ensures, digit-le (c .before .before .before .before .before .args .self .i), c .digit85 .ensures, digit-le (c .before .before .before .before .before .args .self .z))
 
 add-result-4 : tie.Need-add-result-4
 add-result-4 c = omega (arith, c .before .before .before .before .digit8 .ensures, digit-le (c .before .before .before .before .before .args .self .n), c .before .before .before .digit82 .ensures, digit-le (c .before .before .before .before .before .args .self .v), c .before .before .digit83 .ensures, digit-le (c .before .before .before .before .before .args .self .d), c .before .digit84 .ensures, digit-le (c .before .before .before .before .before .args .self .i), c .digit85 .ensures, digit-le (c .before .before .before .before .before .args .self .z))
-
-digit8-requires-6 : tie.Need-digit8-requires-6
-digit8-requires-6 c κs = search needs
 
 add-result-5 : tie.Need-add-result-5
 add-result-5 c = omega (arith, c .before .before .before .before .before .digit8 .ensures, digit-le (c .before .before .before .before .before .before .args .self .n), c .before .before .before .before .digit82 .ensures, digit-le (c .before .before .before .before .before .before .args .self .v), c .before .before .before .digit83 .ensures, digit-le (c .before .before .before .before .before .before .args .self .d), c .before .before .digit84 .ensures, digit-le (c .before .before .before .before .before .before .args .self .i), c .before .digit85 .ensures, digit-le (c .before .before .before .before .before .before .args .self .z), c .digit86 .ensures, digit-le (c .before .before .before .before .before .before .args .self .c))
@@ -61,20 +43,20 @@ pub pack-spec : {M : Type 1} → statement M
 pack-spec =
     tie.close
     (tie.spec
-    digit8-requires
+    (λ c κs. search needs)
     mul-result
-    digit8-requires-2
+    (λ c κs. search needs)
     mul-result-2
     add-result
-    digit8-requires-3
+    (λ c κs. search needs)
     mul-result-3
     add-result-2
-    digit8-requires-4
+    (λ c κs. search needs)
     mul-result-4
     add-result-3
-    digit8-requires-5
+    (λ c κs. search needs)
     mul-result-5
     add-result-4
-    digit8-requires-6
+    (λ c κs. search needs)
     add-result-5
     returns)

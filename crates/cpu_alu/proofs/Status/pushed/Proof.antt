@@ -7,14 +7,8 @@ use borrow.Author.Needs.{needs}
 use Rattle.cpu_alu.proofs.Status.pushed.Statement.{statement}
 use Rattle.cpu_alu.proofs.Status.pushed.Tie as tie
 
-pack-requires : tie.Need-pack-requires
-pack-requires c κs = search needs
-
 add-result : tie.Need-add-result
 add-result c = omega (arith, c .pack .ensures, packed-le (c .before .args .self))
-
-digit8-requires : tie.Need-digit8-requires
-digit8-requires c κs = search needs
 
 mul-result : tie.Need-mul-result
 mul-result c = omega (arith, c .digit8 .ensures, digit-le (c .before .before .args .brk))
@@ -28,4 +22,4 @@ returns c = rw (c .digit8 .ensures, c .before .pack .ensures) refl
 
 pub pushed-spec : {M : Type 1} → statement M
 pushed-spec =
-    tie.close (tie.spec pack-requires add-result digit8-requires mul-result add-result-2 returns)
+    tie.close (tie.spec (λ c κs. search needs) add-result (λ c κs. search needs) mul-result add-result-2 returns)

@@ -3,12 +3,6 @@ use borrow.Author.Needs.{needs}
 use Rattle.cpu_alu.proofs.arithmetic.adc.Statement.{statement}
 use Rattle.cpu_alu.proofs.arithmetic.adc.Tie as tie
 
-add-decimal-requires : tie.Need-add-decimal-requires
-add-decimal-requires c κs = search needs
-
-add-binary-requires : tie.Need-add-binary-requires
-add-binary-requires c κs = search needs
-
 returns : tie.Need-returns
 unfolding adcOf
 returns c = rw (← (c .add-decimal .ensures), c .before .if1 .taken)
@@ -18,4 +12,4 @@ unfolding adcOf
 returns-2 c = rw (← (c .add-binary .ensures), c .before .if1 .left)
 
 pub adc-spec : {M : Type 1} → statement M
-adc-spec = tie.close (tie.spec add-decimal-requires add-binary-requires returns returns-2)
+adc-spec = tie.close (tie.spec (λ c κs. search needs) (λ c κs. search needs) returns returns-2)

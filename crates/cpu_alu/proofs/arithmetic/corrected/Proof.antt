@@ -4,9 +4,6 @@ use borrow.Author.Needs.{needs}
 use Rattle.cpu_alu.proofs.arithmetic.corrected.Statement.{statement}
 use Rattle.cpu_alu.proofs.arithmetic.corrected.Tie as tie
 
-add-result : tie.Need-add-result
-add-result c = search needs
-
 returns : tie.Need-returns
 unfolding corrected
 returns c = rw (le-leb _ _ (c .if1 .taken))
@@ -16,4 +13,4 @@ unfolding corrected
 returns-2 c = rw (lt-leb _ _ (c .if1 .left))
 
 pub corrected-spec : {M : Type 1} → statement M
-corrected-spec = tie.close (tie.spec add-result returns returns-2)
+corrected-spec = tie.close (tie.spec (λ c. search needs) returns returns-2)

@@ -8,20 +8,8 @@ use borrow.Author.Needs.{needs}
 use Rattle.cpu_alu.proofs.arithmetic.low_difference.Statement.{statement}
 use Rattle.cpu_alu.proofs.arithmetic.low_difference.Tie as tie
 
-add-difference : tie.Need-add-difference
-add-difference c = search needs
-
-digit8-requires : tie.Need-digit8-requires
-digit8-requires c κs = search needs
-
 add-difference-2 : tie.Need-add-difference-2
 add-difference-2 c = omega (arith, c .digit8 .ensures, digit-le (c .before .args .c))
-
-sub-difference : tie.Need-sub-difference
-sub-difference c = search needs
-
-add-result : tie.Need-add-result
-add-result c = search needs
 
 returns : tie.Need-returns
 returns c =
@@ -41,10 +29,10 @@ pub low-difference-spec : {M : Type 1} → statement M
 low-difference-spec =
     tie.close
     (tie.spec
-    add-difference
-    digit8-requires
+    (λ c. search needs)
+    (λ c κs. search needs)
     add-difference-2
-    sub-difference
-    add-result
+    (λ c. search needs)
+    (λ c. search needs)
     returns
     returns-2)

@@ -7,42 +7,6 @@ use borrow.Author.Needs.{needs}
 use Rattle.cpu_alu.proofs.arithmetic.subtract_decimal.Statement.{statement}
 use Rattle.cpu_alu.proofs.arithmetic.subtract_decimal.Tie as tie
 
-low-difference-requires : tie.Need-low-difference-requires
-low-difference-requires c κs = search needs
-
-cast-difference : tie.Need-cast-difference
-cast-difference c = search needs
-
-add-difference : tie.Need-add-difference
-add-difference c = search needs
-
-mul-difference : tie.Need-mul-difference
-mul-difference c = search needs
-
-cast-difference-2 : tie.Need-cast-difference-2
-cast-difference-2 c = search needs
-
-add-difference-2 : tie.Need-add-difference-2
-add-difference-2 c = search needs
-
-mul-difference-2 : tie.Need-mul-difference-2
-mul-difference-2 c = search needs
-
-cast-difference-3 : tie.Need-cast-difference-3
-cast-difference-3 c = search needs
-
-sub-difference : tie.Need-sub-difference
-sub-difference c = search needs
-
-add-result : tie.Need-add-result
-add-result c = search needs
-
-cast-result : tie.Need-cast-result
-cast-result c = search needs
-
-cast-result-2 : tie.Need-cast-result-2
-cast-result-2 c = search needs
-
 returns : tie.Need-returns
 unfolding decimalDifference digitDifference
 returns c =
@@ -63,17 +27,17 @@ pub subtract-decimal-spec : {M : Type 1} → statement M
 subtract-decimal-spec =
     tie.close
     (tie.spec
-    low-difference-requires
-    cast-difference
-    add-difference
-    mul-difference
-    cast-difference-2
-    add-difference-2
-    mul-difference-2
-    cast-difference-3
-    sub-difference
-    add-result
-    cast-result
-    cast-result-2
+    (λ c κs. search needs)
+    (λ c. search needs)
+    (λ c. search needs)
+    (λ c. search needs)
+    (λ c. search needs)
+    (λ c. search needs)
+    (λ c. search needs)
+    (λ c. search needs)
+    (λ c. search needs)
+    (λ c. search needs)
+    (λ c. search needs)
+    (λ c. search needs)
     returns
     returns-2)

@@ -3,12 +3,9 @@ use borrow.Author.Needs.{needs}
 use Rattle.cpu_alu.proofs.logic.and.Statement.{statement}
 use Rattle.cpu_alu.proofs.logic.and.Tie as tie
 
-resulting-requires : tie.Need-resulting-requires
-resulting-requires c κs = search needs
-
 returns : tie.Need-returns
 unfolding andOf
 returns c = rw (c .resulting .ensures)
 
 pub and-spec : {M : Type 1} → statement M
-and-spec = tie.close (tie.spec resulting-requires returns)
+and-spec = tie.close (tie.spec (λ c κs. search needs) returns)

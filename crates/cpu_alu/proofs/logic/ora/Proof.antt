@@ -3,12 +3,9 @@ use borrow.Author.Needs.{needs}
 use Rattle.cpu_alu.proofs.logic.ora.Statement.{statement}
 use Rattle.cpu_alu.proofs.logic.ora.Tie as tie
 
-resulting-requires : tie.Need-resulting-requires
-resulting-requires c κs = search needs
-
 returns : tie.Need-returns
 unfolding oraOf
 returns c = rw (c .resulting .ensures)
 
 pub ora-spec : {M : Type 1} → statement M
-ora-spec = tie.close (tie.spec resulting-requires returns)
+ora-spec = tie.close (tie.spec (λ c κs. search needs) returns)

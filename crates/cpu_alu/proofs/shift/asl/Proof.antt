@@ -3,15 +3,9 @@ use borrow.Author.Needs.{needs}
 use Rattle.cpu_alu.proofs.shift.asl.Statement.{statement}
 use Rattle.cpu_alu.proofs.shift.asl.Tie as tie
 
-with-carry-requires : tie.Need-with-carry-requires
-with-carry-requires c κs = search needs
-
-resulting-requires : tie.Need-resulting-requires
-resulting-requires c κs = search needs
-
 returns : tie.Need-returns
 unfolding aslOf
 returns c = rw (c .resulting .ensures, c .before .with-carry .ensures)
 
 pub asl-spec : {M : Type 1} → statement M
-asl-spec = tie.close (tie.spec with-carry-requires resulting-requires returns)
+asl-spec = tie.close (tie.spec (λ c κs. search needs) (λ c κs. search needs) returns)

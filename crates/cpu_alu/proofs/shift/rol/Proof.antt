@@ -5,17 +5,8 @@ use borrow.Author.Needs.{needs}
 use Rattle.cpu_alu.proofs.shift.rol.Statement.{statement}
 use Rattle.cpu_alu.proofs.shift.rol.Tie as tie
 
-digit8-requires : tie.Need-digit8-requires
-digit8-requires c κs = search needs
-
 add-value : tie.Need-add-value
 add-value c = omega (arith, c .digit8 .ensures, digit-le (c .before .args .status .c))
-
-with-carry-requires : tie.Need-with-carry-requires
-with-carry-requires c κs = search needs
-
-resulting-requires : tie.Need-resulting-requires
-resulting-requires c κs = search needs
 
 returns : tie.Need-returns
 unfolding rolOf
@@ -23,4 +14,4 @@ returns c = rw (c .resulting .ensures, c .before .with-carry .ensures, c .before
 
 pub rol-spec : {M : Type 1} → statement M
 rol-spec =
-    tie.close (tie.spec digit8-requires add-value with-carry-requires resulting-requires returns)
+    tie.close (tie.spec (λ c κs. search needs) add-value (λ c κs. search needs) (λ c κs. search needs) returns)

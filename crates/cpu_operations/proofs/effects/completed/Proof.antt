@@ -5,18 +5,12 @@ use borrow.Author.Needs.{needs}
 use Rattle.cpu_operations.proofs.effects.completed.Statement.{statement}
 use Rattle.cpu_operations.proofs.effects.completed.Tie as tie
 
-digit8-requires : tie.Need-digit8-requires
-digit8-requires c κs = search needs
-
 add-quiet : tie.Need-add-quiet
 add-quiet c = omega (arith, c .before .digit8 .ensures, digit-le (c .before .before .before .args .o .crossed))
-
-quiet-requires : tie.Need-quiet-requires
-quiet-requires c κs = search needs
 
 returns : tie.Need-returns
 unfolding completed
 returns c = rw (← (c .before .before .digit8 .ensures), ← (c .quiet .ensures))
 
 pub completed-spec : {M : Type 1} → statement M
-completed-spec = tie.close (tie.spec digit8-requires add-quiet quiet-requires returns)
+completed-spec = tie.close (tie.spec (λ c κs. search needs) add-quiet (λ c κs. search needs) returns)

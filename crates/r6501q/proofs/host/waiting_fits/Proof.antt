@@ -2,10 +2,7 @@ use Rattle.r6501q.specs.Host.{waitingFits}
 use mathlib.Core.Path.{refl}
 use Rattle.r6501q.proofs.host.waiting_fits.Statement.{statement}
 use Rattle.r6501q.proofs.host.waiting_fits.Tie as tie
-use Rattle.r6501q.proofs.host.waiting_fits.Reads as reads
-use Rattle.r6501q.proofs.host.waiting_fits.Lts as lts
 
--- src/host.rt:220:1
 returns : tie.Need-returns
 unfolding waitingFits
 returns c = refl

@@ -2,15 +2,11 @@ use Rattle.r6501q.specs.Host.{waitingFromHost}
 use borrow.Author.Tests.{lt-ltb, le-ltb, le-leb, lt-leb, eq-eqb, ne-eqb}
 use Rattle.r6501q.proofs.host.waiting_from.Statement.{statement}
 use Rattle.r6501q.proofs.host.waiting_from.Tie as tie
-use Rattle.r6501q.proofs.host.waiting_from.Reads as reads
-use Rattle.r6501q.proofs.host.waiting_from.Lts as lts
 
--- src/host.rt:125:9
 returns : tie.Need-returns
 unfolding waitingFromHost
 returns c = rw (eq-eqb _ _ (c .if1 .taken))
 
--- src/host.rt:117:1
 returns-2 : tie.Need-returns-2
 unfolding waitingFromHost
 returns-2 c = rw (ne-eqb _ _ (c .if1 .left))

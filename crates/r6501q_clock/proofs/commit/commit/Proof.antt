@@ -9,23 +9,7 @@ use Rattle.r6501q_clock.specs.Commit.{putWrite, committed}
 use borrow.Author.Needs.{needs}
 use Rattle.r6501q_clock.proofs.commit.commit.Statement.{statement}
 use Rattle.r6501q_clock.proofs.commit.commit.Tie as tie
-use Rattle.r6501q_clock.proofs.commit.commit.Reads as reads
-use Rattle.r6501q_clock.proofs.commit.commit.Lts as lts
-use Rattle.r6501q_clock.proofs.commit.put_write.Reads as put-write-reads
 
--- src/commit.rt:29:5
-put-write-requires : tie.Need-put-write-requires
-put-write-requires c κs = search needs
-
--- src/commit.rt:31:9
-same-length : tie.Need-same-length
-same-length c = search needs
-
--- src/commit.rt:31:9
-same-length-2 : tie.Need-same-length-2
-same-length-2 c = search needs
-
--- src/commit.rt:31:9
 returns : tie.Need-returns
 unfolding committed putWrite
 returns c =
@@ -34,23 +18,6 @@ returns c =
     let third : ltb 2 count ≡ false = le-ltb 2 count (omega (arith, c .if1 .taken)) in
     (rw (second, third) (c .before .before .before .before .before .before .put-write .ensures .0), c .before .before .before .before .before .before .put-write .ensures .1)
 
--- src/commit.rt:33:5
-put-write-requires-2 : tie.Need-put-write-requires-2
-put-write-requires-2 c κs = search needs
-
--- src/commit.rt:34:5
-put-write-requires-3 : tie.Need-put-write-requires-3
-put-write-requires-3 c κs = search needs
-
--- src/commit.rt:25:1
-same-length-3 : tie.Need-same-length-3
-same-length-3 c = search needs
-
--- src/commit.rt:25:1
-same-length-4 : tie.Need-same-length-4
-same-length-4 c = search needs
-
--- src/commit.rt:25:1
 returns-2 : tie.Need-returns-2
 unfolding committed
 returns-2 c =
@@ -69,12 +36,12 @@ pub commit-spec : {M : Type 1} → statement M
 commit-spec =
     tie.close
     (tie.spec
-    put-write-requires
-    same-length
-    same-length-2
+    (λ c κs. search needs)
+    (λ c. search needs)
+    (λ c. search needs)
     returns
-    put-write-requires-2
-    put-write-requires-3
-    same-length-3
-    same-length-4
+    (λ c κs. search needs)
+    (λ c κs. search needs)
+    (λ c. search needs)
+    (λ c. search needs)
     returns-2)

@@ -1,13 +1,9 @@
 use Rattle.r6501q_gaps.proofs.distances.where_seen.Statement.{statement}
 use Rattle.r6501q_gaps.proofs.distances.where_seen.Tie as tie
-use Rattle.r6501q_gaps.proofs.distances.where_seen.Reads as reads
-use Rattle.r6501q_gaps.proofs.distances.where_seen.Lts as lts
 
--- src/distances.rt:44:9
 returns : tie.Need-returns
 returns c = rw (c .if1 .taken)
 
--- src/distances.rt:40:1
 returns-2 : tie.Need-returns-2
 returns-2 c = rw (c .if1 .left)
 

@@ -2,10 +2,7 @@ use Rattle.r6501q_gaps.specs.Events.{portsFresh}
 use mathlib.Core.Path.{refl}
 use Rattle.r6501q_gaps.proofs.events.ports_fresh.Statement.{statement}
 use Rattle.r6501q_gaps.proofs.events.ports_fresh.Tie as tie
-use Rattle.r6501q_gaps.proofs.events.ports_fresh.Reads as reads
-use Rattle.r6501q_gaps.proofs.events.ports_fresh.Lts as lts
 
--- src/events.rt:27:1
 returns : tie.Need-returns
 unfolding portsFresh
 returns c = refl

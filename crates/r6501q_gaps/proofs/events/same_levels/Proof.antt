@@ -2,10 +2,7 @@ use Rattle.r6501q_gaps.specs.Events.{sameLevels}
 use mathlib.Core.Path.{refl}
 use Rattle.r6501q_gaps.proofs.events.same_levels.Statement.{statement}
 use Rattle.r6501q_gaps.proofs.events.same_levels.Tie as tie
-use Rattle.r6501q_gaps.proofs.events.same_levels.Reads as reads
-use Rattle.r6501q_gaps.proofs.events.same_levels.Lts as lts
 
--- src/events.rt:12:1
 returns : tie.Need-returns
 unfolding sameLevels
 returns c = refl

@@ -2,10 +2,7 @@ use Rattle.r6501q_gaps.specs.Events.{transmitterIdle}
 use mathlib.Core.Path.{refl}
 use Rattle.r6501q_gaps.proofs.events.transmitter_idle.Statement.{statement}
 use Rattle.r6501q_gaps.proofs.events.transmitter_idle.Tie as tie
-use Rattle.r6501q_gaps.proofs.events.transmitter_idle.Reads as reads
-use Rattle.r6501q_gaps.proofs.events.transmitter_idle.Lts as lts
 
--- src/events.rt:41:1
 returns : tie.Need-returns
 unfolding transmitterIdle
 returns c = refl

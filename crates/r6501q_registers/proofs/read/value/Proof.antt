@@ -4,143 +4,75 @@ use borrow.Author.Tests.{ne-eqb}
 use borrow.Author.Needs.{needs}
 use Rattle.r6501q_registers.proofs.read.value.Statement.{statement}
 use Rattle.r6501q_registers.proofs.read.value.Tie as tie
-use Rattle.r6501q_registers.proofs.read.value.Reads as reads
-use Rattle.r6501q_registers.proofs.read.value.Lts as lts
-use Rattle.bits.proofs.high_byte.Reads as high-byte-reads
-use Rattle.bits.proofs.low_byte.Reads as low-byte-reads
-use Rattle.r6501q_registers.proofs.read.port_value.Reads as port-value-reads
-use Rattle.r6501q_state.proofs.state.Control.flags.Reads as flags-reads
 
--- src/read.rt:41:20
-low-byte-requires : tie.Need-low-byte-requires
-low-byte-requires c κs = search needs
-
--- src/read.rt:42:20
-high-byte-requires : tie.Need-high-byte-requires
-high-byte-requires c κs = search needs
-
--- src/read.rt:43:20
-low-byte-requires-2 : tie.Need-low-byte-requires-2
-low-byte-requires-2 c κs = search needs
-
--- src/read.rt:44:20
-low-byte-requires-3 : tie.Need-low-byte-requires-3
-low-byte-requires-3 c κs = search needs
-
--- src/read.rt:45:20
-high-byte-requires-2 : tie.Need-high-byte-requires-2
-high-byte-requires-2 c κs = search needs
-
--- src/read.rt:46:20
-low-byte-requires-4 : tie.Need-low-byte-requires-4
-low-byte-requires-4 c κs = search needs
-
--- src/read.rt:52:28
-flags-requires : tie.Need-flags-requires
-flags-requires c κs = search needs
-
--- src/read.rt:54:19
-port-value-requires : tie.Need-port-value-requires
-port-value-requires c κs = search needs
-
--- src/read.rt:55:19
-port-value-requires-2 : tie.Need-port-value-requires-2
-port-value-requires-2 c κs = search needs
-
--- src/read.rt:56:19
-port-value-requires-3 : tie.Need-port-value-requires-3
-port-value-requires-3 c κs = search needs
-
--- src/read.rt:57:19
-port-value-requires-4 : tie.Need-port-value-requires-4
-port-value-requires-4 c κs = search needs
-
--- src/read.rt:37:1
 returns : tie.Need-returns
 unfolding registerValue
 returns c = rw (c .low-byte .ensures, c .before .match .keys1) refl
 
--- src/read.rt:37:1
 returns-2 : tie.Need-returns-2
 unfolding registerValue
 returns-2 c = rw (c .high-byte .ensures, c .before .match .keys2) refl
 
--- src/read.rt:37:1
 returns-3 : tie.Need-returns-3
 unfolding registerValue
 returns-3 c = rw (c .low-byte2 .ensures, c .before .match .keys3) refl
 
--- src/read.rt:37:1
 returns-4 : tie.Need-returns-4
 unfolding registerValue
 returns-4 c = rw (c .low-byte3 .ensures, c .before .match .keys4) refl
 
--- src/read.rt:37:1
 returns-5 : tie.Need-returns-5
 unfolding registerValue
 returns-5 c = rw (c .high-byte2 .ensures, c .before .match .keys5) refl
 
--- src/read.rt:37:1
 returns-6 : tie.Need-returns-6
 unfolding registerValue
 returns-6 c = rw (c .low-byte4 .ensures, c .before .match .keys6) refl
 
--- src/read.rt:37:1
 returns-7 : tie.Need-returns-7
 unfolding registerValue
 returns-7 c = rw (c .match .keys7) refl
 
--- src/read.rt:37:1
 returns-8 : tie.Need-returns-8
 unfolding registerValue
 returns-8 c = rw (c .match .keys8) refl
 
--- src/read.rt:37:1
 returns-9 : tie.Need-returns-9
 unfolding registerValue
 returns-9 c = rw (c .match .keys9) refl
 
--- src/read.rt:37:1
 returns-10 : tie.Need-returns-10
 unfolding registerValue
 returns-10 c = rw (c .match .keys10) refl
 
--- src/read.rt:37:1
 returns-11 : tie.Need-returns-11
 unfolding registerValue
 returns-11 c = rw (c .match .keys11) refl
 
--- src/read.rt:37:1
 returns-12 : tie.Need-returns-12
 unfolding registerValue
 returns-12 c = rw (c .flags .ensures, c .before .match .keys12) refl
 
--- src/read.rt:37:1
 returns-13 : tie.Need-returns-13
 unfolding registerValue
 returns-13 c = rw (c .match .keys13) refl
 
--- src/read.rt:37:1
 returns-14 : tie.Need-returns-14
 unfolding registerValue
 returns-14 c = rw (c .port-value .ensures, c .before .match .keys14) refl
 
--- src/read.rt:37:1
 returns-15 : tie.Need-returns-15
 unfolding registerValue
 returns-15 c = rw (c .port-value2 .ensures, c .before .match .keys15) refl
 
--- src/read.rt:37:1
 returns-16 : tie.Need-returns-16
 unfolding registerValue
 returns-16 c = rw (c .port-value3 .ensures, c .before .match .keys16) refl
 
--- src/read.rt:37:1
 returns-17 : tie.Need-returns-17
 unfolding registerValue
 returns-17 c = rw (c .port-value4 .ensures, c .before .match .keys17) refl
 
--- src/read.rt:37:1
 returns-18 : tie.Need-returns-18
 unfolding registerValue
 returns-18 c =
@@ -169,17 +101,17 @@ pub value-spec : {M : Type 1} → statement M
 value-spec =
     tie.close
     (tie.spec
-    low-byte-requires
-    high-byte-requires
-    low-byte-requires-2
-    low-byte-requires-3
-    high-byte-requires-2
-    low-byte-requires-4
-    flags-requires
-    port-value-requires
-    port-value-requires-2
-    port-value-requires-3
-    port-value-requires-4
+    (λ c κs. search needs)
+    (λ c κs. search needs)
+    (λ c κs. search needs)
+    (λ c κs. search needs)
+    (λ c κs. search needs)
+    (λ c κs. search needs)
+    (λ c κs. search needs)
+    (λ c κs. search needs)
+    (λ c κs. search needs)
+    (λ c κs. search needs)
+    (λ c κs. search needs)
     returns
     returns-2
     returns-3

@@ -6,18 +6,7 @@ use mathlib.Core.Bool.{_&&_}
 use borrow.Author.Needs.{needs}
 use Rattle.r6501q_unseen.proofs.receiver.heard_after.Statement.{statement}
 use Rattle.r6501q_unseen.proofs.receiver.heard_after.Tie as tie
-use Rattle.r6501q_unseen.proofs.receiver.heard_after.Reads as reads
-use Rattle.r6501q_unseen.proofs.receiver.heard_after.Lts as lts
-use Rattle.bits.proofs.digit8.Reads as digit8-reads
-use Rattle.r6501q_unseen.proofs.receiver.taken_for.Reads as taken-for-reads
-use Rattle.r6501q_unseen.proofs.receiver.waited_for.Reads as waited-for-reads
-use Rattle.serial.proofs.format.receiver_asynchronous.Reads as receiver-asynchronous-reads
 
--- src/receiver.rt:102:19
-receiver-asynchronous-requires : tie.Need-receiver-asynchronous-requires
-receiver-asynchronous-requires c κs = search needs
-
--- src/receiver.rt:104:9
 returns : tie.Need-returns
 unfolding heardAfter
 returns c =
@@ -26,19 +15,6 @@ returns c =
       not-true (c .before .before .receiver-asynchronous .result && leb (c .before .before .before .args .r .subinterval) 7) (c .if1 .taken),
     )
 
--- src/receiver.rt:106:25
-digit8-requires : tie.Need-digit8-requires
-digit8-requires c κs = search needs
-
--- src/receiver.rt:106:25
-cast-since : tie.Need-cast-since
-cast-since c = search needs
-
--- src/receiver.rt:106:17
-add-since : tie.Need-add-since
-add-since c = search needs
-
--- src/receiver.rt:110:9
 waited-for-requires : tie.Need-waited-for-requires
 waited-for-requires c κs =
     let a = c .before .before .before .before .before .before .args in
@@ -48,7 +24,6 @@ waited-for-requires c κs =
     (c .before .before .before .if1 .left)) in
     λ low. rw (c .before .before .digit8 .ensures) (waits-within (a .ticks) (a .r) (a .sccr) (a .high) on (pre .0) (c .if2 .taken) low)
 
--- src/receiver.rt:110:9
 returns-2 : tie.Need-returns-2
 unfolding heardAfter lookedFor
 returns-2 c =
@@ -63,7 +38,6 @@ returns-2 c =
       eq-eqb (a .r .left) 0 (c .before .if2 .taken),
     )
 
--- src/receiver.rt:112:5
 taken-for-requires : tie.Need-taken-for-requires
 taken-for-requires c κs =
     let a = c .before .before .before .before .before .before .args in
@@ -73,7 +47,6 @@ taken-for-requires c κs =
     (c .before .before .before .if1 .left)) in
     rw (c .before .before .digit8 .ensures) (takes-within (a .ticks) (a .r) (a .sccr) (a .high) on (pre .0) (c .if2 .left))
 
--- src/receiver.rt:97:1
 returns-3 : tie.Need-returns-3
 unfolding heardAfter lookedFor
 returns-3 c =
@@ -92,11 +65,11 @@ pub heard-after-spec : {M : Type 1} → statement M
 heard-after-spec =
     tie.close
     (tie.spec
-    receiver-asynchronous-requires
+    (λ c κs. search needs)
     returns
-    digit8-requires
-    cast-since
-    add-since
+    (λ c κs. search needs)
+    (λ c. search needs)
+    (λ c. search needs)
     waited-for-requires
     returns-2
     taken-for-requires

@@ -4,53 +4,27 @@ use borrow.Author.Tests.{lt-ltb, le-ltb, le-leb, lt-leb, eq-eqb, ne-eqb, not-tru
 use borrow.Author.Needs.{needs}
 use Rattle.r6501q_unseen.proofs.transmitter.unseen_sends.Statement.{statement}
 use Rattle.r6501q_unseen.proofs.transmitter.unseen_sends.Tie as tie
-use Rattle.r6501q_unseen.proofs.transmitter.unseen_sends.Reads as reads
-use Rattle.r6501q_unseen.proofs.transmitter.unseen_sends.Lts as lts
-use Rattle.serial.proofs.format.transmitter_on.Reads as transmitter-on-reads
-use Rattle.serial.proofs.format.transmitter_shifts.Reads as transmitter-shifts-reads
 
--- src/transmitter.rt:16:9
-transmitter-on-requires : tie.Need-transmitter-on-requires
-transmitter-on-requires c κs = search needs
-
--- src/transmitter.rt:17:9
 returns : tie.Need-returns
 unfolding unseenSends
 returns c = (rw (← (c .before .transmitter-on .ensures), not-true (c .before .transmitter-on .result) (c .if1 .taken)), search needs)
 
--- src/transmitter.rt:21:13
 returns-2 : tie.Need-returns-2
 unfolding unseenSends
 returns-2 c = (rw (← (c .before .before .before .before .transmitter-on .ensures), eq-eqb _ _ (c .if3 .taken), eq-eqb _ _ (c .before .if2 .taken), not-false (c .before .before .before .before .transmitter-on .result) (c .before .before .before .if1 .left)), search needs)
 
--- src/transmitter.rt:23:9
 returns-3 : tie.Need-returns-3
 unfolding unseenSends
 returns-3 c = (rw (← (c .before .before .before .before .transmitter-on .ensures), ne-eqb _ _ (c .if3 .left), eq-eqb _ _ (c .before .if2 .taken), not-false (c .before .before .before .before .transmitter-on .result) (c .before .before .before .if1 .left)), search needs)
 
--- src/transmitter.rt:25:8
-transmitter-shifts-requires : tie.Need-transmitter-shifts-requires
-transmitter-shifts-requires c κs = search needs
-
--- src/transmitter.rt:26:9
 returns-4 : tie.Need-returns-4
 unfolding unseenSends
 returns-4 c = (rw (← (c .before .before .before .before .before .transmitter-on .ensures), ← (c .before .transmitter-shifts .ensures), c .if4 .taken, ne-eqb _ _ (c .before .before .if2 .left), not-false (c .before .before .before .before .before .transmitter-on .result) (c .before .before .before .before .if1 .left)), search needs)
 
--- src/transmitter.rt:29:21
-cast-result : tie.Need-cast-result
-cast-result c = search needs
-
--- src/transmitter.rt:29:16
-sub-result : tie.Need-sub-result
-sub-result c = search needs
-
--- src/transmitter.rt:29:9
 returns-5 : tie.Need-returns-5
 unfolding unseenSends
 returns-5 c = (rw (← (c .before .before .before .before .before .before .before .before .transmitter-on .ensures), ← (c .before .before .before .before .transmitter-shifts .ensures), c .before .before .before .if4 .left, ne-eqb _ _ (c .before .before .before .before .before .if2 .left), not-false (c .before .before .before .before .before .before .before .before .transmitter-on .result) (c .before .before .before .before .before .before .before .if1 .left)), search needs)
 
--- src/transmitter.rt:13:1
 returns-6 : tie.Need-returns-6
 unfolding unseenSends
 returns-6 c = (rw (← (c .before .before .before .before .before .before .before .transmitter-on .ensures), ← (c .before .before .before .transmitter-shifts .ensures), c .before .before .if4 .left, ne-eqb _ _ (c .before .before .before .before .if2 .left), not-false (c .before .before .before .before .before .before .before .transmitter-on .result) (c .before .before .before .before .before .before .if1 .left)) (omega arith), search needs)
@@ -59,13 +33,13 @@ pub unseen-sends-spec : {M : Type 1} → statement M
 unseen-sends-spec =
     tie.close
     (tie.spec
-    transmitter-on-requires
+    (λ c κs. search needs)
     returns
     returns-2
     returns-3
-    transmitter-shifts-requires
+    (λ c κs. search needs)
     returns-4
-    cast-result
-    sub-result
+    (λ c. search needs)
+    (λ c. search needs)
     returns-5
     returns-6)

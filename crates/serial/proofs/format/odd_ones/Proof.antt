@@ -3,10 +3,7 @@ use Rattle.serial.proofs.Frames.{fold-right}
 use mathlib.Core.Path.{refl}
 use Rattle.serial.proofs.format.odd_ones.Statement.{statement}
 use Rattle.serial.proofs.format.odd_ones.Tie as tie
-use Rattle.serial.proofs.format.odd_ones.Reads as reads
-use Rattle.serial.proofs.format.odd_ones.Lts as lts
 
--- src/format.rt:77:1
 returns : tie.Need-returns
 returns c = fold-right (c .args .x) (search needs)
 

@@ -4,23 +4,14 @@ use borrow.Author.Tests.{lt-ltb, le-ltb, le-leb, lt-leb, eq-eqb, ne-eqb}
 use borrow.Author.Needs.{needs}
 use Rattle.serial.proofs.format.parity_bit.Statement.{statement}
 use Rattle.serial.proofs.format.parity_bit.Tie as tie
-use Rattle.serial.proofs.format.parity_bit.Reads as reads
-use Rattle.serial.proofs.format.parity_bit.Lts as lts
-use Rattle.serial.proofs.format.odd_ones.Reads as odd-ones-reads
 
--- src/format.rt:89:9
-odd-ones-requires : tie.Need-odd-ones-requires
-odd-ones-requires c κs = search needs
-
--- src/format.rt:86:1
 returns : tie.Need-returns
 unfolding parityBit
 returns c = rw (c .before .odd-ones .ensures, eq-eqb _ _ (c .if1 .taken)) refl
 
--- src/format.rt:86:1
 returns-2 : tie.Need-returns-2
 unfolding parityBit
 returns-2 c = rw (c .before .odd-ones .ensures, ne-eqb _ _ (c .if1 .left)) refl
 
 pub parity-bit-spec : {M : Type 1} → statement M
-parity-bit-spec = tie.close (tie.spec odd-ones-requires returns returns-2)
+parity-bit-spec = tie.close (tie.spec (λ c κs. search needs) returns returns-2)

@@ -5,22 +5,14 @@ use borrow.Author.Tests.{lt-ltb, le-ltb, le-leb, lt-leb, eq-eqb, ne-eqb}
 use borrow.Author.Needs.{needs}
 use Rattle.serial.proofs.transmitter.next_phase.Statement.{statement}
 use Rattle.serial.proofs.transmitter.next_phase.Tie as tie
-use Rattle.serial.proofs.transmitter.next_phase.Reads as reads
-use Rattle.serial.proofs.transmitter.next_phase.Lts as lts
 
--- src/transmitter.rt:83:16
-add-result : tie.Need-add-result
-add-result c = search needs
-
--- src/transmitter.rt:83:9
 returns : tie.Need-returns
 unfolding nextPhase
 returns c = rw (lt-ltb (c .before .args .phase) 15 (omega arith)) refl
 
--- src/transmitter.rt:79:1
 returns-2 : tie.Need-returns-2
 unfolding nextPhase
 returns-2 c = rw (le-ltb (c .before .args .phase) 15 (omega arith)) refl
 
 pub next-phase-spec : {M : Type 1} → statement M
-next-phase-spec = tie.close (tie.spec add-result returns returns-2)
+next-phase-spec = tie.close (tie.spec (λ c. search needs) returns returns-2)

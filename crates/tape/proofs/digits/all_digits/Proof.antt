@@ -23,9 +23,6 @@ loop-holds c = refl
 shared-slice-read-is-digit : tie.Need-shared-slice-read-is-digit Inv-loop μ-loop
 shared-slice-read-is-digit c = omega arith
 
-is-digit-requires : tie.Need-is-digit-requires Inv-loop μ-loop
-is-digit-requires c κs = search needs
-
 returns : tie.Need-returns Inv-loop μ-loop
 returns c = sym (rw (← c .before .is-digit .ensures, not-true (c .before .is-digit .result) (c .if1 .taken)) at (digits-next (now (c .before .before .before .before .before .before .args .text)) (c .before .before .before .before .loop .i) (c .before .before .before .loop-test .taken))) ∙ c .before .before .before .before .loop .inv
 
@@ -49,7 +46,7 @@ all-digits-spec =
     μ-loop
     loop-holds
     shared-slice-read-is-digit
-    is-digit-requires
+    (λ c κs. search needs)
     returns
     add-i
     loop-less

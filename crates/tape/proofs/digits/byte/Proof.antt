@@ -5,14 +5,8 @@ use borrow.Author.Needs.{needs}
 use Rattle.tape.proofs.digits.byte.Statement.{statement}
 use Rattle.tape.proofs.digits.byte.Tie as tie
 
-value-requires : tie.Need-value-requires
-value-requires c κs = search needs
-
 mul-result : tie.Need-mul-result
 mul-result c = omega (arith, c .value .ensures, value-most (c .before .args .high))
-
-value-requires-2 : tie.Need-value-requires-2
-value-requires-2 c κs = search needs
 
 add-result : tie.Need-add-result
 add-result c = omega (arith, c .before .value .ensures, value-most (c .before .before .args .high), c .value2 .ensures, value-most (c .before .before .args .low))
@@ -26,4 +20,4 @@ returns c = rw (c .before .value .ensures, c .value2 .ensures)
 
 pub byte-spec : {M : Type 1} → statement M
 byte-spec =
-    tie.close (tie.spec value-requires mul-result value-requires-2 add-result cast-result returns)
+    tie.close (tie.spec (λ c κs. search needs) mul-result (λ c κs. search needs) add-result cast-result returns)

@@ -24,9 +24,6 @@ mul-n c = omega (arith, number-word (now (c .before .before .before .args .digit
 shared-slice-read-value : tie.Need-shared-slice-read-value Inv-loop μ-loop
 shared-slice-read-value c = omega arith
 
-value-requires : tie.Need-value-requires Inv-loop μ-loop
-value-requires c κs = search needs
-
 add-n : tie.Need-add-n Inv-loop μ-loop
 add-n c = omega (arith, number-word (now (c .before .before .before .before .before .args .digits)) (c .before .before .before .before .before .pre), number-least (16 * c .before .before .before .loop .n + valueOf (getD (now (c .before .before .before .before .before .args .digits)) (c .before .before .before .loop .i) 0)) (drop (c .before .before .before .loop .i + 1) (now (c .before .before .before .before .before .args .digits))), number-next (now (c .before .before .before .before .before .args .digits)) (c .before .before .before .loop .i) (c .before .before .before .loop .n) (c .before .before .loop-test .taken), c .before .before .before .loop .inv, c .value .ensures)
 
@@ -51,7 +48,7 @@ number-spec =
     loop-holds
     mul-n
     shared-slice-read-value
-    value-requires
+    (λ c κs. search needs)
     add-n
     add-i
     loop-less

@@ -34,12 +34,6 @@ add-byte c = omega arith
 shared-slice-read-byte-2 : tie.Need-shared-slice-read-byte-2 Inv-loop μ-loop
 shared-slice-read-byte-2 c = omega arith
 
-byte-requires : tie.Need-byte-requires Inv-loop μ-loop
-byte-requires c κs = search needs
-
-cast-sum : tie.Need-cast-sum Inv-loop μ-loop
-cast-sum c = search needs
-
 add-sum : tie.Need-add-sum Inv-loop μ-loop
 add-sum c = omega (arith, c .byte .ensures, byte-most (getD (now (c .before .before .before .before .before .before .args .digits)) (2 * c .before .before .before .before .loop .k) 0) (getD (now (c .before .before .before .before .before .before .args .digits)) (2 * c .before .before .before .before .loop .k + 1) 0))
 
@@ -67,8 +61,8 @@ total-spec =
     mul-byte-2
     add-byte
     shared-slice-read-byte-2
-    byte-requires
-    cast-sum
+    (λ c κs. search needs)
+    (λ c. search needs)
     add-sum
     add-k
     loop-less

@@ -9,9 +9,6 @@ returns : tie.Need-returns
 unfolding valueOf
 returns c = rw (lt-leb 48 _ (c .if1 .taken), lt-leb 65 (c .before .args .c) (omega (arith, c .if1 .taken)))
 
-cast-result : tie.Need-cast-result
-cast-result c = search needs
-
 returns-2 : tie.Need-returns-2
 unfolding valueOf
 returns-2 c = rw (le-leb 48 _ (c .before .if1 .left), le-leb _ 57 (c .if2 .taken))
@@ -19,12 +16,6 @@ returns-2 c = rw (le-leb 48 _ (c .before .if1 .left), le-leb _ 57 (c .if2 .taken
 returns-3 : tie.Need-returns-3
 unfolding valueOf
 returns-3 c = rw (le-leb 48 _ (c .before .before .if1 .left), lt-leb _ 57 (c .before .if2 .left), lt-leb 65 _ (c .if3 .taken))
-
-add-result : tie.Need-add-result
-add-result c = search needs
-
-cast-result-2 : tie.Need-cast-result-2
-cast-result-2 c = search needs
 
 returns-4 : tie.Need-returns-4
 unfolding valueOf
@@ -37,4 +28,4 @@ returns-5 c = rw (le-leb 48 _ (c .before .before .before .if1 .left), lt-leb _ 5
 pub value-spec : {M : Type 1} → statement M
 value-spec =
     tie.close
-    (tie.spec returns cast-result returns-2 returns-3 add-result cast-result-2 returns-4 returns-5)
+    (tie.spec returns (λ c. search needs) returns-2 returns-3 (λ c. search needs) (λ c. search needs) returns-4 returns-5)

@@ -23,9 +23,6 @@ Inv-loop part₀ address sums₀ digits k₀ part sums k =
 abbrev μ-loop : tie.MeasureT-loop
 μ-loop part₀ address sums₀ digits k₀ part sums k = length digits / 2 - k
 
-dropped-requires : tie.Need-dropped-requires Inv-loop μ-loop
-dropped-requires c κs = search needs
-
 loop-holds : tie.Need-loop-holds Inv-loop μ-loop
 loop-holds c =
     let at = c .before .before .before .before .args in
@@ -47,9 +44,6 @@ add-byte c = omega arith
 
 shared-slice-read-byte-2 : tie.Need-shared-slice-read-byte-2 Inv-loop μ-loop
 shared-slice-read-byte-2 c = omega arith
-
-byte-requires : tie.Need-byte-requires Inv-loop μ-loop
-byte-requires c κs = search needs
 
 commit-byte-requires : tie.Need-commit-byte-requires Inv-loop μ-loop
 commit-byte-requires c κs =
@@ -99,14 +93,14 @@ put-bytes-spec =
     (tie.spec
     Inv-loop
     μ-loop
-    dropped-requires
+    (λ c κs. search needs)
     loop-holds
     mul-byte
     shared-slice-read-byte
     mul-byte-2
     add-byte
     shared-slice-read-byte-2
-    byte-requires
+    (λ c κs. search needs)
     commit-byte-requires
     add-k
     loop-less

@@ -6,9 +6,6 @@ use borrow.Author.Needs.{needs}
 use Rattle.tape.proofs.record.address.Statement.{statement}
 use Rattle.tape.proofs.record.address.Tie as tie
 
-part-requires : tie.Need-part-requires
-part-requires c κs = search needs
-
 number-requires : tie.Need-number-requires
 number-requires c κs = omega (arith, simp length-take at (ap length (c .part .ensures)))
 
@@ -17,4 +14,4 @@ unfolding addressOf
 returns c = rw (c .number .ensures, c .before .part .ensures)
 
 pub address-spec : {M : Type 1} → statement M
-address-spec = tie.close (tie.spec part-requires number-requires returns)
+address-spec = tie.close (tie.spec (λ c κs. search needs) number-requires returns)

@@ -3,15 +3,9 @@ use borrow.Author.Needs.{needs}
 use Rattle.tape.proofs.record.are_digits.Statement.{statement}
 use Rattle.tape.proofs.record.are_digits.Tie as tie
 
-part-requires : tie.Need-part-requires
-part-requires c κs = search needs
-
-all-digits-requires : tie.Need-all-digits-requires
-all-digits-requires c κs = search needs
-
 returns : tie.Need-returns
 unfolding areDigits
 returns c = rw (c .all-digits .ensures, c .before .part .ensures)
 
 pub are-digits-spec : {M : Type 1} → statement M
-are-digits-spec = tie.close (tie.spec part-requires all-digits-requires returns)
+are-digits-spec = tie.close (tie.spec (λ c κs. search needs) (λ c κs. search needs) returns)

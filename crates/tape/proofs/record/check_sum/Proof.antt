@@ -8,17 +8,11 @@ use borrow.Author.Needs.{needs}
 use Rattle.tape.proofs.record.check_sum.Statement.{statement}
 use Rattle.tape.proofs.record.check_sum.Tie as tie
 
-count-requires : tie.Need-count-requires
-count-requires c κs = search needs
-
 mul-part : tie.Need-mul-part
 mul-part c = omega (arith, c .count .ensures, count-most (now (c .before .before .args .text)))
 
 add-part : tie.Need-add-part
 add-part c = omega (arith, c .count .ensures, count-most (now (c .before .before .args .text)))
-
-part-requires : tie.Need-part-requires
-part-requires c κs = search needs
 
 number-requires : tie.Need-number-requires
 number-requires c κs = omega (arith, simp length-take at (ap length (c .part .ensures)))
@@ -29,4 +23,4 @@ returns c = rw (c .number .ensures, c .before .part .ensures, c .before .before 
 
 pub check-sum-spec : {M : Type 1} → statement M
 check-sum-spec =
-    tie.close (tie.spec count-requires mul-part add-part part-requires number-requires returns)
+    tie.close (tie.spec (λ c κs. search needs) mul-part add-part (λ c κs. search needs) number-requires returns)

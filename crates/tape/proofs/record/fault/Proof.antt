@@ -4,18 +4,9 @@ use borrow.Author.Needs.{needs}
 use Rattle.tape.proofs.record.fault.Statement.{statement}
 use Rattle.tape.proofs.record.fault.Tie as tie
 
-is-malformed-requires : tie.Need-is-malformed-requires
-is-malformed-requires c κs = search needs
-
 returns : tie.Need-returns
 unfolding faultOf
 returns c = rw (← (c .before .is-malformed .ensures), c .if1 .taken)
-
-sum-requires : tie.Need-sum-requires
-sum-requires c κs = search needs
-
-check-sum-requires : tie.Need-check-sum-requires
-check-sum-requires c κs = search needs
 
 returns-2 : tie.Need-returns-2
 unfolding faultOf
@@ -28,4 +19,4 @@ returns-3 c = rw (← (c .before .before .before .before .is-malformed .ensures)
 pub fault-spec : {M : Type 1} → statement M
 fault-spec =
     tie.close
-    (tie.spec is-malformed-requires returns sum-requires check-sum-requires returns-2 returns-3)
+    (tie.spec (λ c κs. search needs) returns (λ c κs. search needs) (λ c κs. search needs) returns-2 returns-3)

@@ -6,12 +6,6 @@ use borrow.Author.Needs.{needs}
 use Rattle.tape.proofs.record.is_malformed.Statement.{statement}
 use Rattle.tape.proofs.record.is_malformed.Tie as tie
 
-count-requires : tie.Need-count-requires
-count-requires c κs = search needs
-
-address-requires : tie.Need-address-requires
-address-requires c κs = search needs
-
 mul-are-digits : tie.Need-mul-are-digits
 mul-are-digits c = omega (arith, c .before .count .ensures, count-most (now (c .before .before .before .args .text)))
 
@@ -20,9 +14,6 @@ add-are-digits c = omega (arith, c .before .count .ensures, count-most (now (c .
 
 add-are-digits-2 : tie.Need-add-are-digits-2
 add-are-digits-2 c = omega (arith, c .before .count .ensures, count-most (now (c .before .before .before .args .text)))
-
-are-digits-requires : tie.Need-are-digits-requires
-are-digits-requires c κs = search needs
 
 add-result : tie.Need-add-result
 add-result c = omega (arith, c .before .before .count .ensures, count-most (now (c .before .before .before .before .args .text)), c .before .address .ensures, address-most (now (c .before .before .before .before .args .text)))
@@ -35,11 +26,11 @@ pub is-malformed-spec : {M : Type 1} → statement M
 is-malformed-spec =
     tie.close
     (tie.spec
-    count-requires
-    address-requires
+    (λ c κs. search needs)
+    (λ c κs. search needs)
     mul-are-digits
     add-are-digits
     add-are-digits-2
-    are-digits-requires
+    (λ c κs. search needs)
     add-result
     returns)

@@ -8,44 +8,11 @@ use borrow.Author.Needs.{needs}
 use Rattle.tape.proofs.record.part.Statement.{statement}
 use Rattle.tape.proofs.record.part.Tie as tie
 
-sub-result : tie.Need-sub-result
-sub-result c = search needs
-
-part-result-start : tie.Need-part-result-start
-part-result-start c = search needs
-
-part-result-end : tie.Need-part-result-end
-part-result-end c = search needs
-
 returns : tie.Need-returns
 returns c = rw (drop-of-length-le (now (c .before .before .args .text)) (c .before .if1 .taken)) (sym (take-nil (c .before .before .args .n)))
 
-sub-if2 : tie.Need-sub-if2
-sub-if2 c = search needs
-
-sub-result-2 : tie.Need-sub-result-2
-sub-result-2 c = search needs
-
-part-result-start-2 : tie.Need-part-result-start-2
-part-result-start-2 c = search needs
-
-part-result-end-2 : tie.Need-part-result-end-2
-part-result-end-2 c = search needs
-
 returns-2 : tie.Need-returns-2
 returns-2 c = take-all (length (now (c .before .before .before .args .text)) - c .before .before .before .args .from) (drop (c .before .before .before .args .from) (now (c .before .before .before .args .text))) (omega (arith, length-drop (c .before .before .before .args .from) (now (c .before .before .before .args .text)))) ∙ sym (take-all (c .before .before .before .args .n) (drop (c .before .before .before .args .from) (now (c .before .before .before .args .text))) (omega (arith, length-drop (c .before .before .before .args .from) (now (c .before .before .before .args .text)))))
-
-add-end : tie.Need-add-end
-add-end c = search needs
-
-sub-result-3 : tie.Need-sub-result-3
-sub-result-3 c = search needs
-
-part-result-start-3 : tie.Need-part-result-start-3
-part-result-start-3 c = search needs
-
-part-result-end-3 : tie.Need-part-result-end-3
-part-result-end-3 c = search needs
 
 returns-3 : tie.Need-returns-3
 returns-3 c = let e : c .before .before .before .args .from + c .before .before .before .args .n - c .before .before .before .args .from ≡ c .before .before .before .args .n = omega arith in rw e
@@ -54,17 +21,17 @@ pub part-spec : {M : Type 1} → statement M
 part-spec =
     tie.close
     (tie.spec
-    sub-result
-    part-result-start
-    part-result-end
+    (λ c. search needs)
+    (λ c. search needs)
+    (λ c. search needs)
     returns
-    sub-if2
-    sub-result-2
-    part-result-start-2
-    part-result-end-2
+    (λ c. search needs)
+    (λ c. search needs)
+    (λ c. search needs)
+    (λ c. search needs)
     returns-2
-    add-end
-    sub-result-3
-    part-result-start-3
-    part-result-end-3
+    (λ c. search needs)
+    (λ c. search needs)
+    (λ c. search needs)
+    (λ c. search needs)
     returns-3)

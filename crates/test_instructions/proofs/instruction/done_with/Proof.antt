@@ -6,12 +6,6 @@ use borrow.Author.Needs.{needs}
 use Rattle.test_instructions.proofs.instruction.done_with.Statement.{statement}
 use Rattle.test_instructions.proofs.instruction.done_with.Tie as tie
 
-later-requires : tie.Need-later-requires
-later-requires c κs = search needs
-
-same-state-requires : tie.Need-same-state-requires
-same-state-requires c κs = search needs
-
 returns : tie.Need-returns
 returns c e =
     let result = c .before .before .before .before .before .before .args .result in
@@ -19,4 +13,4 @@ returns c e =
     results-equal _ _ (parts .0) (c .before .before .before .before .same-state .ensures (parts .1 .0) ∙ c .before .before .before .before .before .later .ensures) (parts .1 .1 .0) (parts .1 .1 .1 .0) (parts .1 .1 .1 .1 .0)
 
 pub done-with-spec : {M : Type 1} → statement M
-done-with-spec = tie.close (tie.spec later-requires same-state-requires returns)
+done-with-spec = tie.close (tie.spec (λ c κs. search needs) (λ c κs. search needs) returns)

@@ -11,35 +11,14 @@ Inv-loop line c count from n₀ i₀ n i = Reading line from i n × (i ≤ count
 abbrev μ-loop : tie.MeasureT-loop
 μ-loop line c count from n₀ i₀ n i = count - i
 
-no-number-requires : tie.Need-no-number-requires Inv-loop μ-loop
-no-number-requires c κs = search needs
-
 returns : tie.Need-returns Inv-loop μ-loop
 returns c e = absurd (c .no-number .ensures e)
-
-sub-if2 : tie.Need-sub-if2 Inv-loop μ-loop
-sub-if2 c = search needs
-
-no-number-requires-2 : tie.Need-no-number-requires-2 Inv-loop μ-loop
-no-number-requires-2 c κs = search needs
 
 returns-2 : tie.Need-returns-2 Inv-loop μ-loop
 returns-2 c e = absurd (c .no-number2 .ensures e)
 
 loop-holds : tie.Need-loop-holds Inv-loop μ-loop
 loop-holds c = (reading-begins _ _, omega arith)
-
-add-value : tie.Need-add-value Inv-loop μ-loop
-add-value c = search needs
-
-shared-slice-read-value : tie.Need-shared-slice-read-value Inv-loop μ-loop
-shared-slice-read-value c = search needs
-
-value-requires : tie.Need-value-requires Inv-loop μ-loop
-value-requires c κs = search needs
-
-no-number-requires-3 : tie.Need-no-number-requires-3 Inv-loop μ-loop
-no-number-requires-3 c κs = search needs
 
 returns-3 : tie.Need-returns-3 Inv-loop μ-loop
 returns-3 c e = absurd (c .no-number3 .ensures e)
@@ -50,17 +29,8 @@ mul-n c = omega (arith, reading-fits _ _ _ _ (omega arith) (c .before .before .b
 add-n : tie.Need-add-n Inv-loop μ-loop
 add-n c = omega (arith, reading-fits _ _ _ _ (omega arith) (c .before .before .before .before .loop .inv .0))
 
-add-i : tie.Need-add-i Inv-loop μ-loop
-add-i c = search needs
-
-loop-less : tie.Need-loop-less Inv-loop μ-loop
-loop-less c = search needs
-
 loop-again : tie.Need-loop-again Inv-loop μ-loop
 loop-again c = (reading-on _ _ _ _ _ (omega arith) (c .if3 .left) (c .before .value .ensures .1 (c .if3 .left)) (c .before .before .before .before .loop .inv .0), omega arith)
-
-add-t8 : tie.Need-add-t8 Inv-loop μ-loop
-add-t8 c = search needs
 
 returns-4 : tie.Need-returns-4 Inv-loop μ-loop
 returns-4 c e = reading-ends _ _ _ _ _ (c .before .loop .inv .1) (c .loop-test .left) (c .before .loop .inv .0)
@@ -71,21 +41,21 @@ digits-spec =
     (tie.spec
     Inv-loop
     μ-loop
-    no-number-requires
+    (λ c κs. search needs)
     returns
-    sub-if2
-    no-number-requires-2
+    (λ c. search needs)
+    (λ c κs. search needs)
     returns-2
     loop-holds
-    add-value
-    shared-slice-read-value
-    value-requires
-    no-number-requires-3
+    (λ c. search needs)
+    (λ c. search needs)
+    (λ c κs. search needs)
+    (λ c κs. search needs)
     returns-3
     mul-n
     add-n
-    add-i
-    loop-less
+    (λ c. search needs)
+    (λ c. search needs)
     loop-again
-    add-t8
+    (λ c. search needs)
     returns-4)

@@ -5,12 +5,6 @@ use borrow.Author.Needs.{needs}
 use Rattle.test_instructions.proofs.line.word_at.Statement.{statement}
 use Rattle.test_instructions.proofs.line.word_at.Tie as tie
 
-digits-requires : tie.Need-digits-requires
-digits-requires c κs = search needs
-
-cast-t6 : tie.Need-cast-t6
-cast-t6 c = search needs
-
 returns : tie.Need-returns
 returns c e =
     let read = c .before .before .digits .ensures e in
@@ -18,4 +12,4 @@ returns c e =
     rw same read
 
 pub word-at-spec : {M : Type 1} → statement M
-word-at-spec = tie.close (tie.spec digits-requires cast-t6 returns)
+word-at-spec = tie.close (tie.spec (λ c κs. search needs) (λ c. search needs) returns)

@@ -4,15 +4,6 @@ use borrow.Author.Needs.{needs}
 use Rattle.test_instructions.proofs.same.is_waiting.Statement.{statement}
 use Rattle.test_instructions.proofs.same.is_waiting.Tie as tie
 
-enum-told : tie.Need-enum-told
-enum-told c = search needs
-
-enum-known-waiting : tie.Need-enum-known-waiting
-enum-known-waiting c = search needs
-
-same-write-requires : tie.Need-same-write-requires
-same-write-requires c κs = search needs
-
 returns : tie.Need-returns
 returns c e = absurd (never e)
 
@@ -20,4 +11,4 @@ returns-2 : tie.Need-returns-2
 returns-2 c e = c .before .before .waiting .given .1 ∙ rw (c .same-write .ensures e)
 
 pub is-waiting-spec : {M : Type 1} → statement M
-is-waiting-spec = tie.close (tie.spec enum-told enum-known-waiting same-write-requires returns returns-2)
+is-waiting-spec = tie.close (tie.spec (λ c. search needs) (λ c. search needs) (λ c κs. search needs) returns returns-2)

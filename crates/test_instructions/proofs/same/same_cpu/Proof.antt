@@ -3,11 +3,8 @@ use borrow.Author.Needs.{needs}
 use Rattle.test_instructions.proofs.same.same_cpu.Statement.{statement}
 use Rattle.test_instructions.proofs.same.same_cpu.Tie as tie
 
-same-waiting-requires : tie.Need-same-waiting-requires
-same-waiting-requires c κs = search needs
-
 returns : tie.Need-returns
 returns c e = cpu-same _ _ (c .same-waiting .result) e (c .same-waiting .ensures)
 
 pub same-cpu-spec : {M : Type 1} → statement M
-same-cpu-spec = tie.close (tie.spec same-waiting-requires returns)
+same-cpu-spec = tie.close (tie.spec (λ c κs. search needs) returns)

@@ -5,27 +5,6 @@ use borrow.Author.Needs.{needs}
 use Rattle.test_instructions.proofs.same.same_peripherals.Statement.{statement}
 use Rattle.test_instructions.proofs.same.same_peripherals.Tie as tie
 
-same-ports-requires : tie.Need-same-ports-requires
-same-ports-requires c κs = search needs
-
-same-counter-a-requires : tie.Need-same-counter-a-requires
-same-counter-a-requires c κs = search needs
-
-same-counter-b-requires : tie.Need-same-counter-b-requires
-same-counter-b-requires c κs = search needs
-
-same-control-requires : tie.Need-same-control-requires
-same-control-requires c κs = search needs
-
-same-serial-data-requires : tie.Need-same-serial-data-requires
-same-serial-data-requires c κs = search needs
-
-same-transmitter-requires : tie.Need-same-transmitter-requires
-same-transmitter-requires c κs = search needs
-
-same-receiver-requires : tie.Need-same-receiver-requires
-same-receiver-requires c κs = search needs
-
 returns : tie.Need-returns
 returns c e =
     let parts = all (tested (c .before .before .before .before .before .before .same-ports .result) ∷ tested (c .before .before .before .before .before .same-counter-a .result) ∷ tested (c .before .before .before .before .same-counter-b .result) ∷ tested (c .before .before .before .same-control .result) ∷ tested (c .before .before .same-serial-data .result) ∷ tested (c .before .same-transmitter .result) ∷ tested (c .same-receiver .result) ∷ []) e in
@@ -35,11 +14,11 @@ pub same-peripherals-spec : {M : Type 1} → statement M
 same-peripherals-spec =
     tie.close
     (tie.spec
-    same-ports-requires
-    same-counter-a-requires
-    same-counter-b-requires
-    same-control-requires
-    same-serial-data-requires
-    same-transmitter-requires
-    same-receiver-requires
+    (λ c κs. search needs)
+    (λ c κs. search needs)
+    (λ c κs. search needs)
+    (λ c κs. search needs)
+    (λ c κs. search needs)
+    (λ c κs. search needs)
+    (λ c κs. search needs)
     returns)

@@ -5,21 +5,6 @@ use borrow.Author.Needs.{needs}
 use Rattle.test_instructions.proofs.same.same_state.Statement.{statement}
 use Rattle.test_instructions.proofs.same.same_state.Tie as tie
 
-same-cpu-requires : tie.Need-same-cpu-requires
-same-cpu-requires c κs = search needs
-
-same-due-requires : tie.Need-same-due-requires
-same-due-requires c κs = search needs
-
-same-peripherals-requires : tie.Need-same-peripherals-requires
-same-peripherals-requires c κs = search needs
-
-same-levels-requires : tie.Need-same-levels-requires
-same-levels-requires c κs = search needs
-
-same-levels-requires-2 : tie.Need-same-levels-requires-2
-same-levels-requires-2 c κs = search needs
-
 returns : tie.Need-returns
 returns c e =
     let parts = all (tested (c .before .before .before .before .before .before .same-cpu .result) ∷ tested (c .before .before .before .before .before .same-due .result) ∷ tested (c .before .before .before .before .same-peripherals .result) ∷ tested (c .before .before .before .same-levels .result) ∷ tested (c .before .before .same-levels2 .result) ∷ numbers (c .before .before .before .before .before .before .before .args .a .clock) (c .before .before .before .before .before .before .before .args .b .clock) ∷ []) e in
@@ -29,9 +14,9 @@ pub same-state-spec : {M : Type 1} → statement M
 same-state-spec =
     tie.close
     (tie.spec
-    same-cpu-requires
-    same-due-requires
-    same-peripherals-requires
-    same-levels-requires
-    same-levels-requires-2
+    (λ c κs. search needs)
+    (λ c κs. search needs)
+    (λ c κs. search needs)
+    (λ c κs. search needs)
+    (λ c κs. search needs)
     returns)

@@ -2,10 +2,7 @@ use Rattle.counters.specs.Counters.{loadCounterA}
 use mathlib.Core.Path.{refl}
 use Rattle.counters.proofs.a.CounterA.load.Statement.{statement}
 use Rattle.counters.proofs.a.CounterA.load.Tie as tie
-use Rattle.counters.proofs.a.CounterA.load.Reads as reads
-use Rattle.counters.proofs.a.CounterA.load.Lts as lts
 
--- src/a.rt:95:5
 returns : tie.Need-returns
 unfolding loadCounterA
 returns c = refl

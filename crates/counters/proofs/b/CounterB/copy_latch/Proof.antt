@@ -2,10 +2,7 @@ use Rattle.counters.specs.Counters.{copyB}
 use mathlib.Core.Path.{refl}
 use Rattle.counters.proofs.b.CounterB.copy_latch.Statement.{statement}
 use Rattle.counters.proofs.b.CounterB.copy_latch.Tie as tie
-use Rattle.counters.proofs.b.CounterB.copy_latch.Reads as reads
-use Rattle.counters.proofs.b.CounterB.copy_latch.Lts as lts
 
--- src/b.rt:112:5
 returns : tie.Need-returns
 unfolding copyB
 returns c = refl

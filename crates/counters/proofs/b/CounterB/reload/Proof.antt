@@ -3,20 +3,15 @@ use Rattle.counters.specs.Counters.{reloadB}
 use borrow.Author.Tests.{lt-ltb, le-ltb, le-leb, lt-leb, eq-eqb, ne-eqb}
 use Rattle.counters.proofs.b.CounterB.reload.Statement.{statement}
 use Rattle.counters.proofs.b.CounterB.reload.Tie as tie
-use Rattle.counters.proofs.b.CounterB.reload.Reads as reads
-use Rattle.counters.proofs.b.CounterB.reload.Lts as lts
 
--- src/b.rt:38:17
 returns : tie.Need-returns
 unfolding reloadB
 returns c = rw (c .if2 .taken, eq-eqb _ _ (c .before .if1 .taken)) refl
 
--- src/b.rt:42:13
 returns-2 : tie.Need-returns-2
 unfolding reloadB
 returns-2 c = rw (c .if2 .left, eq-eqb _ _ (c .before .if1 .taken)) refl
 
--- src/b.rt:31:5
 returns-3 : tie.Need-returns-3
 unfolding reloadB
 returns-3 c = rw (ne-eqb _ _ (c .if1 .left)) refl

@@ -2,10 +2,7 @@ use Rattle.counters.specs.Counters.{turnToC}
 use mathlib.Core.Path.{refl}
 use Rattle.counters.proofs.b.CounterB.turn_to_c.Statement.{statement}
 use Rattle.counters.proofs.b.CounterB.turn_to_c.Tie as tie
-use Rattle.counters.proofs.b.CounterB.turn_to_c.Reads as reads
-use Rattle.counters.proofs.b.CounterB.turn_to_c.Lts as lts
 
--- src/b.rt:128:5
 returns : tie.Need-returns
 unfolding turnToC
 returns c = refl

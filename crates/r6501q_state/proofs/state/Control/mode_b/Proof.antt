@@ -2,10 +2,7 @@ use Rattle.r6501q_state.specs.Control.{modeB}
 use mathlib.Core.Path.{refl}
 use Rattle.r6501q_state.proofs.state.Control.mode_b.Statement.{statement}
 use Rattle.r6501q_state.proofs.state.Control.mode_b.Tie as tie
-use Rattle.r6501q_state.proofs.state.Control.mode_b.Reads as reads
-use Rattle.r6501q_state.proofs.state.Control.mode_b.Lts as lts
 
--- src/control.rt:58:5
 returns : tie.Need-returns
 unfolding modeB
 returns c = refl

@@ -2,15 +2,11 @@ use Rattle.r6501q_state.specs.Pins.{driveD}
 use borrow.Author.Tests.{lt-ltb, le-ltb, le-leb, lt-leb, eq-eqb, ne-eqb}
 use Rattle.r6501q_state.proofs.state.Peripherals.drive_d.Statement.{statement}
 use Rattle.r6501q_state.proofs.state.Peripherals.drive_d.Tie as tie
-use Rattle.r6501q_state.proofs.state.Peripherals.drive_d.Reads as reads
-use Rattle.r6501q_state.proofs.state.Peripherals.drive_d.Lts as lts
 
--- src/pins.rt:43:13
 returns : tie.Need-returns
 unfolding driveD
 returns c = rw (eq-eqb _ _ (c .if1 .taken))
 
--- src/pins.rt:39:5
 returns-2 : tie.Need-returns-2
 unfolding driveD
 returns-2 c = rw (ne-eqb _ _ (c .if1 .left))

@@ -4,15 +4,11 @@ use mathlib.Core.Path.{refl}
 use borrow.Author.Tests.{lt-ltb, le-ltb, le-leb, lt-leb, eq-eqb, ne-eqb}
 use Rattle.serial.proofs.receiver.Receiver.keep.Statement.{statement}
 use Rattle.serial.proofs.receiver.Receiver.keep.Tie as tie
-use Rattle.serial.proofs.receiver.Receiver.keep.Reads as reads
-use Rattle.serial.proofs.receiver.Receiver.keep.Lts as lts
 
--- src/receiver.rt:145:13
 returns : tie.Need-returns
 unfolding keptWith
 returns c = rw (eq-eqb (c .before .args .scsr / 1 % 2) 1 (c .if1 .taken)) refl
 
--- src/receiver.rt:141:5
 returns-2 : tie.Need-returns-2
 unfolding keptWith
 returns-2 c = rw (ne-eqb _ _ (c .if1 .left))

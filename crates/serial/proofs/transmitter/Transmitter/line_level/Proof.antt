@@ -2,10 +2,7 @@ use Rattle.serial.specs.Transmitter.{line}
 use mathlib.Core.Path.{refl}
 use Rattle.serial.proofs.transmitter.Transmitter.line_level.Statement.{statement}
 use Rattle.serial.proofs.transmitter.Transmitter.line_level.Tie as tie
-use Rattle.serial.proofs.transmitter.Transmitter.line_level.Reads as reads
-use Rattle.serial.proofs.transmitter.Transmitter.line_level.Lts as lts
 
--- src/transmitter.rt:169:5
 returns : tie.Need-returns
 unfolding line
 returns c = refl

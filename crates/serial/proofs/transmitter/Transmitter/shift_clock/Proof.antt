@@ -2,10 +2,7 @@ use Rattle.serial.specs.Transmitter.{shiftClock}
 use mathlib.Core.Path.{refl}
 use Rattle.serial.proofs.transmitter.Transmitter.shift_clock.Statement.{statement}
 use Rattle.serial.proofs.transmitter.Transmitter.shift_clock.Tie as tie
-use Rattle.serial.proofs.transmitter.Transmitter.shift_clock.Reads as reads
-use Rattle.serial.proofs.transmitter.Transmitter.shift_clock.Lts as lts
 
--- src/transmitter.rt:176:5
 returns : tie.Need-returns
 unfolding shiftClock
 returns c = refl
