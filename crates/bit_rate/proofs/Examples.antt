@@ -25,7 +25,8 @@ FoundBelow f b t top (Fits N) = (N < top) × (fits f b t N ≡ true) × ((M : �
 FoundBelow f b t top Nothing = (N : ℕ) → N < top → fits f b t N ≡ false
 FoundBelow f b t top Refused = ⊥
 
-below-next : (f b t N : ℕ) → ((M : ℕ) → M < N → fits f b t M ≡ false) → fits f b t N ≡ false → (M : ℕ) → M < suc N → fits f b t M ≡ false
+below-next : (f b t N : ℕ) → ((M : ℕ) → M < N → fits f b t M ≡ false) → fits f b t N ≡ false → (M : ℕ) → M < suc N
+    → fits f b t M ≡ false
 below-next f b t N before h M l = at (fits f b t M) refl
   where
     at : (test : Bool) → fits f b t M ≡ test → fits f b t M ≡ false
@@ -35,18 +36,21 @@ below-next f b t N before h M l = at (fits f b t M) refl
         absurd (false≢true (sym h ∙ ap (fits f b t) (sym same) ∙ e))
     at false e = e
 
-pub first-found : (f b t more N top : ℕ) → N + more ≡ top → ((M : ℕ) → M < N → fits f b t M ≡ false) → FoundBelow f b t top (firstFit f b t more N)
+pub first-found : (f b t more N top : ℕ) → N + more ≡ top → ((M : ℕ) → M < N → fits f b t M ≡ false)
+    → FoundBelow f b t top (firstFit f b t more N)
 unfolding firstFit FoundBelow
 first-found f b t zero N top s before = λ M l. before M (omega arith)
 first-found f b t (suc more) N top s before =
     here (fits f b t N) refl (λ h. first-found f b t more (suc N) top (omega arith) (below-next f b t N before h))
   where
-    here : (test : Bool) → fits f b t N ≡ test → (fits f b t N ≡ false → FoundBelow f b t top (firstFit f b t more (suc N)))
+    here : (test : Bool) → fits f b t N ≡ test
+        → (fits f b t N ≡ false → FoundBelow f b t top (firstFit f b t more (suc N)))
         → FoundBelow f b t top (cond test (Fits N) (firstFit f b t more (suc N)))
     here true h later = (omega arith, h, before)
     here false h later = later h
 
-promised : (f b t : ℕ) → outOfLimits f b t ≡ false → (r : Found) → FoundBelow f b t (highestLatch + 1) r → Promised f b t r
+promised : (f b t : ℕ) → outOfLimits f b t ≡ false → (r : Found) → FoundBelow f b t (highestLatch + 1) r
+    → Promised f b t r
 unfolding FoundBelow Promised
 promised f b t allowed (Fits N) h = (allowed, omega (arith, h .0), h .1, h .2)
 promised f b t allowed Nothing h = (allowed, λ N l. h N (omega arith))
@@ -57,9 +61,12 @@ pub latch-promised : (f b t : ℕ) → Promised f b t (latchFor f b t)
 unfolding latchFor Promised
 latch-promised f b t = at (outOfLimits f b t) refl
   where
-    at : (test : Bool) → outOfLimits f b t ≡ test → Promised f b t (cond test Refused (firstFit f b t (highestLatch + 1) 0))
+    at : (test : Bool) → outOfLimits f b t ≡ test
+        → Promised f b t (cond test Refused (firstFit f b t (highestLatch + 1) 0))
     at true e = e
-    at false e = promised f b t e (firstFit f b t (highestLatch + 1) 0) (first-found f b t (highestLatch + 1) 0 (highestLatch + 1) (omega arith) (λ M l. absurd (omega arith)))
+    at false e =
+        promised f b t e (firstFit f b t (highestLatch + 1) 0)
+        (first-found f b t (highestLatch + 1) 0 (highestLatch + 1) (omega arith) (λ M l. absurd (omega arith)))
 
 -- number 11 just where a rate is 0 or a figure is above its limit
 pub refused-just : (f b t : ℕ) → (latchNumber (latchFor f b t) ≡ 11) ↔ (outOfLimits f b t ≡ true)
@@ -74,7 +81,8 @@ refused-just f b t = by (latchFor f b t) (latch-promised f b t)
 -- ---- examples
 
 module _ (f b t : ℕ) (allowed : outOfLimits f b t ≡ false) where
-  found : fewest f b t ≤ highestLatch + 1 → (1000 - t) * (16 * b) * fewest f b t ≤ 1000 * f → latchFor f b t ≡ Fits (fewest f b t - 1)
+  found : fewest f b t ≤ highestLatch + 1 → (1000 - t) * (16 * b) * fewest f b t ≤ 1000 * f
+      → latchFor f b t ≡ Fits (fewest f b t - 1)
   unfolding latchFor
   found most h = rw allowed (latch-fits f b t (within f b t allowed) most h)
 

@@ -4,13 +4,15 @@ use mathlib.Core.Path.{_≡_, refl, sym, ap, _∙_}
 use mathlib.Core.Bool.{Bool, true, false, _||_, cond, false≢true}
 use mathlib.Core.Logic.{_↔_}
 use Prim.Native.Nat.{ℕ, zero, suc, _+_, _-_, _*_, _/_, _≤_, _<_}
-use native.Mathlib.Nat.{eq-of-mul-eq-mul-left, mul-assoc, mul-comm, zero-mul, add-mul, mul-sub, mul-pos, mul-le-mul, mul-le-mul-left, lt-div-mul-add, div-lt-iff-lt-mul}
+use native.Mathlib.Nat.{eq-of-mul-eq-mul-left, mul-assoc, mul-comm, zero-mul, add-mul, mul-sub, mul-pos, mul-le-mul}
+use native.Mathlib.Nat.{mul-le-mul-left, lt-div-mul-add, div-lt-iff-lt-mul}
 use native.Mathlib.Omega.{arith}
 use lib.Dec.{leb, ltb, eqb}
 use borrow.Author.Tests.{leb-true, leb-false, le-leb, lt-leb, ltb-false, eqb-false}
 use Rattle.bit_rate.specs.declared.Found.{Found}
 use Rattle.bit_rate.specs.declared.Found.the-variants.{Fits, Nothing, Refused}
-use Rattle.bit_rate.specs.BitRate.{difference, fits, highestLatch, highestRate, highestTolerance, outOfLimits, firstFit, latchFor}
+use Rattle.bit_rate.specs.BitRate.{difference, fits, highestLatch, highestRate, highestTolerance, outOfLimits}
+use Rattle.bit_rate.specs.BitRate.{firstFit, latchFor}
 
 -- a test that does not hold
 never : (b : Bool) → (b ≡ true → ⊥) → b ≡ false
@@ -38,11 +40,13 @@ first-fits f b t (suc more) N K from upto e before =
         later (omega arith)
 
 -- where none of them fits
-pub first-none : (f b t more N : ℕ) → ((M : ℕ) → N ≤ M → M < N + more → fits f b t M ≡ false) → firstFit f b t more N ≡ Nothing
+pub first-none : (f b t more N : ℕ) → ((M : ℕ) → N ≤ M → M < N + more → fits f b t M ≡ false)
+    → firstFit f b t more N ≡ Nothing
 unfolding firstFit
 first-none f b t zero N none = refl
 first-none f b t (suc more) N none =
-    rw (none N (omega arith) (omega arith)) (first-none f b t more (suc N) (λ M from upto. none M (omega arith) (omega arith)))
+    rw (none N (omega arith) (omega arith))
+    (first-none f b t more (suc N) (λ M from upto. none M (omega arith) (omega arith)))
 
 -- ---- the limits
 
@@ -110,7 +114,8 @@ fits-both f b t N =
     let w = 16 * b * M in
     let p = t * 16 * b * M in
     let faster : (1000 + t) * 16 * b * M ≡ 1000 * w + p = in-turn (1000 + t) b M ∙ sum-times t w ∙ rw (in-turn t b M) in
-    let slower : (1000 - t) * 16 * b * M ≡ 1000 * w - p = in-turn (1000 - t) b M ∙ less-times t w ∙ rw (in-turn t b M) in (
+    let slower : (1000 - t) * 16 * b * M ≡ 1000 * w - p =
+    in-turn (1000 - t) b M ∙ less-times t w ∙ rw (in-turn t b M) in (
       λ e. let h = two-sided f w p .0 (leb-true _ _ e) in (omega (arith, faster, h .0), omega (arith, slower, h .1)),
       λ h. le-leb _ _ (two-sided f w p .1 (omega (arith, faster, h .0), omega (arith, slower, h .1))),
     )
@@ -120,7 +125,8 @@ pub exact-alone : (f b N K : ℕ) → 0 < b → fits f b 0 N ≡ true → fits f
 exact-alone f b N K h n k =
     let one = fits-both f b 0 N .0 n in
     let other = fits-both f b 0 K .0 k in
-    let same = eq-of-mul-eq-mul-left (16000 * b) (omega arith) (K + 1) (N + 1) (omega (arith, one .0, one .1, other .0, other .1)) in
+    let same = eq-of-mul-eq-mul-left (16000 * b) (omega arith) (K + 1) (N + 1)
+    (omega (arith, one .0, one .1, other .0, other .1)) in
     omega arith
 
 -- ---- a quotient rounded up
@@ -131,7 +137,9 @@ module _ (a d : ℕ) (h : 0 < d) where
   up-enough = omega (arith, lt-div-mul-add {a = a + d - 1} {b = d} h)
 
   pub up-least : (m : ℕ) → a ≤ m * d → (a + d - 1) / d ≤ m
-  up-least m e = let l : a + d - 1 < (m + 1) * d = omega (arith, add-mul m 1 d) in omega (arith, div-lt-iff-lt-mul {k = d} {x = a + d - 1} {y = m + 1} h .1 l)
+  up-least m e =
+      let l : a + d - 1 < (m + 1) * d = omega (arith, add-mul m 1 d) in
+      omega (arith, div-lt-iff-lt-mul {k = d} {x = a + d - 1} {y = m + 1} h .1 l)
 
 -- ---- the fewest clocks that are not too fast decide
 
@@ -147,7 +155,8 @@ module _ (f b t : ℕ) (inside : Within f b t) where
   fewest-enough = up-enough (1000 * f) ((1000 + t) * (16 * b)) most-positive
 
   fast-enough : NotTooFast f b t (fewest f b t)
-  fast-enough = omega (arith, by-bit (1000 + t) b (fewest f b t), mul-comm (fewest f b t) ((1000 + t) * (16 * b)), fewest-enough)
+  fast-enough =
+      omega (arith, by-bit (1000 + t) b (fewest f b t), mul-comm (fewest f b t) ((1000 + t) * (16 * b)), fewest-enough)
 
   pub fewest-positive : 0 < fewest f b t
   fewest-positive = some (fewest f b t) fewest-enough
@@ -166,7 +175,8 @@ module _ (f b t : ℕ) (inside : Within f b t) where
   pub fewest-fits : (1000 - t) * (16 * b) * fewest f b t ≤ 1000 * f → fits f b t (fewest f b t - 1) ≡ true
   fewest-fits h =
       let back : fewest f b t - 1 + 1 ≡ fewest f b t = omega (arith, fewest-positive) in
-      fits-both f b t (fewest f b t - 1) .1 (rw back (fast-enough, omega (arith, h, by-bit (1000 - t) b (fewest f b t))))
+      fits-both f b t (fewest f b t - 1) .1
+      (rw back (fast-enough, omega (arith, h, by-bit (1000 - t) b (fewest f b t))))
 
   -- a latch value that fits has no fewer
   fitting : (N : ℕ) → fits f b t N ≡ true → (fewest f b t ≤ N + 1) × ((1000 - t) * (16 * b) * (N + 1) ≤ 1000 * f)
@@ -191,14 +201,19 @@ module _ (f b t : ℕ) (inside : Within f b t) where
 
   -- 64 bits hold what the code works out
   pub most-bounded : (1000 + t) * (16 * b) ≤ 2000 * 160000000
-  most-bounded = mul-le-mul {n₁ = 1000 + t} {m₁ = 16 * b} {n₂ = 2000} {m₂ = 160000000} (omega (arith, inside .most-tolerated)) (omega (arith, inside .most-sent))
+  most-bounded =
+      mul-le-mul {n₁ = 1000 + t} {m₁ = 16 * b} {n₂ = 2000} {m₂ = 160000000} (omega (arith, inside .most-tolerated))
+      (omega (arith, inside .most-sent))
 
   pub least-bounded : (1000 - t) * (16 * b) ≤ 1000 * 160000000
-  least-bounded = mul-le-mul {n₁ = 1000 - t} {m₁ = 16 * b} {n₂ = 1000} {m₂ = 160000000} (omega arith) (omega (arith, inside .most-sent))
+  least-bounded =
+      mul-le-mul {n₁ = 1000 - t} {m₁ = 16 * b} {n₂ = 1000} {m₂ = 160000000} (omega arith)
+      (omega (arith, inside .most-sent))
 
   pub slow-bounded : fewest f b t ≤ highestLatch + 1 → (1000 - t) * (16 * b) * fewest f b t ≤ 1000 * 160000000 * 65536
   slow-bounded h =
-      mul-le-mul {n₁ = (1000 - t) * (16 * b)} {m₁ = fewest f b t} {n₂ = 1000 * 160000000} {m₂ = 65536} least-bounded (omega arith)
+      mul-le-mul {n₁ = (1000 - t) * (16 * b)} {m₁ = fewest f b t} {n₂ = 1000 * 160000000} {m₂ = 65536} least-bounded
+      (omega arith)
 
   -- ---- what the code gives
 
@@ -211,4 +226,5 @@ module _ (f b t : ℕ) (inside : Within f b t) where
   pub latch-fits : fewest f b t ≤ highestLatch + 1 → (1000 - t) * (16 * b) * fewest f b t ≤ 1000 * f
       → firstFit f b t (highestLatch + 1) 0 ≡ Fits (fewest f b t - 1)
   latch-fits most h =
-      first-fits f b t (highestLatch + 1) 0 (fewest f b t - 1) (omega arith) (omega (arith, fewest-positive)) (fewest-fits h) (λ N from upto. none-below N upto)
+      first-fits f b t (highestLatch + 1) 0 (fewest f b t - 1) (omega arith) (omega (arith, fewest-positive))
+      (fewest-fits h) (λ N from upto. none-below N upto)

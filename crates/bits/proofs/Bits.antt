@@ -2,7 +2,9 @@
 use mathlib.Core.Path.{_≡_, refl, ap, ap₂, _∙_, sym, subst}
 use mathlib.Core.Bool.{Bool, true, false, not, cond}
 use Prim.Native.Nat.{ℕ, suc, _+_, _-_, _*_, _/_, _%_, _^_, _≤_, _<_, min}
-use native.Mathlib.Nat.{add-zero, zero-min, div-eq-of-lt, add-mul-div-right, add-mul-mod-self-right, one-mul, mod-eq-of-lt, add-mul, mul-comm, pow-suc, mod-lt, mul-le-mul-right, div-add-mod', div-lt-iff-lt-mul}
+use native.Mathlib.Nat.{add-zero, zero-min, div-eq-of-lt, add-mul-div-right, add-mul-mod-self-right, one-mul}
+use native.Mathlib.Nat.{mod-eq-of-lt, add-mul, mul-comm, pow-suc, mod-lt, mul-le-mul-right, div-add-mod'}
+use native.Mathlib.Nat.{div-lt-iff-lt-mul}
 use native.Mathlib.Omega.{arith}
 use lib.Bits.{bitAnd, and-shr, and-mod, and-step}
 use lib.Pow.{pow-lt, pow-pos, pow-add, shr-shr, shl-shr, split, field, mod-mod-pow}
@@ -18,7 +20,8 @@ parts k x =
     let s : q ≡ q / 2 + q / 2 + q % 2 = omega arith in
     let d = div-add-mod' x (2 ^ k) in
     let m : q * 2 ^ k ≡ q / 2 * 2 ^ k + q / 2 * 2 ^ k + q % 2 * 2 ^ k =
-    ap (λ n. n * 2 ^ k) s ∙ add-mul (q / 2 + q / 2) (q % 2) (2 ^ k) ∙ ap (λ n. n + q % 2 * 2 ^ k) (add-mul (q / 2) (q / 2) (2 ^ k)) in
+    ap (λ n. n * 2 ^ k) s ∙ add-mul (q / 2 + q / 2) (q % 2) (2 ^ k)
+    ∙ ap (λ n. n + q % 2 * 2 ^ k) (add-mul (q / 2) (q / 2) (2 ^ k)) in
     omega (arith, d, m)
 
 -- the weight of a bit that is set is in the number
@@ -32,7 +35,8 @@ bit-room n k x h l =
     let m = 2 ^ (n - k - 1) in
     let e : n ≡ k + suc (n - k - 1) = omega arith in
     let p : 2 ^ n ≡ (m + m) * w =
-    ap (λ j. 2 ^ j) e ∙ pow-add 2 k (suc (n - k - 1)) ∙ ap (λ j. w * j) (pow-suc 2 (n - k - 1) ∙ omega arith) ∙ mul-comm w (m + m) in
+    ap (λ j. 2 ^ j) e ∙ pow-add 2 k (suc (n - k - 1)) ∙ ap (λ j. w * j) (pow-suc 2 (n - k - 1) ∙ omega arith)
+    ∙ mul-comm w (m + m) in
     let q : x / w < m + m = div-lt-iff-lt-mul (pow-pos k) .1 (subst (λ j. x < j) p l) in
     let u : (x / w / 2 + 1) * w ≤ m * w = mul-le-mul-right w (omega arith) in
     let v : (x / w / 2 + 1) * w ≡ x / w / 2 * w + 1 * w = add-mul (x / w / 2) 1 w in
@@ -45,18 +49,21 @@ put-parts : (k x : ℕ) (on : Bool) → withBit k on x ≡ x % 2 ^ k + (x / 2 ^ 
 unfolding withBit
 put-parts k x true =
     let h = x / 2 ^ k / 2 in
-    let m : (h + h + 1) * 2 ^ k ≡ h * 2 ^ k + h * 2 ^ k + 1 * 2 ^ k = add-mul (h + h) 1 (2 ^ k) ∙ ap (λ n. n + 1 * 2 ^ k) (add-mul h h (2 ^ k)) in
+    let m : (h + h + 1) * 2 ^ k ≡ h * 2 ^ k + h * 2 ^ k + 1 * 2 ^ k =
+    add-mul (h + h) 1 (2 ^ k) ∙ ap (λ n. n + 1 * 2 ^ k) (add-mul h h (2 ^ k)) in
     omega (arith, parts k x, one-mul (2 ^ k))
 put-parts k x false =
     let h = x / 2 ^ k / 2 in
-    let m : (h + h + 0) * 2 ^ k ≡ h * 2 ^ k + h * 2 ^ k = ap (λ n. n * 2 ^ k) (add-zero (h + h)) ∙ add-mul h h (2 ^ k) in
+    let m : (h + h + 0) * 2 ^ k ≡ h * 2 ^ k + h * 2 ^ k =
+    ap (λ n. n * 2 ^ k) (add-zero (h + h)) ∙ add-mul h h (2 ^ k) in
     omega (arith, parts k x)
 
 -- from bit k on, it is what is above the bit, and the bit
 put-high : (k x : ℕ) (on : Bool) → withBit k on x / 2 ^ k ≡ x / 2 ^ k / 2 + x / 2 ^ k / 2 + digit on
 put-high k x on =
     let r : x % 2 ^ k / 2 ^ k ≡ 0 = div-eq-of-lt (mod-lt x (pow-pos k)) in
-    rw (put-parts k x on) (add-mul-div-right (x % 2 ^ k) (x / 2 ^ k / 2 + x / 2 ^ k / 2 + digit on) (pow-pos k) ∙ omega (arith, r))
+    rw (put-parts k x on)
+    (add-mul-div-right (x % 2 ^ k) (x / 2 ^ k / 2 + x / 2 ^ k / 2 + digit on) (pow-pos k) ∙ omega (arith, r))
 
 -- what is put at bit k stands there
 pub bit-put : (k x : ℕ) (on : Bool) → bit k (withBit k on x) ≡ on
@@ -98,7 +105,8 @@ pub bit-below : (m j x : ℕ) (on : Bool) → bit j (withBit (m + (1 + j)) on x)
 bit-below m j x on = ap (λ n. eqb n 1) (digit-below m j x on)
 
 -- two bits may be put in either order
-pub put-swap : (m j x : ℕ) (on off : Bool) → withBit j on (withBit (m + (1 + j)) off x) ≡ withBit (m + (1 + j)) off (withBit j on x)
+pub put-swap : (m j x : ℕ) (on off : Bool)
+    → withBit j on (withBit (m + (1 + j)) off x) ≡ withBit (m + (1 + j)) off (withBit j on x)
 unfolding withBit
 put-swap m j x on off =
     let k = m + (1 + j) in
@@ -116,7 +124,8 @@ put-floor m j x on =
     let k = m + j in
     let y = x / 2 ^ j * 2 ^ j in
     let e : k ≡ j + m = omega arith in
-    let h : y / 2 ^ k ≡ x / 2 ^ k = rw e (sym (shr-shr y j m) ∙ ap (λ n. n / 2 ^ m) (shl-shr (x / 2 ^ j) j) ∙ shr-shr x j m) in
+    let h : y / 2 ^ k ≡ x / 2 ^ k =
+    rw e (sym (shr-shr y j m) ∙ ap (λ n. n / 2 ^ m) (shl-shr (x / 2 ^ j) j) ∙ shr-shr x j m) in
     let l : x / 2 ^ k % 2 * 2 ^ k ≤ y = rw h at (bit-within k y) in
     rw h (omega (arith, bit-within k x, split x j, split (withBit k on x) j, put-below m j x on))
 
@@ -129,13 +138,15 @@ clear-mask k x m =
     let q = x / w / 2 in
     let even : (q + q + 0) / 2 ≡ q = omega arith in
     let none : (q + q + 0) % 2 ≡ 0 = omega arith in
-    let left : bitAnd x m / w / 2 ≡ bitAnd q (m / w / 2) = ap (λ n. n / 2) (and-shr x m k) ∙ and-shr (x / w) (m / w) 1 in
+    let left : bitAnd x m / w / 2 ≡ bitAnd q (m / w / 2) =
+    ap (λ n. n / 2) (and-shr x m k) ∙ and-shr (x / w) (m / w) 1 in
     let right : b / w ≡ bitAnd q (m / w / 2) * 2 + min 0 (m / w % 2) =
     and-shr (withBit k false x) m k ∙ ap (λ n. bitAnd n (m / w)) (put-high k x false) ∙ and-step (q + q + 0) (m / w)
     ∙ ap₂ (λ n d. bitAnd n (m / w / 2) * 2 + min d (m / w % 2)) even none in
     let above : a / w ≡ b / w = omega (arith, put-high k (bitAnd x m) false, zero-min (m / w % 2)) in
     let below : a % w ≡ b % w =
-    put-low k (bitAnd x m) false ∙ and-mod x m k ∙ ap (λ n. bitAnd n (m % w)) (sym (put-low k x false)) ∙ sym (and-mod (withBit k false x) m k) in
+    put-low k (bitAnd x m) false ∙ and-mod x m k ∙ ap (λ n. bitAnd n (m % w)) (sym (put-low k x false))
+    ∙ sym (and-mod (withBit k false x) m k) in
     sym (split a k) ∙ ap₂ (λ n d. n * w + d) above below ∙ split b k
 
 -- the weight of a bit, as a shift within n bits gives it

@@ -6,7 +6,8 @@ use lib.Dec.{T, lit≤}
 use Rattle.bits.specs.Bits.{digit}
 
 -- what holds of both ways holds of the choice; each way may use how the test came out
-pub cond-both : {A : Type 0} (P : A → Type 0) (t : Bool) (x y : A) → (t ≡ true → P x) → (t ≡ false → P y) → P (cond t x y)
+pub cond-both : {A : Type 0} (P : A → Type 0) (t : Bool) (x y : A) → (t ≡ true → P x) → (t ≡ false → P y)
+    → P (cond t x y)
 cond-both P true x y h k = h refl
 cond-both P false x y h k = k refl
 
@@ -23,7 +24,8 @@ cond-map f true x y = refl
 cond-map f false x y = refl
 
 -- a function of a choice, way by way
-pub cond-along : {A B : Type 0} (f : A → B) (t : Bool) (x y : A) {u v : B} → f x ≡ u → f y ≡ v → f (cond t x y) ≡ cond t u v
+pub cond-along : {A B : Type 0} (f : A → B) (t : Bool) (x y : A) {u v : B} → f x ≡ u → f y ≡ v
+    → f (cond t x y) ≡ cond t u v
 cond-along f true x y e g = e
 cond-along f false x y e g = g
 

@@ -15,7 +15,8 @@ pub number-append : (xs ys : List Bool) → number (xs ++ ys) ≡ number xs + 2 
 number-append [] ys = rw one-mul (omega arith)
 number-append (b ∷ l) ys =
     let e = number-append l ys in
-    let p : 2 ^ suc (length l) * number ys ≡ 2 * (2 ^ length l * number ys) = ap (λ k. k * number ys) (pow-suc 2 (length l) ∙ mul-comm _ _) ∙ mul-assoc 2 (2 ^ length l) (number ys) in
+    let p : 2 ^ suc (length l) * number ys ≡ 2 * (2 ^ length l * number ys) =
+    ap (λ k. k * number ys) (pow-suc 2 (length l) ∙ mul-comm _ _) ∙ mul-assoc 2 (2 ^ length l) (number ys) in
     omega (arith, e, p)
 
 -- n bits write a number below 2 to the n

@@ -14,16 +14,19 @@ module _ {A : Type 0} where
   pub getD-tabulate : (f : ℕ → A) (n i k : ℕ) (d : A) → k < n → getD (tabulate f n i) k d ≡ f (i + k)
   getD-tabulate f zero i k d h = absurd (not-suc-le-zero h)
   getD-tabulate f (suc n) i zero d h = ap f (sym (add-zero i))
-  getD-tabulate f (suc n) i (suc k) d h = getD-tabulate f n (suc i) k d (le-of-suc-le-suc h) ∙ ap f (suc-add i k ∙ sym (add-suc i k))
+  getD-tabulate f (suc n) i (suc k) d h =
+      getD-tabulate f n (suc i) k d (le-of-suc-le-suc h) ∙ ap f (suc-add i k ∙ sym (add-suc i k))
 
   pub length-tabulate : (f : ℕ → A) (n i : ℕ) → length (tabulate f n i) ≡ n
   length-tabulate f zero i = refl
   length-tabulate f (suc n) i = ap suc (length-tabulate f n (suc i))
 
   -- a test that passes over the list of a function's values passes at each of them
-  pub allOf-at : (p : A → Bool) (f : ℕ → A) (n i : ℕ) → T (allOf p (tabulate f n i)) → (k : ℕ) → k < n → T (p (f (i + k)))
+  pub allOf-at : (p : A → Bool) (f : ℕ → A) (n i : ℕ) → T (allOf p (tabulate f n i)) → (k : ℕ) → k < n
+      → T (p (f (i + k)))
   allOf-at p f zero i t k h = absurd (not-suc-le-zero h)
-  allOf-at p f (suc n) i t zero h = subst (λ (m : ℕ). T (p (f m))) (sym (add-zero i)) (both-left (p (f i)) (allOf p (tabulate f n (suc i))) t)
+  allOf-at p f (suc n) i t zero h =
+      subst (λ (m : ℕ). T (p (f m))) (sym (add-zero i)) (both-left (p (f i)) (allOf p (tabulate f n (suc i))) t)
   allOf-at p f (suc n) i t (suc k) h =
       subst (λ (m : ℕ). T (p (f m))) (suc-add i k ∙ sym (add-suc i k))
       (allOf-at p f n (suc i) (both-right (p (f i)) (allOf p (tabulate f n (suc i))) t) k (le-of-suc-le-suc h))
@@ -37,5 +40,6 @@ pub below : (p : ℕ → Bool) (n : ℕ) → T (allOf p (upTo n)) → (k : ℕ) 
 below p n t k h = subst (λ (m : ℕ). T (p m)) (zero-add k) (allOf-at p (λ k. k) n 0 t k h)
 
 -- the same for pairs
-pub below2 : (p : ℕ → ℕ → Bool) (m n : ℕ) → T (allOf (λ j. allOf (p j) (upTo n)) (upTo m)) → (j k : ℕ) → j < m → k < n → T (p j k)
+pub below2 : (p : ℕ → ℕ → Bool) (m n : ℕ) → T (allOf (λ j. allOf (p j) (upTo n)) (upTo m)) → (j k : ℕ) → j < m → k < n
+    → T (p j k)
 below2 p m n t j k h l = below (p j) n (below (λ i. allOf (p i) (upTo n)) m t j h) k l

@@ -9,7 +9,8 @@ use Rattle.bits.proofs.Cond.{digit-le}
 use Rattle.counters.specs.declared.time.Clocks.{Clocks}
 use Rattle.counters.specs.declared.a.CounterA.{CounterA}
 use Rattle.counters.specs.declared.b.CounterB.{CounterB}
-use Rattle.counters.specs.Counters.{clockA, countsA, downA, runsA, passA, countedA, clockB, downB, reloadB, runsB, passB, countedB, atB, ticksOf}
+use Rattle.counters.specs.Counters.{clockA, countsA, downA, runsA, passA, countedA, clockB, downB, reloadB, runsB}
+use Rattle.counters.specs.Counters.{passB, countedB, atB, ticksOf}
 
 abbrev pub clocks : ℕ → Clocks
 clocks n = record { 0 = n }
@@ -48,12 +49,14 @@ clock-passes-b c mode = by-test (ltb mode 2) (eqb mode 2) refl refl
     by-test false false e f h = rw (e, f) (down (h (rw f)))
 
 -- gaps add up
-pub pass-add-a : (c : CounterA) (running : Bool) (m n : ℕ) → passA (passA c running (clocks m)) running (clocks n) ≡ passA c running (clocks (m + n))
+pub pass-add-a : (c : CounterA) (running : Bool) (m n : ℕ)
+    → passA (passA c running (clocks m)) running (clocks n) ≡ passA c running (clocks (m + n))
 unfolding passA
 pass-add-a c true m n = let e : c .count - m - n ≡ c .count - (m + n) = omega arith in rw e
 pass-add-a c false m n = refl
 
-pub pass-add-b : (c : CounterB) (running : Bool) (m n : ℕ) → passB (passB c running (clocks m)) running (clocks n) ≡ passB c running (clocks (m + n))
+pub pass-add-b : (c : CounterB) (running : Bool) (m n : ℕ)
+    → passB (passB c running (clocks m)) running (clocks n) ≡ passB c running (clocks (m + n))
 unfolding passB
 pass-add-b c true m n = let e : c .count - m - n ≡ c .count - (m + n) = omega arith in rw e
 pass-add-b c false m n = refl

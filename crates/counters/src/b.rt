@@ -1,6 +1,7 @@
 // A counter with two latches: counter B with latches B and C.
 ghost use mathlib.Core.Path.{_≡_};
-ghost use Rattle.counters.specs.Counters.{reloadB, downB, clockB, runsB, passB, lowerB, upperB, copyB, loadCounterB, turnToC};
+ghost use Rattle.counters.specs.Counters.{reloadB, downB, clockB, runsB, passB, lowerB, upperB, copyB};
+ghost use Rattle.counters.specs.Counters.{loadCounterB, turnToC};
 use crate::time::Clocks;
 use crate::time::count_after;
 

@@ -18,11 +18,13 @@ use Rattle.cpu.specs.Quiet.{WithinSpan, nextWork, Quietly, none, more}
 module _ (span : ℕ) (answers memory : List ℕ) (start : Work) where
   -- what each such instruction keeps, all of them keep
   pub quietly-keeps : (P : Work → Type 0) → P start
-      → ((w : Work) (worked : Worked) → P w → w .gone .0 + w .wait < span → instructionOf (w .registers) answers memory ≡ Done worked
+      → ((w : Work) (worked : Worked) → P w → w .gone .0 + w .wait < span
+      → instructionOf (w .registers) answers memory ≡ Done worked
       → worked .written ≡ Nothing → P (nextWork w worked))
       → {v : Work} → Quietly span answers memory start v → P v
   quietly-keeps P first next none = first
-  quietly-keeps P first next (more {w = w} worked q inside e z) = next w worked (quietly-keeps P first next q) inside e z
+  quietly-keeps P first next (more {w = w} worked q inside e z) =
+      next w worked (quietly-keeps P first next q) inside e z
 
   pub quietly-room : WithinSpan start span → {v : Work} → Quietly span answers memory start v → WithinSpan v span
   quietly-room room =
@@ -32,7 +34,8 @@ module _ (span : ℕ) (answers memory : List ℕ) (start : Work) where
 -- none starts within a span of no clocks
 pub none-quiet : (answers memory : List ℕ) (start : Work) {v : Work} → Quietly 0 answers memory start v → v ≡ start
 none-quiet answers memory start =
-    quietly-keeps 0 answers memory start (λ (v : Work). v ≡ start) refl (λ w worked kept inside e z. absurd (omega arith))
+    quietly-keeps 0 answers memory start (λ (v : Work). v ≡ start) refl
+    (λ w worked kept inside e z. absurd (omega arith))
 
 pub nothing-written : (w : Written) → writesNothing w ≡ true → w ≡ Nothing
 unfolding writesNothing
@@ -41,17 +44,23 @@ nothing-written (Pushed w) e = absurd (false≢true e)
 nothing-written (Stored x) e = absurd (false≢true e)
 
 -- the loop's own test: the instruction starts within the span, and writes nothing
-pub goes-on : (rest wait : ℕ) (w : Written) → (leb rest wait || not (writesNothing w)) ≡ false → (wait < rest) × (w ≡ Nothing)
+pub goes-on : (rest wait : ℕ) (w : Written) → (leb rest wait || not (writesNothing w)) ≡ false
+    → (wait < rest) × (w ≡ Nothing)
 goes-on rest wait w e = by-tests (leb rest wait) (writesNothing w) refl refl e
   where
-    by-tests : (t u : Bool) → leb rest wait ≡ t → writesNothing w ≡ u → (t || not u) ≡ false → (wait < rest) × (w ≡ Nothing)
+    by-tests : (t u : Bool) → leb rest wait ≡ t → writesNothing w ≡ u → (t || not u) ≡ false
+        → (wait < rest) × (w ≡ Nothing)
     by-tests true u p q k = absurd (false≢true (sym k))
     by-tests false true p q k = (leb-false rest wait p, nothing-written w q)
     by-tests false false p q k = absurd (false≢true (sym k))
 
-pub goes-quietly : (span : ℕ) (answers memory : List ℕ) (start w : Work) (worked : Worked) → WithinSpan w span → Quietly span answers memory start w
-    → (leb (span - w .gone .0) (w .wait) || not (writesNothing (worked .written))) ≡ false → instructionOf (w .registers) answers memory ≡ Done worked
+pub goes-quietly : (span : ℕ) (answers memory : List ℕ) (start w : Work) (worked : Worked) → WithinSpan w span
+    → Quietly span answers memory start w
+    → (leb (span - w .gone .0) (w .wait) || not (writesNothing (worked .written))) ≡ false
+    → instructionOf (w .registers) answers memory ≡ Done worked
     → WithinSpan (nextWork w worked) span × Quietly span answers memory start (nextWork w worked)
 goes-quietly span answers memory start w worked room q left e =
-    let on = goes-on (span - w .gone .0) (w .wait) (worked .written) left in
-    (record { gone = omega (arith, on .0, room .gone); leaps = omega (arith, room .leaps) }, more worked q (omega (arith, on .0, room .gone)) e (on .1))
+    let on = goes-on (span - w .gone .0) (w .wait) (worked .written) left in (
+      record { gone = omega (arith, on .0, room .gone); leaps = omega (arith, room .leaps) },
+      more worked q (omega (arith, on .0, room .gone)) e (on .1),
+    )

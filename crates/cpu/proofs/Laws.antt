@@ -14,7 +14,9 @@ use Rattle.cpu_opcodes.specs.declared.Decoded.{Decoded}
 use Rattle.cpu_opcodes.specs.declared.Decoded.the-variants as decoded
 use Rattle.cpu_opcodes.specs.declared.Entry.{Entry}
 use Rattle.cpu_opcodes.specs.declared.Mode.{Mode}
-use Rattle.cpu_opcodes.specs.declared.Mode.the-variants.{Implied, Accumulator, Immediate, ZeroPage, ZeroPageX, ZeroPageY, Absolute, AbsoluteX, AbsoluteY, IndexedIndirect, IndirectIndexed, Indirect, Relative, ZeroPageRelative}
+use Rattle.cpu_opcodes.specs.declared.Mode.the-variants.{Implied, Accumulator, Immediate, ZeroPage, ZeroPageX}
+use Rattle.cpu_opcodes.specs.declared.Mode.the-variants.{ZeroPageY, Absolute, AbsoluteX, AbsoluteY, IndexedIndirect}
+use Rattle.cpu_opcodes.specs.declared.Mode.the-variants.{IndirectIndexed, Indirect, Relative, ZeroPageRelative}
 use Rattle.cpu_opcodes.specs.Table.{modeNumber}
 use Rattle.cpu_opcodes.proofs.Laws.{passes, looked-up}
 use Rattle.cpu_access.specs.declared.Bus.{Bus}
@@ -27,7 +29,8 @@ use Rattle.memory.specs.Memory.{isRegister}
 use Rattle.cpu_access.specs.Stack.{noWrites, pushWord, readAfter}
 use Rattle.cpu_access.specs.Modes.{indexedBy, relativeTo, locateOf}
 use Rattle.cpu_access.proofs.Accesses.{readsOfMode, read-keeps, fetch-keeps, read-after-keeps, locate-keeps}
-use Rattle.cpu_access.proofs.Asks.{AsksRegister, idle-asks-register, register-more, register-asks, Answered, Within, idle-answered, answered-more, answered-asks}
+use Rattle.cpu_access.proofs.Asks.{AsksRegister, idle-asks-register, register-more, register-asks, Answered, Within}
+use Rattle.cpu_access.proofs.Asks.{idle-answered, answered-more, answered-asks}
 use Rattle.cpu.specs.declared.Ask.{Ask}
 use Rattle.cpu_operations.specs.declared.Worked.{Worked}
 use Rattle.cpu_operations.specs.declared.Written.the-variants.{Pushed, Stored}
@@ -38,7 +41,8 @@ use Rattle.cpu_operations.specs.declared.Access.{Access}
 use Rattle.cpu_operations.specs.declared.Access.the-variants.{Nothing, Read, Modify, Call}
 use Rattle.cpu_operations.specs.Effects.{withPc, pushesOf}
 use Rattle.cpu_operations.specs.Operations.{accessOf, isCall}
-use Rattle.cpu.specs.Instruction.{askWith, outcomeOf, operandByte, operandOf, carriedOut, writesAsked, callTo, subroutineCall, executeOf, decodedTo, instructionOf}
+use Rattle.cpu.specs.Instruction.{askWith, outcomeOf, operandByte, operandOf, carriedOut, writesAsked, callTo}
+use Rattle.cpu.specs.Instruction.{subroutineCall, executeOf, decodedTo, instructionOf}
 use Rattle.cpu_operations.proofs.Sound.{Cost, costOf, Sound, work-sound}
 use Rattle.cpu_operations.proofs.Stores.{isStore, stores, Stores, work-stores}
 
@@ -81,7 +85,9 @@ storesOf e = stores (e .operation) (eqb (modeNumber (e .mode)) (modeNumber Accum
 -- one test over the table: no instruction reads more than five bytes that can be asked for, nor takes more than 7
 -- clocks, and one that stores takes 3 at least
 costFits : Entry → Bool
-costFits e = leb (readsOf e) 5 && (leb 2 (e .length) && (leb (e .length + costOf (e .operation) .extra) 7 && (not (storesOf e) || leb 3 (e .length))))
+costFits e =
+    leb (readsOf e) 5 && (leb 2 (e .length)
+    && (leb (e .length + costOf (e .operation) .extra) 7 && (not (storesOf e) || leb 3 (e .length))))
 
 pub record CostFits (e : Entry) : Type 0 where
   pub reads : readsOf e ≤ 5
@@ -101,7 +107,9 @@ cost-fits e t =
     record {
       reads = leb→le (readsOf e) 5 (both-left (leb (readsOf e) 5) _ t);
       least = leb→le 2 (e .length) (both-left (leb 2 (e .length)) _ s);
-      most = leb→le (e .length + costOf (e .operation) .extra) 7 (both-left (leb (e .length + costOf (e .operation) .extra) 7) _ u);
+      most =
+          leb→le (e .length + costOf (e .operation) .extra) 7
+          (both-left (leb (e .length + costOf (e .operation) .extra) 7) _ u);
       store = store-fits (storesOf e) (e .length) (both-right (leb (e .length + costOf (e .operation) .extra) 7) _ u);
     }
 
@@ -123,10 +131,12 @@ called-writes sp pc = pushed-writes sp pc
 
 asking-writes : (b : Bus) (sp pc : ℕ) → writesAsked b (pushWord sp pc) .count ≤ 3
 unfolding writesAsked
-asking-writes b sp pc = cond-both (λ w. w .count ≤ 3) (b .missing) noWrites (pushWord sp pc) (λ t. lit≤ tt) (λ t. pushed-writes sp pc)
+asking-writes b sp pc =
+    cond-both (λ w. w .count ≤ 3) (b .missing) noWrites (pushWord sp pc) (λ t. lit≤ tt) (λ t. pushed-writes sp pc)
 
 -- an operand is the accumulator just in that mode
-pub locate-accumulator : (answers memory : List ℕ) (mode : Mode) (r : CpuRegisters) (b : Bus) → locateOf answers memory mode r b .accumulator ≡ eqb (modeNumber mode) (modeNumber Accumulator)
+pub locate-accumulator : (answers memory : List ℕ) (mode : Mode) (r : CpuRegisters) (b : Bus)
+    → locateOf answers memory mode r b .accumulator ≡ eqb (modeNumber mode) (modeNumber Accumulator)
 unfolding locateOf indexedBy relativeTo
 locate-accumulator answers memory Implied r b = refl
 locate-accumulator answers memory Accumulator r b = refl
@@ -145,36 +155,43 @@ locate-accumulator answers memory ZeroPageRelative r b = refl
 
 module _ (P : ℕ → Bus → Type 0) (answers memory : List ℕ)
     (more : (k : ℕ) (b : Bus) → P k b → P (suc k) b)
-    (asks : (k a : ℕ) (latch : Bool) (b : Bus) → isRegister a ≡ true → P k b → P (suc k) (askOf answers a latch b .bus)) where
-  operand-keeps : (access : Access) (k a : ℕ) (p : Place) → P k (p .bus) → P (readsOfAccess access k) (operandByte answers memory access a p .bus)
+    (asks : (k a : ℕ) (latch : Bool) (b : Bus) → isRegister a ≡ true → P k b
+    → P (suc k) (askOf answers a latch b .bus)) where
+  operand-keeps : (access : Access) (k a : ℕ) (p : Place) → P k (p .bus)
+      → P (readsOfAccess access k) (operandByte answers memory access a p .bus)
   unfolding operandByte
   operand-keeps Nothing k a p h = h
   operand-keeps Read k a p h = read-keeps P answers memory more asks k (p .address) false (p .bus) h
   operand-keeps Modify k a p h =
-      cond-both (λ g. P (suc k) (g .bus)) (p .accumulator) (got a (p .bus)) (readOf answers memory (p .address) true (p .bus))
+      cond-both (λ g. P (suc k) (g .bus)) (p .accumulator) (got a (p .bus))
+      (readOf answers memory (p .address) true (p .bus))
       (λ t. more k (p .bus) h)
       (λ t. read-keeps P answers memory more asks k (p .address) true (p .bus) h)
   operand-keeps Call k a p h = h
 
-  asked-lawful : (k : ℕ) (w : Writes) (b : Bus) → k ≤ 5 → P k b → b .missing ≡ true → w .count ≤ 3 → Lawful P (Asked (askWith w b))
+  asked-lawful : (k : ℕ) (w : Writes) (b : Bus) → k ≤ 5 → P k b → b .missing ≡ true → w .count ≤ 3
+      → Lawful P (Asked (askWith w b))
   asked-lawful k w b m h t l =
       record { reads = k; most = m; bus = b; known = h; missing = t; address = refl; writes = l }
 
-  outcome-lawful : (k : ℕ) (w : Writes) (e : Executed) → k ≤ 5 → P k (e .bus) → w .count ≤ 3 → Fits (e .worked) → Lawful P (outcomeOf w e)
+  outcome-lawful : (k : ℕ) (w : Writes) (e : Executed) → k ≤ 5 → P k (e .bus) → w .count ≤ 3 → Fits (e .worked)
+      → Lawful P (outcomeOf w e)
   unfolding outcomeOf
   outcome-lawful k w e m h l f =
       cond-both (Lawful P) (e .bus .missing) (Asked (askWith w (e .bus))) (Done (e .worked))
       (λ t. asked-lawful k w (e .bus) m h t l)
       (λ t. f)
 
-  carried-lawful : (e : Entry) (r : CpuRegisters) (b : Bus) → CostFits e → P 1 b → Lawful P (outcomeOf noWrites (carriedOut answers memory e r b))
+  carried-lawful : (e : Entry) (r : CpuRegisters) (b : Bus) → CostFits e → P 1 b
+      → Lawful P (outcomeOf noWrites (carriedOut answers memory e r b))
   unfolding carriedOut
   carried-lawful e r b c h =
       let p = locateOf answers memory (e .mode) r b in
       let j = readsOfMode (e .mode) 1 in
       let i = readsOfAccess (accessOf (e .operation)) j in
       let g = operandByte answers memory (accessOf (e .operation)) (r .a) p in
-      let q = operand-keeps (accessOf (e .operation)) j (r .a) p (locate-keeps P answers memory more asks (e .mode) 1 r b h) in
+      let q =
+      operand-keeps (accessOf (e .operation)) j (r .a) p (locate-keeps P answers memory more asks (e .mode) 1 r b h) in
       let s = work-sound P answers memory more asks (e .operation) i (withPc (p .pc) r) (operandOf (e .length) p g) q in
       let t = work-stores answers memory (e .operation) (withPc (p .pc) r) (operandOf (e .length) p g) in
       let k = sym (t .stored) in
@@ -187,24 +204,29 @@ module _ (P : ℕ → Bus → Type 0) (answers memory : List ℕ)
         store = λ h. rw (t .clocks (k ∙ h)) (c .store (a ∙ k ∙ h));
       })
 
-  call-lawful : (r : CpuRegisters) (n : ℕ) (b : Bus) → 2 ≤ n → n ≤ 7 → P 1 b → Lawful P (subroutineCall answers memory r n b)
+  call-lawful : (r : CpuRegisters) (n : ℕ) (b : Bus) → 2 ≤ n → n ≤ 7 → P 1 b
+      → Lawful P (subroutineCall answers memory r n b)
   unfolding subroutineCall
   call-lawful r n b l m h =
       let f = fetchOf answers memory (r .pc) b in
       let w = pushWord (r .sp) (f .pc) in
       let g = readAfter answers memory w (f .pc) (f .bus) in
-      let q = read-after-keeps P answers memory more asks 2 w (f .pc) (f .bus) (fetch-keeps P answers memory more asks 1 (r .pc) b h) in
+      let q = read-after-keeps P answers memory more asks 2 w (f .pc) (f .bus)
+      (fetch-keeps P answers memory more asks 1 (r .pc) b h) in
       outcome-lawful 3 (writesAsked (f .bus) w) (callTo r n f w g) (lit≤ tt) q (asking-writes (f .bus) (r .sp) (f .pc))
       (record { writes = called-writes (r .sp) (f .pc); least = l; most = m; store = λ e. absurd (false≢true e) })
 
-  execute-lawful : (e : Entry) (r : CpuRegisters) (b : Bus) → CostFits e → P 1 b → Lawful P (executeOf answers memory e r b)
+  execute-lawful : (e : Entry) (r : CpuRegisters) (b : Bus) → CostFits e → P 1 b
+      → Lawful P (executeOf answers memory e r b)
   unfolding executeOf
   execute-lawful e r b c h =
-      cond-both (Lawful P) (isCall (accessOf (e .operation))) (subroutineCall answers memory r (e .length) b) (outcomeOf noWrites (carriedOut answers memory e r b))
+      cond-both (Lawful P) (isCall (accessOf (e .operation))) (subroutineCall answers memory r (e .length) b)
+      (outcomeOf noWrites (carriedOut answers memory e r b))
       (λ t. call-lawful r (e .length) b (c .least) (let m = c .most in omega arith) h)
       (λ t. carried-lawful e r b c h)
 
-  decoded-lawful : (d : Decoded) (r : CpuRegisters) (b : Bus) → T (passes costFits d) → P 1 b → Lawful P (decodedTo answers memory r b d)
+  decoded-lawful : (d : Decoded) (r : CpuRegisters) (b : Bus) → T (passes costFits d) → P 1 b
+      → Lawful P (decodedTo answers memory r b d)
   decoded-lawful decoded.Undefined r b t h = tt
   decoded-lawful (decoded.Defined e) r b t h = execute-lawful e r b (cost-fits e t) h
 
@@ -213,7 +235,8 @@ module _ (P : ℕ → Bus → Type 0) (answers memory : List ℕ)
   lawful r h =
       let f = fetchOf answers memory (r .pc) idle in
       let q = fetch-keeps P answers memory more asks 0 (r .pc) idle h in
-      cond-both (Lawful P) (f .bus .missing) (Asked (askWith noWrites (f .bus))) (decodedTo answers memory (withPc (f .pc) r) (f .bus) (decodeOf (f .value)))
+      cond-both (Lawful P) (f .bus .missing) (Asked (askWith noWrites (f .bus)))
+      (decodedTo answers memory (withPc (f .pc) r) (f .bus) (decodeOf (f .value)))
       (λ t. asked-lawful 1 noWrites (f .bus) (lit≤ tt) q t (lit≤ tt))
       (λ t. decoded-lawful (decodeOf (f .value)) (withPc (f .pc) r) (f .bus) (table-fits (f .value)) q)
 
@@ -222,14 +245,16 @@ module _ (r : CpuRegisters) (answers memory : List ℕ) where
   by-register = lawful AsksRegister answers memory register-more (register-asks answers) r (idle-asks-register 0)
 
   by-answers : Lawful (Answered answers) (instructionOf r answers memory)
-  by-answers = lawful (Answered answers) answers memory (answered-more answers) (answered-asks answers) r (idle-answered answers)
+  by-answers =
+      lawful (Answered answers) answers memory (answered-more answers) (answered-asks answers) r (idle-answered answers)
 
   -- an instruction that is done made at most three writes and takes 2 to 7 clocks
   pub done-fits : (w : Worked) → instructionOf r answers memory ≡ Done w → Fits w
   done-fits w e = rw e at by-register
 
   -- one that leaves a store takes 3 to 7 clocks
-  pub store-length : (w : Worked) (x : Write) → instructionOf r answers memory ≡ Done w → w .written ≡ Stored x → (3 ≤ w .length) × (w .length ≤ 7)
+  pub store-length : (w : Worked) (x : Write) → instructionOf r answers memory ≡ Done w → w .written ≡ Stored x
+      → (3 ≤ w .length) × (w .length ≤ 7)
   store-length w x e s = let f = done-fits w e in (f .store (rw s), f .most)
 
   -- what is asked for is a register

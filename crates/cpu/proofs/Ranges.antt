@@ -17,11 +17,14 @@ use Rattle.cpu_opcodes.specs.declared.Decoded.{Decoded}
 use Rattle.cpu_opcodes.specs.declared.Decoded.the-variants as decoded
 use Rattle.cpu_opcodes.specs.declared.Entry.{Entry}
 use Rattle.cpu_opcodes.specs.declared.Mode.{Mode}
-use Rattle.cpu_opcodes.specs.declared.Mode.the-variants.{Implied, Accumulator, Immediate, ZeroPage, ZeroPageX, ZeroPageY, Absolute, AbsoluteX, AbsoluteY, IndexedIndirect, IndirectIndexed, Indirect, Relative, ZeroPageRelative}
+use Rattle.cpu_opcodes.specs.declared.Mode.the-variants.{Implied, Accumulator, Immediate, ZeroPage, ZeroPageX}
+use Rattle.cpu_opcodes.specs.declared.Mode.the-variants.{ZeroPageY, Absolute, AbsoluteX, AbsoluteY, IndexedIndirect}
+use Rattle.cpu_opcodes.specs.declared.Mode.the-variants.{IndirectIndexed, Indirect, Relative, ZeroPageRelative}
 use Rattle.cpu_opcodes.specs.declared.operation.Operation.{Operation}
 use Rattle.cpu_opcodes.specs.declared.operation.Operation.the-variants as operation
 use Rattle.cpu_opcodes.specs.declared.operation.ReadOperation.{ReadOperation}
-use Rattle.cpu_opcodes.specs.declared.operation.ReadOperation.the-variants.{Adc, And, Bit, Cmp, Cpx, Cpy, Eor, Lda, Ldx, Ldy, Ora, Sbc}
+use Rattle.cpu_opcodes.specs.declared.operation.ReadOperation.the-variants.{Adc, And, Bit, Cmp, Cpx, Cpy, Eor, Lda, Ldx}
+use Rattle.cpu_opcodes.specs.declared.operation.ReadOperation.the-variants.{Ldy, Ora, Sbc}
 use Rattle.cpu_opcodes.specs.declared.operation.ModifyOperation.{ModifyOperation}
 use Rattle.cpu_opcodes.specs.declared.operation.ModifyOperation.the-variants.{Asl, Dec, Inc, Lsr, Rol, Ror, Rmb, Smb}
 use Rattle.cpu_opcodes.specs.declared.operation.StoreOperation.{StoreOperation}
@@ -31,9 +34,11 @@ use Rattle.cpu_opcodes.specs.declared.operation.PushOperation.the-variants.{Pha
 use Rattle.cpu_opcodes.specs.declared.operation.PullOperation.{PullOperation}
 use Rattle.cpu_opcodes.specs.declared.operation.PullOperation.the-variants.{Pla, Plp}
 use Rattle.cpu_opcodes.specs.declared.operation.RegisterOperation.{RegisterOperation}
-use Rattle.cpu_opcodes.specs.declared.operation.RegisterOperation.the-variants.{Dex, Dey, Inx, Iny, Tax, Tay, Tsx, Txa, Txs, Tya}
+use Rattle.cpu_opcodes.specs.declared.operation.RegisterOperation.the-variants.{Dex, Dey, Inx, Iny, Tax, Tay, Tsx, Txa}
+use Rattle.cpu_opcodes.specs.declared.operation.RegisterOperation.the-variants.{Txs, Tya}
 use Rattle.cpu_alu.specs.Status.{packed, pushed}
-use Rattle.cpu_alu.specs.Arithmetic.{modulo, lowered, digitDifference, decimalDifference, subtractBinary, addBinary, addDecimal, adcOf, sbcOf}
+use Rattle.cpu_alu.specs.Arithmetic.{modulo, lowered, digitDifference, decimalDifference, subtractBinary, addBinary}
+use Rattle.cpu_alu.specs.Arithmetic.{addDecimal, adcOf, sbcOf}
 use Rattle.cpu_alu.specs.Logic.{andOf, oraOf, eorOf}
 use Rattle.cpu_alu.specs.Shift.{aslOf, lsrOf, rolOf, rorOf, incrementOf, decrementOf, resetBitOf, setBitOf}
 use Rattle.cpu_alu.specs.declared.Status.{Status}
@@ -45,9 +50,11 @@ use Rattle.cpu_access.specs.declared.CpuRegisters.{CpuRegisters}
 use Rattle.cpu_access.specs.declared.modes.Place.{Place}
 use Rattle.cpu_access.specs.declared.stack.Write.{Write}
 use Rattle.cpu_access.specs.declared.stack.Writes.{Writes}
-use Rattle.cpu_access.specs.Bus.{nextAddress, memoryByte, vectorOf, idle, got, answered, asking, askOf, readOf, readWord, fetchOf, fetchWord, resetVector}
+use Rattle.cpu_access.specs.Bus.{nextAddress, memoryByte, vectorOf, idle, got, answered, asking, askOf, readOf}
+use Rattle.cpu_access.specs.Bus.{readWord, fetchOf, fetchWord, resetVector}
 use Rattle.memory.specs.Memory.{isRegister}
-use Rattle.cpu_access.specs.Stack.{noWrites, stackAddress, up, pushWord, pushInterrupt, pullOf, pullWord, writtenOver, readAfter}
+use Rattle.cpu_access.specs.Stack.{noWrites, stackAddress, up, pushWord, pushInterrupt, pullOf, pullWord, writtenOver}
+use Rattle.cpu_access.specs.Stack.{readAfter}
 use Rattle.cpu_access.specs.Modes.{zeroPageIndexed, zeroPagePointer, secondAddress, indexedBy, relativeTo, locateOf}
 use Rattle.cpu_operations.specs.declared.Access.{Access}
 use Rattle.cpu_operations.specs.declared.Access.the-variants.{Nothing, Read, Modify, Call}
@@ -56,13 +63,17 @@ use Rattle.cpu_operations.specs.declared.Written.{Written}
 use Rattle.cpu_operations.specs.declared.Written.the-variants as written
 use Rattle.cpu_operations.specs.declared.Operand.{Operand}
 use Rattle.cpu_operations.specs.declared.Executed.{Executed}
-use Rattle.cpu_operations.specs.Effects.{withPc, withSp, withStatus, intoA, intoX, intoY, loadA, loadX, loadY, quiet, completed, stored, modified, branched, branchOperand, bitBranched, jumped, pushedByte, pulledByte, returned, returnedFromInterrupt, interrupted, breakTaken}
+use Rattle.cpu_operations.specs.Effects.{withPc, withSp, withStatus, intoA, intoX, intoY, loadA, loadX, loadY, quiet}
+use Rattle.cpu_operations.specs.Effects.{completed, stored, modified, branched, branchOperand, bitBranched, jumped}
+use Rattle.cpu_operations.specs.Effects.{pushedByte, pulledByte, returned, returnedFromInterrupt, interrupted}
+use Rattle.cpu_operations.specs.Effects.{breakTaken}
 use Rattle.cpu_operations.specs.Kinds.{withRead, changedBy, byteToStore, byteToPush, withPulled, withRegister}
 use Rattle.cpu_operations.specs.Operations.{accessOf, isCall, workOf}
 use Rattle.cpu.specs.declared.Outcome.{Outcome}
 use Rattle.cpu.specs.declared.Outcome.the-variants.{Stopped, Asked, Done}
 use Rattle.cpu.specs.Entries.{resetEntry, interruptEntry}
-use Rattle.cpu.specs.Instruction.{askWith, outcomeOf, operandByte, operandOf, carriedOut, writesAsked, callTo, subroutineCall, executeOf, decodedTo, instructionOf}
+use Rattle.cpu.specs.Instruction.{askWith, outcomeOf, operandByte, operandOf, carriedOut, writesAsked, callTo}
+use Rattle.cpu.specs.Instruction.{subroutineCall, executeOf, decodedTo, instructionOf}
 
 -- each element of a list is a byte
 abbrev pub Bytes : List ℕ → Type 0
@@ -156,7 +167,9 @@ decimal-lt a m s = omega arith
 
 adc-lt : (a m : ℕ) (s : Status) → adcOf a m s .value < 256
 unfolding adcOf
-adc-lt a m s = cond-both (λ k. k .value < 256) (s .d) (addDecimal a m s) (addBinary a m s) (λ t. decimal-lt a m s) (λ t. binary-lt a m s)
+adc-lt a m s =
+    cond-both (λ k. k .value < 256) (s .d) (addDecimal a m s) (addBinary a m s) (λ t. decimal-lt a m s)
+    (λ t. binary-lt a m s)
 
 difference-lt : (a m : ℕ) (c : Bool) → decimalDifference a m c < 256
 unfolding decimalDifference
@@ -165,7 +178,8 @@ difference-lt a m c = modulo-lt (lowered (digitDifference a m c))
 sbc-lt : (a m : ℕ) (s : Status) → sbcOf a m s .value < 256
 unfolding sbcOf
 sbc-lt a m s =
-    cond-both (λ k. k .value < 256) (s .d) (record { value = decimalDifference a m (s .c); status = subtractBinary a m s .status }) (subtractBinary a m s)
+    cond-both (λ k. k .value < 256) (s .d)
+    (record { value = decimalDifference a m (s .c); status = subtractBinary a m s .status }) (subtractBinary a m s)
     (λ t. difference-lt a m (s .c))
     (λ t. binary-lt a (255 - m) s)
 
@@ -300,21 +314,26 @@ completed-fits : (o : Operand) (r : CpuRegisters) → InRange r → WorkedFits (
 unfolding completed
 completed-fits o r i = record { registers = i; written = tt }
 
-stored-fits : (o : Operand) (r : CpuRegisters) (v : ℕ) → OperandFits o → v < 256 → InRange r → WorkedFits (stored o r v .worked)
+stored-fits : (o : Operand) (r : CpuRegisters) (v : ℕ) → OperandFits o → v < 256 → InRange r
+    → WorkedFits (stored o r v .worked)
 unfolding stored
 stored-fits o r v f h i = record { registers = i; written = record { address = f .address; value = h } }
 
-modified-fits : (o : Operand) (r : CpuRegisters) (k : Computed) → OperandFits o → k .value < 256 → InRange r → WorkedFits (modified o r k .worked)
+modified-fits : (o : Operand) (r : CpuRegisters) (k : Computed) → OperandFits o → k .value < 256 → InRange r
+    → WorkedFits (modified o r k .worked)
 unfolding modified
 modified-fits o r k f h i =
-    cond-both (λ e. WorkedFits (e .worked)) (o .accumulator) (quiet (intoA k r) (o .length) (o .bus)) (stored o (withStatus (k .status) r) (k .value))
+    cond-both (λ e. WorkedFits (e .worked)) (o .accumulator) (quiet (intoA k r) (o .length) (o .bus))
+    (stored o (withStatus (k .status) r) (k .value))
     (λ t. quiet-fits (intoA k r) (o .length) (o .bus) (a-in k r h i))
     (λ t. stored-fits o (withStatus (k .status) r) (k .value) f h (status-in (k .status) r i))
 
-branched-fits : (o : Operand) (r : CpuRegisters) (taken : Bool) → o .address < 65536 → InRange r → WorkedFits (branched o r taken .worked)
+branched-fits : (o : Operand) (r : CpuRegisters) (taken : Bool) → o .address < 65536 → InRange r
+    → WorkedFits (branched o r taken .worked)
 unfolding branched
 branched-fits o r taken h i =
-    cond-both (λ e. WorkedFits (e .worked)) taken (quiet (withPc (o .address) r) (o .length + 1 + digit (o .crossed)) (o .bus)) (quiet r (o .length) (o .bus))
+    cond-both (λ e. WorkedFits (e .worked)) taken
+    (quiet (withPc (o .address) r) (o .length + 1 + digit (o .crossed)) (o .bus)) (quiet r (o .length) (o .bus))
     (λ t. quiet-fits (withPc (o .address) r) (o .length + 1 + digit (o .crossed)) (o .bus) (pc-in (o .address) r h i))
     (λ t. quiet-fits r (o .length) (o .bus) i)
 
@@ -344,17 +363,20 @@ module _ (answers memory : List ℕ) (given : Bytes answers) (bytes : Bytes memo
 
   vector-lt : (a : ℕ) → vectorOf memory a < 65536
   unfolding vectorOf
-  vector-lt a = word-lt (memoryByte memory (nextAddress a)) (memoryByte memory a) (memory-lt (nextAddress a)) (memory-lt a)
+  vector-lt a =
+      word-lt (memoryByte memory (nextAddress a)) (memoryByte memory a) (memory-lt (nextAddress a)) (memory-lt a)
 
   ask-lt : (a : ℕ) (latch : Bool) (b : Bus) → askOf answers a latch b .value < 256
   unfolding askOf
   ask-lt a latch b =
-      cond-both (λ g. g .value < 256) (ltb (b .used) (length answers)) (answered answers b) (got 0 (asking a latch b)) (λ t. given (b .used)) (λ t. omega arith)
+      cond-both (λ g. g .value < 256) (ltb (b .used) (length answers)) (answered answers b) (got 0 (asking a latch b))
+      (λ t. given (b .used)) (λ t. omega arith)
 
   read-lt : (a : ℕ) (latch : Bool) (b : Bus) → readOf answers memory a latch b .value < 256
   unfolding readOf
   read-lt a latch b =
-      cond-both (λ g. g .value < 256) (isRegister a) (askOf answers a latch b) (got (memoryByte memory a) b) (λ t. ask-lt a latch b) (λ t. memory-lt a)
+      cond-both (λ g. g .value < 256) (isRegister a) (askOf answers a latch b) (got (memoryByte memory a) b)
+      (λ t. ask-lt a latch b) (λ t. memory-lt a)
 
   read-word-lt : (a c : ℕ) (b : Bus) → readWord answers memory a c b .value < 65536
   unfolding readWord
@@ -403,14 +425,18 @@ module _ (answers memory : List ℕ) (given : Bytes answers) (bytes : Bytes memo
   written-lt w a v f h =
       let s = cond (ltb 0 (w .count) && eqb (w .first .address) a) (w .first .value) v in
       let t = cond (ltb 1 (w .count) && eqb (w .second .address) a) (w .second .value) s in
-      cond-both (λ n. n < 256) (ltb 2 (w .count) && eqb (w .third .address) a) (w .third .value) t (λ e. f .third .value)
-      (λ e. cond-both (λ n. n < 256) (ltb 1 (w .count) && eqb (w .second .address) a) (w .second .value) s (λ e. f .second .value)
-      (λ e. cond-both (λ n. n < 256) (ltb 0 (w .count) && eqb (w .first .address) a) (w .first .value) v (λ e. f .first .value) (λ e. h)))
+      cond-both (λ n. n < 256) (ltb 2 (w .count) && eqb (w .third .address) a) (w .third .value) t
+      (λ e. f .third .value)
+      (λ e. cond-both (λ n. n < 256) (ltb 1 (w .count) && eqb (w .second .address) a) (w .second .value) s
+      (λ e. f .second .value)
+      (λ e. cond-both (λ n. n < 256) (ltb 0 (w .count) && eqb (w .first .address) a) (w .first .value) v
+      (λ e. f .first .value) (λ e. h)))
 
   read-after-lt : (w : Writes) (a : ℕ) (b : Bus) → WritesFit w → readAfter answers memory w a b .value < 256
   unfolding readAfter
   read-after-lt w a b f =
-      cond-both (λ g. g .value < 256) (isRegister a) (askOf answers a false b) (got (writtenOver w a (memoryByte memory a)) b)
+      cond-both (λ g. g .value < 256) (isRegister a) (askOf answers a false b)
+      (got (writtenOver w a (memoryByte memory a)) b)
       (λ t. ask-lt a false b)
       (λ t. written-lt w a (memoryByte memory a) f (memory-lt a))
 
@@ -432,8 +458,16 @@ module _ (answers memory : List ℕ) (given : Bytes answers) (bytes : Bytes memo
   locate-fits Accumulator r b i = record { address = omega arith; pc = i .pc }
   locate-fits Immediate r b i = record { address = i .pc; pc = address-wraps (r .pc) 1 }
   locate-fits ZeroPage r b i = record { address = byte-fits _ (fetch-lt (r .pc) b); pc = fetch-pc (r .pc) b }
-  locate-fits ZeroPageX r b i = record { address = byte-fits _ (byte-wraps (fetchOf answers memory (r .pc) b .value) (r .x)); pc = fetch-pc (r .pc) b }
-  locate-fits ZeroPageY r b i = record { address = byte-fits _ (byte-wraps (fetchOf answers memory (r .pc) b .value) (r .y)); pc = fetch-pc (r .pc) b }
+  locate-fits ZeroPageX r b i =
+      record {
+        address = byte-fits _ (byte-wraps (fetchOf answers memory (r .pc) b .value) (r .x));
+        pc = fetch-pc (r .pc) b;
+      }
+  locate-fits ZeroPageY r b i =
+      record {
+        address = byte-fits _ (byte-wraps (fetchOf answers memory (r .pc) b .value) (r .y));
+        pc = fetch-pc (r .pc) b;
+      }
   locate-fits Absolute r b i = record { address = fetch-word-lt (r .pc) b; pc = fetch-word-pc (r .pc) b }
   locate-fits AbsoluteX r b i =
       let f = fetchWord answers memory (r .pc) b in
@@ -454,7 +488,8 @@ module _ (answers memory : List ℕ) (given : Bytes answers) (bytes : Bytes memo
   locate-fits Relative r b i = relative-fits (fetchOf answers memory (r .pc) b) (fetch-pc (r .pc) b)
   locate-fits ZeroPageRelative r b i = record { address = byte-fits _ (fetch-lt (r .pc) b); pc = fetch-pc (r .pc) b }
 
-  bit-branched-fits : (o : Operand) (r : CpuRegisters) (taken : Bool) → InRange r → WorkedFits (bitBranched answers memory o r taken .worked)
+  bit-branched-fits : (o : Operand) (r : CpuRegisters) (taken : Bool) → InRange r
+      → WorkedFits (bitBranched answers memory o r taken .worked)
   unfolding bitBranched
   bit-branched-fits o r taken i =
       let f = fetchOf answers memory (r .pc) (o .bus) in
@@ -462,27 +497,36 @@ module _ (answers memory : List ℕ) (given : Bytes answers) (bytes : Bytes memo
       let q = relative-fits f (fetch-pc (r .pc) (o .bus)) in
       branched-fits (branchOperand o p) (withPc (p .pc) r) taken (q .address) (pc-in (p .pc) r (q .pc) i)
 
-  pulled-fits : (p : PullOperation) (o : Operand) (r : CpuRegisters) → InRange r → WorkedFits (pulledByte answers memory p o r .worked)
+  pulled-fits : (p : PullOperation) (o : Operand) (r : CpuRegisters) → InRange r
+      → WorkedFits (pulledByte answers memory p o r .worked)
   unfolding pulledByte
   pulled-fits p o r i =
       let g = pullOf answers memory (r .sp) (o .bus) in
-      record { registers = pulled-in p (withSp (g .sp) r) (g .value) (pull-lt (r .sp) (o .bus)) (sp-in (g .sp) r (pull-sp (r .sp) (o .bus)) i); written = tt }
+      record {
+        registers = pulled-in p (withSp (g .sp) r) (g .value) (pull-lt (r .sp) (o .bus))
+            (sp-in (g .sp) r (pull-sp (r .sp) (o .bus)) i);
+        written = tt;
+      }
 
   returned-fits : (o : Operand) (r : CpuRegisters) → InRange r → WorkedFits (returned answers memory o r .worked)
   unfolding returned
   returned-fits o r i =
       let w = pullWord answers memory (r .sp) (o .bus) in
-      quiet-fits _ (o .length) (w .bus) (pc-in (nextAddress (w .value)) (withSp (w .sp) r) (address-wraps (w .value) 1) (sp-in (w .sp) r (pull-word-sp (r .sp) (o .bus)) i))
+      quiet-fits _ (o .length) (w .bus) (pc-in (nextAddress (w .value)) (withSp (w .sp) r) (address-wraps (w .value) 1)
+      (sp-in (w .sp) r (pull-word-sp (r .sp) (o .bus)) i))
 
-  returnedFromInterrupt-fits : (o : Operand) (r : CpuRegisters) → InRange r → WorkedFits (returnedFromInterrupt answers memory o r .worked)
+  returnedFromInterrupt-fits : (o : Operand) (r : CpuRegisters) → InRange r
+      → WorkedFits (returnedFromInterrupt answers memory o r .worked)
   unfolding returnedFromInterrupt
   returnedFromInterrupt-fits o r i =
       let p = pullOf answers memory (r .sp) (o .bus) in
       let w = pullWord answers memory (p .sp) (p .bus) in
       quiet-fits _ (o .length) (w .bus)
-      (pc-in (w .value) _ (pull-word-lt (p .sp) (p .bus)) (status-in _ (withSp (w .sp) r) (sp-in (w .sp) r (pull-word-sp (p .sp) (p .bus)) i)))
+      (pc-in (w .value) _ (pull-word-lt (p .sp) (p .bus))
+      (status-in _ (withSp (w .sp) r) (sp-in (w .sp) r (pull-word-sp (p .sp) (p .bus)) i)))
 
-  interrupted-fits : (vector p : ℕ) (r : CpuRegisters) → p < 256 → InRange r → WorkedFits (interrupted memory vector p r)
+  interrupted-fits : (vector p : ℕ) (r : CpuRegisters) → p < 256 → InRange r
+      → WorkedFits (interrupted memory vector p r)
   unfolding interrupted
   interrupted-fits vector p r h i = record {
     registers = record { a = i .a; x = i .x; y = i .y; sp = byte-wraps _ 255; pc = vector-lt vector };
@@ -491,9 +535,12 @@ module _ (answers memory : List ℕ) (given : Bytes answers) (bytes : Bytes memo
 
   breakTaken-fits : (o : Operand) (r : CpuRegisters) → InRange r → WorkedFits (breakTaken memory o r .worked)
   unfolding breakTaken
-  breakTaken-fits o r i = interrupted-fits 0xFFFE (pushed (r .status) true) (withPc (nextAddress (r .pc)) r) (pushed-lt (r .status) true) (pc-in (nextAddress (r .pc)) r (address-wraps (r .pc) 1) i)
+  breakTaken-fits o r i =
+      interrupted-fits 0xFFFE (pushed (r .status) true) (withPc (nextAddress (r .pc)) r) (pushed-lt (r .status) true)
+      (pc-in (nextAddress (r .pc)) r (address-wraps (r .pc) 1) i)
 
-  work-fits : (op : Operation) (r : CpuRegisters) (o : Operand) → OperandFits o → InRange r → WorkedFits (workOf answers memory op r o .worked)
+  work-fits : (op : Operation) (r : CpuRegisters) (o : Operand) → OperandFits o → InRange r
+      → WorkedFits (workOf answers memory op r o .worked)
   unfolding workOf
   work-fits (operation.Read p) r o f i = completed-fits o _ (read-in p r (o .value) (f .value) i)
   work-fits (operation.Modify p) r o f i = modified-fits o r _ f (change-lt p (o .value) (r .status) (f .value)) i
@@ -516,10 +563,12 @@ module _ (answers memory : List ℕ) (given : Bytes answers) (bytes : Bytes memo
   operand-lt Nothing a p h = omega arith
   operand-lt Read a p h = read-lt (p .address) false (p .bus)
   operand-lt Modify a p h =
-      cond-both (λ g. g .value < 256) (p .accumulator) (got a (p .bus)) (readOf answers memory (p .address) true (p .bus)) (λ t. h) (λ t. read-lt (p .address) true (p .bus))
+      cond-both (λ g. g .value < 256) (p .accumulator) (got a (p .bus))
+      (readOf answers memory (p .address) true (p .bus)) (λ t. h) (λ t. read-lt (p .address) true (p .bus))
   operand-lt Call a p h = omega arith
 
-  carried-fits : (e : Entry) (r : CpuRegisters) (b : Bus) → InRange r → WorkedFits (carriedOut answers memory e r b .worked)
+  carried-fits : (e : Entry) (r : CpuRegisters) (b : Bus) → InRange r
+      → WorkedFits (carriedOut answers memory e r b .worked)
   unfolding carriedOut
   carried-fits e r b i =
       let p = locateOf answers memory (e .mode) r b in
@@ -531,7 +580,8 @@ module _ (answers memory : List ℕ) (given : Bytes answers) (bytes : Bytes memo
 
   outcome-fits : (w : Writes) (e : Executed) → WorkedFits (e .worked) → DoneFits (outcomeOf w e)
   unfolding outcomeOf
-  outcome-fits w e f = cond-both DoneFits (e .bus .missing) (Asked (askWith w (e .bus))) (Done (e .worked)) (λ t. tt) (λ t. f)
+  outcome-fits w e f =
+      cond-both DoneFits (e .bus .missing) (Asked (askWith w (e .bus))) (Done (e .worked)) (λ t. tt) (λ t. f)
 
   call-fits : (r : CpuRegisters) (n : ℕ) (b : Bus) → InRange r → DoneFits (subroutineCall answers memory r n b)
   unfolding subroutineCall
@@ -541,14 +591,18 @@ module _ (answers memory : List ℕ) (given : Bytes answers) (bytes : Bytes memo
       let f = word-writes (r .sp) (l .pc) (i .sp) in
       let h = readAfter answers memory w (l .pc) (l .bus) in
       outcome-fits (writesAsked (l .bus) w) (callTo r n l w h) (record {
-        registers = pc-in (word (h .value) (l .value)) _ (word-lt (h .value) (l .value) (read-after-lt w (l .pc) (l .bus) f) (fetch-lt (r .pc) b)) (sp-in _ r (byte-wraps _ 255) i);
+        registers =
+            pc-in (word (h .value) (l .value)) _
+            (word-lt (h .value) (l .value) (read-after-lt w (l .pc) (l .bus) f) (fetch-lt (r .pc) b))
+            (sp-in _ r (byte-wraps _ 255) i);
         written = f;
       })
 
   execute-fits : (e : Entry) (r : CpuRegisters) (b : Bus) → InRange r → DoneFits (executeOf answers memory e r b)
   unfolding executeOf
   execute-fits e r b i =
-      cond-both DoneFits (isCall (accessOf (e .operation))) (subroutineCall answers memory r (e .length) b) (outcomeOf noWrites (carriedOut answers memory e r b))
+      cond-both DoneFits (isCall (accessOf (e .operation))) (subroutineCall answers memory r (e .length) b)
+      (outcomeOf noWrites (carriedOut answers memory e r b))
       (λ t. call-fits r (e .length) b i)
       (λ t. outcome-fits noWrites (carriedOut answers memory e r b) (carried-fits e r b i))
 
@@ -560,12 +614,14 @@ module _ (answers memory : List ℕ) (given : Bytes answers) (bytes : Bytes memo
   unfolding instructionOf
   in-range r i =
       let f = fetchOf answers memory (r .pc) idle in
-      cond-both DoneFits (f .bus .missing) (Asked (askWith noWrites (f .bus))) (decodedTo answers memory (withPc (f .pc) r) (f .bus) (decodeOf (f .value)))
+      cond-both DoneFits (f .bus .missing) (Asked (askWith noWrites (f .bus)))
+      (decodedTo answers memory (withPc (f .pc) r) (f .bus) (decodeOf (f .value)))
       (λ t. tt)
       (λ t. decoded-fits (decodeOf (f .value)) (withPc (f .pc) r) (f .bus) (pc-in (f .pc) r (fetch-pc (r .pc) idle) i))
 
   -- an instruction that is done leaves registers and writes in range
-  pub done-in-range : (r : CpuRegisters) (w : Worked) → InRange r → instructionOf r answers memory ≡ Done w → WorkedFits w
+  pub done-in-range : (r : CpuRegisters) (w : Worked) → InRange r → instructionOf r answers memory ≡ Done w
+      → WorkedFits w
   done-in-range r w i e = rw e at (in-range r i)
 
   -- and so do the entries

@@ -30,27 +30,38 @@ use Rattle.cpu_access.specs.declared.stack.Write.{Write}
 use Rattle.cpu_access.specs.declared.stack.Writes.{Writes}
 use Rattle.cpu_access.specs.declared.waiting.Waiting.{Waiting}
 use Rattle.cpu_access.specs.declared.waiting.Waiting.the-variants as waiting
-use Rattle.cpu_access.specs.Bus.{memoryByte, nextAddress, irqVector, vectorOf, idle, got, answered, asking, askOf, readOf, fetchOf}
-use Rattle.cpu_access.specs.Stack.{writeAt, noWrites, stackAddress, down, up, pushHigh, pushLow, pushAt, pushWord, pushInterrupt, pullOf, pullWord, writtenOver, readAfter}
+use Rattle.cpu_access.specs.Bus.{memoryByte, nextAddress, irqVector, vectorOf, idle, got, answered, asking, askOf}
+use Rattle.cpu_access.specs.Bus.{readOf, fetchOf}
+use Rattle.cpu_access.specs.Stack.{writeAt, noWrites, stackAddress, down, up, pushHigh, pushLow, pushAt, pushWord}
+use Rattle.cpu_access.specs.Stack.{pushInterrupt, pullOf, pullWord, writtenOver, readAfter}
 use Rattle.cpu_access.specs.Modes.{relativeTo, locateOf}
 use Rattle.cpu_access.specs.Accesses.{Accesses, ends, reads, writes, _>>=_, byteAfter, inOrder}
 use Rattle.cpu_access.specs.Operands.{Located, located}
 use Rattle.cpu_access.proofs.Asked.{Reply, asks, over, asked, onwards, onwards-idle}
-use Rattle.cpu_access.proofs.Follows.{then-then, locatedAt, read-on, read-after-on, fetch-on, pull-on, pull-word-on, locate-on}
+use Rattle.cpu_access.proofs.Follows.{then-then, locatedAt, read-on, read-after-on, fetch-on, pull-on, pull-word-on}
+use Rattle.cpu_access.proofs.Follows.{locate-on}
 use Rattle.cpu_operations.specs.declared.Worked.{Worked}
 use Rattle.cpu_operations.specs.declared.Operand.{Operand}
 use Rattle.cpu_operations.specs.declared.Executed.{Executed}
 use Rattle.cpu_operations.specs.declared.Written.{Written}
 use Rattle.cpu_operations.specs.declared.Written.the-variants as written
 use Rattle.cpu_operations.specs.Updates.{withSp, withPc, withStatus, intoA}
-use Rattle.cpu_operations.specs.Kinds.{withRead, changedBy, byteToStore, branchTaken, bitBranchTaken, byteToPush, withPulled, withRegister, withFlag}
-use Rattle.cpu_operations.specs.Effects.{pushesOf, waitingOf, executed, quiet, completed, stored, modified, branched, branchOperand, bitBranched, jumped, pushedByte, pulledByte, returned, returnedFromInterrupt, interrupted, breakTaken}
+use Rattle.cpu_operations.specs.Kinds.{withRead, changedBy, byteToStore, branchTaken, bitBranchTaken, byteToPush}
+use Rattle.cpu_operations.specs.Kinds.{withPulled, withRegister, withFlag}
+use Rattle.cpu_operations.specs.Effects.{pushesOf, waitingOf, executed, quiet, completed, stored, modified, branched}
+use Rattle.cpu_operations.specs.Effects.{branchOperand, bitBranched, jumped, pushedByte, pulledByte, returned}
+use Rattle.cpu_operations.specs.Effects.{returnedFromInterrupt, interrupted, breakTaken}
 use Rattle.cpu_operations.specs.Operations.{accessOf, workOf}
 use Rattle.cpu.specs.declared.Ask.{Ask}
 use Rattle.cpu.specs.declared.Outcome.{Outcome}
 use Rattle.cpu.specs.declared.Outcome.the-variants.{Stopped, Asked, Done}
-use Rattle.cpu.specs.Instruction.{askWith, outcomeOf, operandByte, operandOf, carriedOut, writesAsked, callTo, subroutineCall, executeOf, decodedTo, instructionOf}
-use Rattle.cpu.specs.Sequence.{Conclusion, Ending, undefined, leaves, undefinedStop, conclusion, completion, storeAt, storeBack, modifyAccesses, branchOn, bitBranchAccesses, jumpTo, pushAccesses, pullAccesses, returnAccesses, interruptReturnAccesses, entryAccesses, breakAccesses, callAccesses, pastOperand, operationAccesses, opcodeAccesses, instructionAccesses}
+use Rattle.cpu.specs.Instruction.{askWith, outcomeOf, operandByte, operandOf, carriedOut, writesAsked, callTo}
+use Rattle.cpu.specs.Instruction.{subroutineCall, executeOf, decodedTo, instructionOf}
+use Rattle.cpu.specs.Sequence.{Conclusion, Ending, undefined, leaves, undefinedStop, conclusion, completion}
+use Rattle.cpu.specs.Sequence.{storeAt, storeBack, modifyAccesses, branchOn, bitBranchAccesses, jumpTo}
+use Rattle.cpu.specs.Sequence.{pushAccesses, pullAccesses, returnAccesses, interruptReturnAccesses, entryAccesses}
+use Rattle.cpu.specs.Sequence.{breakAccesses, callAccesses, pastOperand, operationAccesses, opcodeAccesses}
+use Rattle.cpu.specs.Sequence.{instructionAccesses}
 
 -- What was asked, or how it ended, as the code has it. Of an instruction that pushes and stores the code has no words,
 -- and there is none: four pushes stand for it, and no instruction has so many (`done-fits`).
@@ -60,14 +71,16 @@ writtenAs waiting.Nothing (w ∷ ws) = written.Pushed (inOrder (w ∷ ws))
 writtenAs (waiting.Byte x) [] = written.Stored x
 writtenAs (waiting.Byte x) (w ∷ ws) = written.Pushed (inOrder (w ∷ w ∷ w ∷ w ∷ ws))
 
-pub pushes-as : (store : Waiting) (pushes : List Write) → pushesOf (writtenAs store pushes) .count ≤ 3 → pushesOf (writtenAs store pushes) ≡ inOrder pushes
+pub pushes-as : (store : Waiting) (pushes : List Write) → pushesOf (writtenAs store pushes) .count ≤ 3
+    → pushesOf (writtenAs store pushes) ≡ inOrder pushes
 unfolding pushesOf inOrder
 pushes-as waiting.Nothing [] h = refl
 pushes-as waiting.Nothing (w ∷ ws) h = refl
 pushes-as (waiting.Byte x) [] h = refl
 pushes-as (waiting.Byte x) (w ∷ ws) h = absurd (omega (arith, h))
 
-pub waiting-as : (store : Waiting) (pushes : List Write) → pushesOf (writtenAs store pushes) .count ≤ 3 → waitingOf (writtenAs store pushes) ≡ store
+pub waiting-as : (store : Waiting) (pushes : List Write) → pushesOf (writtenAs store pushes) .count ≤ 3
+    → waitingOf (writtenAs store pushes) ≡ store
 unfolding pushesOf waitingOf inOrder
 waiting-as waiting.Nothing [] h = refl
 waiting-as waiting.Nothing (w ∷ ws) h = refl
@@ -107,27 +120,34 @@ module _ (answers memory : List ℕ) where
   Same b t o = outcomeFrom (onwards answers memory [] b t) ≡ o
 
   -- no register is read
-  done-on : (b : Bus) (t : Accesses Ending) (w : Worked) → ((rest : List ℕ) → outcomeFrom (asked memory rest [] t) ≡ Done w)
+  done-on : (b : Bus) (t : Accesses Ending) (w : Worked)
+      → ((rest : List ℕ) → outcomeFrom (asked memory rest [] t) ≡ Done w)
       → Same b t (outcomeOf noWrites (record { worked = w; bus = b }))
   unfolding onwards outcomeOf inOrder
-  done-on b t w h = cond-along outcomeFrom (b .missing) (asks (b .latch) (b .address) []) _ refl (h (drop (b .used) answers))
+  done-on b t w h =
+      cond-along outcomeFrom (b .missing) (asks (b .latch) (b .address) []) _ refl (h (drop (b .used) answers))
 
   ends-after : (before : List Write) (b : Bus) (l : Conclusion)
-      → outcomeFrom (onwards answers memory before b (ends (leaves l))) ≡ outcomeOf (inOrder before) (record { worked = workedOf l before; bus = b })
+      → outcomeFrom (onwards answers memory before b (ends (leaves l)))
+      ≡ outcomeOf (inOrder before) (record { worked = workedOf l before; bus = b })
   unfolding onwards asked outcomeOf
-  ends-after before b l = cond-map outcomeFrom (b .missing) (asks (b .latch) (b .address) before) (over (leaves l) before)
+  ends-after before b l =
+      cond-map outcomeFrom (b .missing) (asks (b .latch) (b .address) before) (over (leaves l) before)
 
-  ends-on : (b : Bus) (l : Conclusion) → Same b (ends (leaves l)) (outcomeOf noWrites (record { worked = workedOf l []; bus = b }))
+  ends-on : (b : Bus) (l : Conclusion)
+      → Same b (ends (leaves l)) (outcomeOf noWrites (record { worked = workedOf l []; bus = b }))
   unfolding inOrder
   ends-on b l = ends-after [] b l
 
   -- ---- the operations, by kind
 
-  completed-on : (o : Operand) (r : CpuRegisters) (pc : ℕ) → Same (o .bus) (left (completion (o .length) (placeOf o pc) r)) (outcomeOf noWrites (completed o r))
+  completed-on : (o : Operand) (r : CpuRegisters) (pc : ℕ)
+      → Same (o .bus) (left (completion (o .length) (placeOf o pc) r)) (outcomeOf noWrites (completed o r))
   unfolding completion completed inOrder
   completed-on o r pc = ends-on (o .bus) _
 
-  stored-on : (o : Operand) (r : CpuRegisters) (v pc : ℕ) → Same (o .bus) (left (storeAt (o .length) (placeOf o pc) r v)) (outcomeOf noWrites (stored o r v))
+  stored-on : (o : Operand) (r : CpuRegisters) (v pc : ℕ)
+      → Same (o .bus) (left (storeAt (o .length) (placeOf o pc) r v)) (outcomeOf noWrites (stored o r v))
   unfolding storeAt stored inOrder
   stored-on o r v pc = ends-on (o .bus) _
 
@@ -138,64 +158,80 @@ module _ (answers memory : List ℕ) where
   branched-on o r false pc = ends-on (o .bus) _
 
   bit-branched-on : (o : Operand) (r : CpuRegisters) (taken : Bool)
-      → Same (o .bus) (left (bitBranchAccesses (o .length) r taken)) (outcomeOf noWrites (bitBranched answers memory o r taken))
+      → Same (o .bus) (left (bitBranchAccesses (o .length) r taken))
+      (outcomeOf noWrites (bitBranched answers memory o r taken))
   unfolding bitBranchAccesses bitBranched relativeTo fetchOf
   bit-branched-on o r taken =
       let f = fetchOf answers memory (r .pc) (o .bus) in
-      ap outcomeFrom (fetch-on answers memory (r .pc) (o .bus) _) ∙ branched-on (branchOperand o (relativeTo f)) (withPc (f .pc) r) taken (f .pc)
+      ap outcomeFrom (fetch-on answers memory (r .pc) (o .bus) _)
+      ∙ branched-on (branchOperand o (relativeTo f)) (withPc (f .pc) r) taken (f .pc)
 
-  jumped-on : (o : Operand) (r : CpuRegisters) (pc : ℕ) → Same (o .bus) (left (jumpTo (o .length) (placeOf o pc) r)) (outcomeOf noWrites (jumped o r))
+  jumped-on : (o : Operand) (r : CpuRegisters) (pc : ℕ)
+      → Same (o .bus) (left (jumpTo (o .length) (placeOf o pc) r)) (outcomeOf noWrites (jumped o r))
   unfolding jumpTo jumped inOrder
   jumped-on o r pc = ends-on (o .bus) _
 
-  pushed-on : (o : Operand) (r : CpuRegisters) (v : ℕ) → Same (o .bus) (left (pushAccesses (o .length) r v)) (outcomeOf noWrites (pushedByte o r v))
+  pushed-on : (o : Operand) (r : CpuRegisters) (v : ℕ)
+      → Same (o .bus) (left (pushAccesses (o .length) r v)) (outcomeOf noWrites (pushedByte o r v))
   unfolding pushAccesses pushedByte asked inOrder
   pushed-on o r v = done-on (o .bus) _ _ (λ rest. refl)
 
   pulled-on : (operation : PullOperation) (o : Operand) (r : CpuRegisters)
-      → Same (o .bus) (left (pullAccesses operation (o .length) r)) (outcomeOf noWrites (pulledByte answers memory operation o r))
+      → Same (o .bus) (left (pullAccesses operation (o .length) r))
+      (outcomeOf noWrites (pulledByte answers memory operation o r))
   unfolding pullAccesses pulledByte pullOf
   pulled-on operation o r = ap outcomeFrom (pull-on answers memory (r .sp) (o .bus) _) ∙ ends-on _ _
 
-  returned-on : (o : Operand) (r : CpuRegisters) → Same (o .bus) (left (returnAccesses (o .length) r)) (outcomeOf noWrites (returned answers memory o r))
+  returned-on : (o : Operand) (r : CpuRegisters)
+      → Same (o .bus) (left (returnAccesses (o .length) r)) (outcomeOf noWrites (returned answers memory o r))
   unfolding returnAccesses returned pullWord pullOf inOrder
   returned-on o r =
       ap outcomeFrom (pull-word-on answers memory (r .sp) (o .bus)
       (λ pc. ends (leaves (conclusion (withPc (nextAddress pc) (withSp (up (up (r .sp))) r)) (o .length)))))
       ∙ ends-on _ _
 
-  resumed-on : (o : Operand) (r : CpuRegisters) → Same (o .bus) (left (interruptReturnAccesses (o .length) r)) (outcomeOf noWrites (returnedFromInterrupt answers memory o r))
+  resumed-on : (o : Operand) (r : CpuRegisters)
+      → Same (o .bus) (left (interruptReturnAccesses (o .length) r))
+      (outcomeOf noWrites (returnedFromInterrupt answers memory o r))
   unfolding interruptReturnAccesses returnedFromInterrupt pullWord pullOf inOrder
   resumed-on o r =
       let p = pullOf answers memory (r .sp) (o .bus) in
       ap outcomeFrom (pull-on answers memory (r .sp) (o .bus) _
       ∙ pull-word-on answers memory (p .sp) (p .bus)
-      (λ pc. ends (leaves (conclusion (withPc pc (withStatus (unpacked (p .value)) (withSp (up (up (up (r .sp)))) r))) (o .length)))))
+      (λ pc. ends (leaves (conclusion
+      (withPc pc (withStatus (unpacked (p .value)) (withSp (up (up (up (r .sp)))) r))) (o .length)))))
       ∙ ends-on _ _
 
   -- BRK reads its vector after the pushes, which do not reach it
-  break-on : (o : Operand) (r : CpuRegisters) → Same (o .bus) (left (breakAccesses r)) (outcomeOf noWrites (breakTaken memory o r))
+  break-on : (o : Operand) (r : CpuRegisters)
+      → Same (o .bus) (left (breakAccesses r)) (outcomeOf noWrites (breakTaken memory o r))
   unfolding breakAccesses breakTaken entryAccesses interrupted pushInterrupt vectorOf asked inOrder
   break-on o r =
       let next = withPc (nextAddress (r .pc)) r in
-      done-on (o .bus) _ _ (λ rest. rw (unpushed (pushed (r .status) true) next 0xFFFE _ (omega arith), unpushed (pushed (r .status) true) next 0xFFFF _ (omega arith)))
+      done-on (o .bus) _ _ (λ rest. rw (
+        unpushed (pushed (r .status) true) next 0xFFFE _ (omega arith),
+        unpushed (pushed (r .status) true) next 0xFFFF _ (omega arith),
+      ))
 
   -- ---- the operand and the operation
 
   -- the accumulator, or a byte in memory
   modified-on : (operation : ModifyOperation) (n : ℕ) (r : CpuRegisters) (p : Place)
       → (let g : Got = cond (p .accumulator) (got (r .a) (p .bus)) (readOf answers memory (p .address) true (p .bus)) in
-      Same (p .bus) (left (modifyAccesses operation n (locatedAt p) r)) (outcomeOf noWrites (modified (operandOf n p g) r (changedBy operation (g .value) (r .status)))))
+      Same (p .bus) (left (modifyAccesses operation n (locatedAt p) r))
+      (outcomeOf noWrites (modified (operandOf n p g) r (changedBy operation (g .value) (r .status)))))
   unfolding modifyAccesses modified
   modified-on operation n r p = by-test (p .accumulator)
     where
-      by-test : (t : Bool) → (let g : Got = cond t (got (r .a) (p .bus)) (readOf answers memory (p .address) true (p .bus)) in
+      by-test : (t : Bool)
+          → (let g : Got = cond t (got (r .a) (p .bus)) (readOf answers memory (p .address) true (p .bus)) in
           Same (p .bus)
           (left (cond t (ends (conclusion (intoA (changedBy operation (r .a) (r .status)) r) n))
           (reads true (p .address) (λ v. storeBack n (locatedAt p) r (changedBy operation v (r .status))))))
           (outcomeOf noWrites (cond t
           (quiet (intoA (changedBy operation (g .value) (r .status)) r) n (g .bus))
-          (stored (operandOf n p g) (withStatus (changedBy operation (g .value) (r .status) .status) r) (changedBy operation (g .value) (r .status) .value)))))
+          (stored (operandOf n p g) (withStatus (changedBy operation (g .value) (r .status) .status) r)
+          (changedBy operation (g .value) (r .status) .value)))))
       by-test true = ends-on (p .bus) _
       by-test false =
           let g = readOf answers memory (p .address) true (p .bus) in
@@ -205,7 +241,8 @@ module _ (answers memory : List ℕ) where
 
   -- the operand's place comes first
   located-first : (mode : Mode) (r : CpuRegisters) (b : Bus) (next : Located → Accesses Conclusion) (o : Outcome)
-      → (let p : Place = locateOf answers memory mode r b in Same (p .bus) (left (next (locatedAt p))) o) → Same b (left (located mode r >>= next)) o
+      → (let p : Place = locateOf answers memory mode r b in Same (p .bus) (left (next (locatedAt p))) o)
+      → Same b (left (located mode r >>= next)) o
   located-first mode r b next o same =
       ap (λ t. outcomeFrom (onwards answers memory [] b t)) (then-then (located mode r) next _)
       ∙ ap outcomeFrom (locate-on answers memory mode r b (λ p. left (next p))) ∙ same
@@ -219,7 +256,8 @@ module _ (answers memory : List ℕ) where
   missed x w worked a b m = by-tests (isRegister a) (ltb (b .used) (length answers))
     where
       by-tests : (t u : Bool) → Asked (askWith x b)
-          ≡ (let c : Bus = cond t (cond u (answered answers b) (got 0 (asking a false b))) (got (writtenOver w a (memoryByte memory a)) b) .bus in
+          ≡ (let c : Bus = cond t (cond u (answered answers b) (got 0 (asking a false b)))
+          (got (writtenOver w a (memoryByte memory a)) b) .bus in
           cond (c .missing) (Asked (askWith x c)) (Done worked))
       by-tests true true = rw m
       by-tests true false = rw m
@@ -236,25 +274,31 @@ module _ (answers memory : List ℕ) where
       Same b
       (writes (stackAddress (r .sp)) (high next) (writes (stackAddress (down (r .sp))) (low next)
       (reads false next (λ v. ends (leaves (conclusion (withPc (word v l) (withSp (down (down (r .sp))) r)) n))))))
-      (outcomeOf (writesAsked b w) (executed (withPc (word (h .value) l) (withSp (down (down (r .sp))) r)) (written.Pushed w) n (h .bus))))
+      (outcomeOf (writesAsked b w)
+      (executed (withPc (word (h .value) l) (withSp (down (down (r .sp))) r)) (written.Pushed w) n (h .bus))))
   unfolding onwards asked writesAsked inOrder byteAfter writtenOver pushWord
   pushed-call r n l next b = by-answer (b .missing) refl
     where
       by-answer : (t : Bool) → b .missing ≡ t
           → (let w : Writes = pushWord (r .sp) next in let h : Got = readAfter answers memory w next b in
-          outcomeFrom (cond t (asks (b .latch) (b .address) []) (asked memory (drop (b .used) answers) (pushHigh (r .sp) next ∷ pushLow (r .sp) next ∷ [])
+          outcomeFrom (cond t (asks (b .latch) (b .address) [])
+          (asked memory (drop (b .used) answers) (pushHigh (r .sp) next ∷ pushLow (r .sp) next ∷ [])
           (reads false next (λ v. ends (leaves (conclusion (withPc (word v l) (withSp (down (down (r .sp))) r)) n))))))
-          ≡ outcomeOf (cond t noWrites w) (executed (withPc (word (h .value) l) (withSp (down (down (r .sp))) r)) (written.Pushed w) n (h .bus)))
+          ≡ outcomeOf (cond t noWrites w)
+          (executed (withPc (word (h .value) l) (withSp (down (down (r .sp))) r)) (written.Pushed w) n (h .bus)))
       by-answer true m = missed noWrites (pushWord (r .sp) next) _ next b m
       by-answer false m =
           let w = pushWord (r .sp) next in
           let h = readAfter answers memory w next b in
           let pushes : List Write = pushHigh (r .sp) next ∷ pushLow (r .sp) next ∷ [] in
-          let go : ℕ → Accesses Ending = λ v. ends (leaves (conclusion (withPc (word v l) (withSp (down (down (r .sp))) r)) n)) in
-          ap outcomeFrom (sym (none-missing pushes b (reads false next go) m) ∙ read-after-on answers memory pushes w next b go refl)
+          let go : ℕ → Accesses Ending =
+          λ v. ends (leaves (conclusion (withPc (word v l) (withSp (down (down (r .sp))) r)) n)) in
+          ap outcomeFrom
+          (sym (none-missing pushes b (reads false next go) m) ∙ read-after-on answers memory pushes w next b go refl)
           ∙ ends-after pushes (h .bus) (conclusion (withPc (word (h .value) l) (withSp (down (down (r .sp))) r)) n)
 
-  call-on : (r : CpuRegisters) (n : ℕ) (b : Bus) → Same b (left (callAccesses n r)) (subroutineCall answers memory r n b)
+  call-on : (r : CpuRegisters) (n : ℕ) (b : Bus)
+      → Same b (left (callAccesses n r)) (subroutineCall answers memory r n b)
   unfolding callAccesses subroutineCall fetchOf
   call-on r n b =
       let l = fetchOf answers memory (r .pc) b in
@@ -271,44 +315,62 @@ module _ (answers memory : List ℕ) where
   execute-on (operation.Read o) mode n r b =
       let p = locateOf answers memory mode r b in
       let g = readOf answers memory (p .address) false (p .bus) in
-      located-first mode r b _ _ (ap outcomeFrom (read-on answers memory (p .address) false (p .bus) _) ∙ completed-on (operandOf n p g) _ (p .pc))
+      located-first mode r b _ _
+      (ap outcomeFrom (read-on answers memory (p .address) false (p .bus) _) ∙ completed-on (operandOf n p g) _ (p .pc))
   execute-on (operation.Modify o) mode n r b =
       let p = locateOf answers memory mode r b in
       located-first mode r b _ _ (modified-on o n (withPc (p .pc) r) p)
-  execute-on (operation.Store o) mode n r b = let p = locateOf answers memory mode r b in located-first mode r b _ _ (stored-on (unread n p) _ _ (p .pc))
-  execute-on (operation.Branch o) mode n r b = let p = locateOf answers memory mode r b in located-first mode r b _ _ (branched-on (unread n p) _ _ (p .pc))
+  execute-on (operation.Store o) mode n r b =
+      let p = locateOf answers memory mode r b in located-first mode r b _ _ (stored-on (unread n p) _ _ (p .pc))
+  execute-on (operation.Branch o) mode n r b =
+      let p = locateOf answers memory mode r b in located-first mode r b _ _ (branched-on (unread n p) _ _ (p .pc))
   execute-on (operation.BitBranch o) mode n r b =
       let p = locateOf answers memory mode r b in
       let g = readOf answers memory (p .address) false (p .bus) in
-      located-first mode r b _ _ (ap outcomeFrom (read-on answers memory (p .address) false (p .bus) _) ∙ bit-branched-on (operandOf n p g) _ _)
-  execute-on (operation.Push o) mode n r b = let p = locateOf answers memory mode r b in located-first mode r b _ _ (pushed-on (unread n p) _ _)
-  execute-on (operation.Pull o) mode n r b = let p = locateOf answers memory mode r b in located-first mode r b _ _ (pulled-on o (unread n p) _)
-  execute-on (operation.Register o) mode n r b = let p = locateOf answers memory mode r b in located-first mode r b _ _ (completed-on (unread n p) _ (p .pc))
-  execute-on (operation.Flag o) mode n r b = let p = locateOf answers memory mode r b in located-first mode r b _ _ (completed-on (unread n p) _ (p .pc))
-  execute-on operation.Brk mode n r b = let p = locateOf answers memory mode r b in located-first mode r b _ _ (break-on (unread n p) _)
-  execute-on operation.Jmp mode n r b = let p = locateOf answers memory mode r b in located-first mode r b _ _ (jumped-on (unread n p) _ (p .pc))
+      located-first mode r b _ _
+      (ap outcomeFrom (read-on answers memory (p .address) false (p .bus) _) ∙ bit-branched-on (operandOf n p g) _ _)
+  execute-on (operation.Push o) mode n r b =
+      let p = locateOf answers memory mode r b in located-first mode r b _ _ (pushed-on (unread n p) _ _)
+  execute-on (operation.Pull o) mode n r b =
+      let p = locateOf answers memory mode r b in located-first mode r b _ _ (pulled-on o (unread n p) _)
+  execute-on (operation.Register o) mode n r b =
+      let p = locateOf answers memory mode r b in located-first mode r b _ _ (completed-on (unread n p) _ (p .pc))
+  execute-on (operation.Flag o) mode n r b =
+      let p = locateOf answers memory mode r b in located-first mode r b _ _ (completed-on (unread n p) _ (p .pc))
+  execute-on operation.Brk mode n r b =
+      let p = locateOf answers memory mode r b in located-first mode r b _ _ (break-on (unread n p) _)
+  execute-on operation.Jmp mode n r b =
+      let p = locateOf answers memory mode r b in located-first mode r b _ _ (jumped-on (unread n p) _ (p .pc))
   execute-on operation.Jsr mode n r b = call-on r n b
-  execute-on operation.Nop mode n r b = let p = locateOf answers memory mode r b in located-first mode r b _ _ (completed-on (unread n p) _ (p .pc))
-  execute-on operation.Rti mode n r b = let p = locateOf answers memory mode r b in located-first mode r b _ _ (resumed-on (unread n p) _)
-  execute-on operation.Rts mode n r b = let p = locateOf answers memory mode r b in located-first mode r b _ _ (returned-on (unread n p) _)
+  execute-on operation.Nop mode n r b =
+      let p = locateOf answers memory mode r b in located-first mode r b _ _ (completed-on (unread n p) _ (p .pc))
+  execute-on operation.Rti mode n r b =
+      let p = locateOf answers memory mode r b in located-first mode r b _ _ (resumed-on (unread n p) _)
+  execute-on operation.Rts mode n r b =
+      let p = locateOf answers memory mode r b in located-first mode r b _ _ (returned-on (unread n p) _)
 
-  decoded-on : (d : Decoded) (r : CpuRegisters) (b : Bus) → b .missing ≡ false → Same b (opcodeAccesses r d) (decodedTo answers memory r b d)
+  decoded-on : (d : Decoded) (r : CpuRegisters) (b : Bus) → b .missing ≡ false
+      → Same b (opcodeAccesses r d) (decodedTo answers memory r b d)
   unfolding onwards asked
   decoded-on decoded.Undefined r b m = rw m
   decoded-on (decoded.Defined e) r b m = execute-on (e .operation) (e .mode) (e .length) r b
 
   -- the opcode is fetched, and goes its way
-  opcode-on : (r : CpuRegisters) (b : Bus) (d : Decoded) → Same b (opcodeAccesses r d) (cond (b .missing) (Asked (askWith noWrites b)) (decodedTo answers memory r b d))
+  opcode-on : (r : CpuRegisters) (b : Bus) (d : Decoded)
+      → Same b (opcodeAccesses r d) (cond (b .missing) (Asked (askWith noWrites b)) (decodedTo answers memory r b d))
   unfolding onwards inOrder
   opcode-on r b d = by-answer (b .missing) refl
     where
-      by-answer : (t : Bool) → b .missing ≡ t → Same b (opcodeAccesses r d) (cond t (Asked (askWith noWrites b)) (decodedTo answers memory r b d))
+      by-answer : (t : Bool) → b .missing ≡ t
+          → Same b (opcodeAccesses r d) (cond t (Asked (askWith noWrites b)) (decodedTo answers memory r b d))
       by-answer true m = rw m
       by-answer false m = decoded-on d r b m
 
-  pub instruction-asked : (r : CpuRegisters) → instructionOf r answers memory ≡ outcomeFrom (asked memory answers [] (instructionAccesses r))
+  pub instruction-asked : (r : CpuRegisters)
+      → instructionOf r answers memory ≡ outcomeFrom (asked memory answers [] (instructionAccesses r))
   unfolding instructionOf instructionAccesses fetchOf
   instruction-asked r =
       let f = fetchOf answers memory (r .pc) idle in
-      sym (ap outcomeFrom (sym (onwards-idle answers memory (instructionAccesses r)) ∙ fetch-on answers memory (r .pc) idle _)
+      sym (ap outcomeFrom
+      (sym (onwards-idle answers memory (instructionAccesses r)) ∙ fetch-on answers memory (r .pc) idle _)
       ∙ opcode-on (withPc (f .pc) r) (f .bus) (decodeOf (f .value)))

@@ -86,7 +86,8 @@ subroutineCall answers memory r n b = callAfter answers memory r n (fetchOf answ
 -- a defined opcode; PC stands behind it
 unfoldable pub executeOf : List ℕ → List ℕ → Entry → CpuRegisters → Bus → Outcome
 executeOf answers memory e r b =
-    cond (isCall (accessOf (e .operation))) (subroutineCall answers memory r (e .length) b) (outcomeOf noWrites (carriedOut answers memory e r b))
+    cond (isCall (accessOf (e .operation))) (subroutineCall answers memory r (e .length) b)
+    (outcomeOf noWrites (carriedOut answers memory e r b))
 
 abbrev pub decodedTo : List ℕ → List ℕ → CpuRegisters → Bus → Decoded → Outcome
 decodedTo answers memory r b decoded.Undefined = Stopped undefinedStop
@@ -95,7 +96,8 @@ decodedTo answers memory r b (decoded.Defined e) = executeOf answers memory e r 
 -- an opcode that has to be asked for is no opcode yet
 abbrev pub opcodeFetched : List ℕ → List ℕ → CpuRegisters → Fetched → Outcome
 opcodeFetched answers memory r f =
-    cond (f .bus .missing) (Asked (askWith noWrites (f .bus))) (decodedTo answers memory (withPc (f .pc) r) (f .bus) (decodeOf (f .value)))
+    cond (f .bus .missing) (Asked (askWith noWrites (f .bus)))
+    (decodedTo answers memory (withPc (f .pc) r) (f .bus) (decodeOf (f .value)))
 
 unfoldable pub instructionOf : CpuRegisters → List ℕ → List ℕ → Outcome
 instructionOf r answers memory = opcodeFetched answers memory r (fetchOf answers memory (r .pc) idle)

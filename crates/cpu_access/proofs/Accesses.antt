@@ -7,7 +7,9 @@ use Prim.Native.Nat.{ℕ, suc}
 use Rattle.bits.specs.Bits.{wrapping8}
 use Rattle.bits.proofs.Cond.{cond-both}
 use Rattle.cpu_opcodes.specs.declared.Mode.{Mode}
-use Rattle.cpu_opcodes.specs.declared.Mode.the-variants.{Implied, Accumulator, Immediate, ZeroPage, ZeroPageX, ZeroPageY, Absolute, AbsoluteX, AbsoluteY, IndexedIndirect, IndirectIndexed, Indirect, Relative, ZeroPageRelative}
+use Rattle.cpu_opcodes.specs.declared.Mode.the-variants.{Implied, Accumulator, Immediate, ZeroPage, ZeroPageX}
+use Rattle.cpu_opcodes.specs.declared.Mode.the-variants.{ZeroPageY, Absolute, AbsoluteX, AbsoluteY, IndexedIndirect}
+use Rattle.cpu_opcodes.specs.declared.Mode.the-variants.{IndirectIndexed, Indirect, Relative, ZeroPageRelative}
 use Rattle.cpu_access.specs.declared.Bus.{Bus}
 use Rattle.cpu_access.specs.declared.Fetched.{Fetched}
 use Rattle.cpu_access.specs.declared.CpuRegisters.{CpuRegisters}
@@ -15,7 +17,8 @@ use Rattle.cpu_access.specs.declared.stack.Writes.{Writes}
 use Rattle.cpu_access.specs.Bus.{memoryByte, got, askOf, readOf, readWord, fetchOf, fetchWord}
 use Rattle.memory.specs.Memory.{isRegister}
 use Rattle.cpu_access.specs.Stack.{stackAddress, up, pullOf, pullWord, writtenOver, readAfter}
-use Rattle.cpu_access.specs.Modes.{zeroPageIndexed, zeroPagePointer, secondAddress, indexedBy, relativeTo, locateOf}
+use Rattle.cpu_access.specs.Modes.{zeroPageIndexed, zeroPagePointer, secondAddress, indexedBy, relativeTo}
+use Rattle.cpu_access.specs.Modes.{locateOf}
 
 -- the reads so far, with those of an addressing mode
 abbrev pub readsOfMode : Mode → ℕ → ℕ
@@ -36,7 +39,8 @@ readsOfMode ZeroPageRelative k = suc k
 
 module _ (P : ℕ → Bus → Type 0) (answers memory : List ℕ)
     (more : (k : ℕ) (b : Bus) → P k b → P (suc k) b)
-    (asks : (k a : ℕ) (latch : Bool) (b : Bus) → isRegister a ≡ true → P k b → P (suc k) (askOf answers a latch b .bus)) where
+    (asks : (k a : ℕ) (latch : Bool) (b : Bus) → isRegister a ≡ true → P k b
+    → P (suc k) (askOf answers a latch b .bus)) where
   pub read-keeps : (k a : ℕ) (latch : Bool) (b : Bus) → P k b → P (suc k) (readOf answers memory a latch b .bus)
   unfolding readOf
   read-keeps k a latch b h =
@@ -44,16 +48,19 @@ module _ (P : ℕ → Bus → Type 0) (answers memory : List ℕ)
       (λ e. asks k a latch b e h)
       (λ e. more k b h)
 
-  pub read-after-keeps : (k : ℕ) (w : Writes) (a : ℕ) (b : Bus) → P k b → P (suc k) (readAfter answers memory w a b .bus)
+  pub read-after-keeps : (k : ℕ) (w : Writes) (a : ℕ) (b : Bus) → P k b
+      → P (suc k) (readAfter answers memory w a b .bus)
   unfolding readAfter
   read-after-keeps k w a b h =
-      cond-both (λ g. P (suc k) (g .bus)) (isRegister a) (askOf answers a false b) (got (writtenOver w a (memoryByte memory a)) b)
+      cond-both (λ g. P (suc k) (g .bus)) (isRegister a) (askOf answers a false b)
+      (got (writtenOver w a (memoryByte memory a)) b)
       (λ e. asks k a false b e h)
       (λ e. more k b h)
 
   pub read-word-keeps : (k a c : ℕ) (b : Bus) → P k b → P (suc (suc k)) (readWord answers memory a c b .bus)
   unfolding readWord
-  read-word-keeps k a c b h = read-keeps (suc k) c false (readOf answers memory a false b .bus) (read-keeps k a false b h)
+  read-word-keeps k a c b h =
+      read-keeps (suc k) c false (readOf answers memory a false b .bus) (read-keeps k a false b h)
 
   pub fetch-keeps : (k pc : ℕ) (b : Bus) → P k b → P (suc k) (fetchOf answers memory pc b .bus)
   unfolding fetchOf
@@ -86,7 +93,8 @@ module _ (P : ℕ → Bus → Type 0) (answers memory : List ℕ)
   unfolding zeroPagePointer
   pointer-keeps k z b h = read-word-keeps k z (wrapping8 z 1) b h
 
-  pub locate-keeps : (mode : Mode) (k : ℕ) (r : CpuRegisters) (b : Bus) → P k b → P (readsOfMode mode k) (locateOf answers memory mode r b .bus)
+  pub locate-keeps : (mode : Mode) (k : ℕ) (r : CpuRegisters) (b : Bus) → P k b
+      → P (readsOfMode mode k) (locateOf answers memory mode r b .bus)
   unfolding locateOf
   locate-keeps Implied k r b h = h
   locate-keeps Accumulator k r b h = h
@@ -107,7 +115,8 @@ module _ (P : ℕ → Bus → Type 0) (answers memory : List ℕ)
   locate-keeps IndirectIndexed k r b h =
       let f = fetchOf answers memory (r .pc) b in
       let w = zeroPagePointer answers memory (f .value) (f .bus) in
-      indexed-keeps (suc (suc (suc k))) (r .y) (w .value) (f .pc) (w .bus) (pointer-keeps (suc k) (f .value) (f .bus) (fetch-keeps k (r .pc) b h))
+      indexed-keeps (suc (suc (suc k))) (r .y) (w .value) (f .pc) (w .bus)
+      (pointer-keeps (suc k) (f .value) (f .bus) (fetch-keeps k (r .pc) b h))
   locate-keeps Indirect k r b h =
       let f = fetchWord answers memory (r .pc) b in
       read-word-keeps (suc (suc k)) (f .value) (secondAddress (f .value)) (f .bus) (fetch-word-keeps k (r .pc) b h)

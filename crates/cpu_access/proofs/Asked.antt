@@ -37,20 +37,25 @@ asked memory answers before (writes a v t) = asked memory answers (before ++ (wr
 -- what follows after the reads that a bus has seen: nothing where an answer was missing, else with the answers that are
 -- left
 unfoldable pub onwards : {A : Type 0} → List ℕ → List ℕ → List Write → Bus → Accesses A → Reply A
-onwards answers memory before b t = cond (b .missing) (asks (b .latch) (b .address) before) (asked memory (drop (b .used) answers) before t)
+onwards answers memory before b t =
+    cond (b .missing) (asks (b .latch) (b .address) before) (asked memory (drop (b .used) answers) before t)
 
-module _ {A : Type 0} (answers memory : List ℕ) (before : List Write) (latch : Bool) (a : ℕ) (b : Bus) (go : ℕ → Accesses A) where
+module _ {A : Type 0} (answers memory : List ℕ) (before : List Write) (latch : Bool) (a : ℕ) (b : Bus)
+    (go : ℕ → Accesses A) where
   ask-follows : isRegister a ≡ true
-      → onwards answers memory before b (reads latch a go) ≡ onwards answers memory before (askOf answers a latch b .bus) (go (askOf answers a latch b .value))
+      → onwards answers memory before b (reads latch a go)
+      ≡ onwards answers memory before (askOf answers a latch b .bus) (go (askOf answers a latch b .value))
   unfolding onwards asked askOf
   ask-follows e = rw e (by-answer (ltb (b .used) (length answers)) refl (b .missing) refl)
     where
       by-answer : (t : Bool) → ltb (b .used) (length answers) ≡ t → (m : Bool) → b .missing ≡ m
           → cond m (asks (b .latch) (b .address) before)
           (nextAnswer (λ v rest. asked memory rest before (go v)) (asks latch a before) (drop (b .used) answers))
-          ≡ (let g : Got = cond t (answered answers b) (got 0 (asking a latch b)) in onwards answers memory before (g .bus) (go (g .value)))
+          ≡ (let g : Got = cond t (answered answers b) (got 0 (asking a latch b)) in
+          onwards answers memory before (g .bus) (go (g .value)))
       by-answer true l true m = rw m
-      by-answer true l false m = rw (m, drop-cons answers (b .used) 0 (ltb-true (b .used) (length answers) l), add-one (b .used))
+      by-answer true l false m =
+          rw (m, drop-cons answers (b .used) 0 (ltb-true (b .used) (length answers) l), add-one (b .used))
       by-answer false l true m = rw m
       by-answer false l false m = rw (m, drop-of-length-le answers (ltb-false (b .used) (length answers) l))
 
@@ -68,6 +73,7 @@ module _ {A : Type 0} (answers memory : List ℕ) (before : List Write) (latch :
       by-place false e = rw (e, h)
 
 -- none is missing yet
-pub onwards-idle : {A : Type 0} (answers memory : List ℕ) (t : Accesses A) → onwards answers memory [] idle t ≡ asked memory answers [] t
+pub onwards-idle : {A : Type 0} (answers memory : List ℕ) (t : Accesses A)
+    → onwards answers memory [] idle t ≡ asked memory answers [] t
 unfolding onwards
 onwards-idle answers memory t = refl

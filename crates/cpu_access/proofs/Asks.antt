@@ -35,12 +35,15 @@ unfolding AsksRegister
 register-more k b h = h
 
 pub register-asks :
-    (answers : List ℕ) (k a : ℕ) (latch : Bool) (b : Bus) → isRegister a ≡ true → AsksRegister k b → AsksRegister (suc k) (askOf answers a latch b .bus)
+    (answers : List ℕ) (k a : ℕ) (latch : Bool) (b : Bus) → isRegister a ≡ true → AsksRegister k b
+    → AsksRegister (suc k) (askOf answers a latch b .bus)
 unfolding AsksRegister askOf
 register-asks answers k a latch b e h =
-    cond-both (λ g. g .bus .missing ≡ true → g .bus .address < 0x40) (ltb (b .used) (length answers)) (answered answers b) (got 0 (asking a latch b))
+    cond-both (λ g. g .bus .missing ≡ true → g .bus .address < 0x40) (ltb (b .used) (length answers))
+    (answered answers b) (got 0 (asking a latch b))
     (λ t. h)
-    (λ t. cond-both (λ q. q .missing ≡ true → q .address < 0x40) (b .missing) b (record { used = b .used; missing = true; latch = latch; address = a }) (λ m. h) (λ m n. ltb-true a 0x40 e))
+    (λ t. cond-both (λ q. q .missing ≡ true → q .address < 0x40) (b .missing) b
+    (record { used = b .used; missing = true; latch = latch; address = a }) (λ m. h) (λ m n. ltb-true a 0x40 e))
 
 pub idle-answered : (answers : List ℕ) → Answered answers 0 idle
 unfolding Answered
@@ -53,10 +56,12 @@ answered-more answers k b h l =
     record { given = w .given; used = omega (arith, w .used) }
 
 pub answered-asks :
-    (answers : List ℕ) (k a : ℕ) (latch : Bool) (b : Bus) → isRegister a ≡ true → Answered answers k b → Answered answers (suc k) (askOf answers a latch b .bus)
+    (answers : List ℕ) (k a : ℕ) (latch : Bool) (b : Bus) → isRegister a ≡ true → Answered answers k b
+    → Answered answers (suc k) (askOf answers a latch b .bus)
 unfolding Answered askOf
 answered-asks answers k a latch b e h l =
     let w : Within k b = h (omega arith) in
-    cond-both (λ g. Within (suc k) (g .bus)) (ltb (b .used) (length answers)) (answered answers b) (got 0 (asking a latch b))
+    cond-both (λ g. Within (suc k) (g .bus)) (ltb (b .used) (length answers)) (answered answers b)
+    (got 0 (asking a latch b))
     (λ t. record { given = w .given; used = omega (arith, w .used) })
     (λ t. absurd (let f = ltb-false (b .used) (length answers) t in omega (arith, w .used)))

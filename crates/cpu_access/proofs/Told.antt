@@ -41,13 +41,19 @@ inTurn f (x ∷ later) a = inTurn f later (f x a)
 -- what is done with each write, where nothing is done with one that is not there
 module _ {A : Type 0} (put : Bool → Write → A → A) (none : (x : Write) (a : A) → put false x a ≡ a) where
   by-count : (count : ℕ) (x y z : Write) (a : A)
-      → eachWrite put (record { count = count; first = x; second = y; third = z }) a ≡ inTurn (put true) (take count (x ∷ y ∷ z ∷ [])) a
+      → eachWrite put (record { count = count; first = x; second = y; third = z }) a
+      ≡ inTurn (put true) (take count (x ∷ y ∷ z ∷ [])) a
   by-count zero x y z a = none z _ ∙ none y _ ∙ none x a
   by-count (suc zero) x y z a = none z _ ∙ none y _
   by-count (suc (suc zero)) x y z a = none z _
   by-count (suc (suc (suc n))) x y z a =
       let m = suc (suc (suc n)) in
-      rw (lt-ltb 0 m (omega arith), lt-ltb 1 m (omega arith), lt-ltb 2 m (omega arith), take-all m (x ∷ y ∷ z ∷ []) (omega arith))
+      rw (
+        lt-ltb 0 m (omega arith),
+        lt-ltb 1 m (omega arith),
+        lt-ltb 2 m (omega arith),
+        take-all m (x ∷ y ∷ z ∷ []) (omega arith),
+      )
 
   pub each-told : (w : Writes) (a : A) → eachWrite put w a ≡ inTurn (put true) (told w) a
   each-told w a = by-count (w .count) (w .first) (w .second) (w .third) a
@@ -67,7 +73,8 @@ module _ (address : ℕ) where
 
   found-once : (l : List Write) (b : Bool) → inTurn (found true) l b ≡ (b || toldAt address l)
   found-once [] b = sym (or-none b)
-  found-once (x ∷ later) b = found-once later (b || eqb (x .address) address) ∙ grouped b (eqb (x .address) address) (toldAt address later)
+  found-once (x ∷ later) b =
+      found-once later (b || eqb (x .address) address) ∙ grouped b (eqb (x .address) address) (toldAt address later)
     where
       grouped : (p q r : Bool) → ((p || q) || r) ≡ (p || (q || r))
       grouped true q r = refl

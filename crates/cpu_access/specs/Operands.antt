@@ -3,7 +3,9 @@ use mathlib.Core.Bool.{Bool, true, false}
 use Prim.Native.Nat.{ℕ}
 use Rattle.bits.specs.Bits.{wrapping8, wrapping16}
 use Rattle.cpu_opcodes.specs.declared.Mode.{Mode}
-use Rattle.cpu_opcodes.specs.declared.Mode.the-variants.{Implied, Accumulator, Immediate, ZeroPage, ZeroPageX, ZeroPageY, Absolute, AbsoluteX, AbsoluteY, IndexedIndirect, IndirectIndexed, Indirect, Relative, ZeroPageRelative}
+use Rattle.cpu_opcodes.specs.declared.Mode.the-variants.{Implied, Accumulator, Immediate, ZeroPage, ZeroPageX}
+use Rattle.cpu_opcodes.specs.declared.Mode.the-variants.{ZeroPageY, Absolute, AbsoluteX, AbsoluteY, IndexedIndirect}
+use Rattle.cpu_opcodes.specs.declared.Mode.the-variants.{IndirectIndexed, Indirect, Relative, ZeroPageRelative}
 use Rattle.cpu_access.specs.declared.CpuRegisters.{CpuRegisters}
 use Rattle.cpu_access.specs.Bus.{nextAddress}
 use Rattle.cpu_access.specs.Modes.{otherPage, zeroPageIndexed, secondAddress, displacement}

@@ -3,7 +3,8 @@
 // result is thrown away. All other addresses are read from the lent memory. Nothing is written: the writes are handed
 // on.
 ghost use mathlib.Core.Path.{_≡_};
-ghost use Rattle.cpu_access.specs.Bus.{nextAddress, memoryByte, vectorOf, idle, askOf, readOf, readWord, fetchOf, fetchWord};
+ghost use Rattle.cpu_access.specs.Bus.{nextAddress, memoryByte, vectorOf, idle, askOf, readOf, readWord, fetchOf};
+ghost use Rattle.cpu_access.specs.Bus.{fetchWord};
 ghost use Rattle.memory.specs.Memory.{isRegister};
 use cpu_alu::Status;
 use memory::is_register;

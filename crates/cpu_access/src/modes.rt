@@ -1,6 +1,9 @@
 // Addressing modes: where the operand lies, whether finding it crossed a page, and PC past the operand bytes.
 ghost use mathlib.Core.Path.{_≡_};
-ghost use Rattle.cpu_access.specs.Modes.{placeAt, noPlace, otherPage, zeroPageIndexed, atZeroPage, atZeroPageIndexed, atAbsolute, atIndexed, atIndexedIndirect, atIndirectIndexed, atIndirect, crossing, indexedBy, zeroPagePointer, secondAddress, displacement, relativeTo, locateOf};
+ghost use Rattle.cpu_access.specs.Modes.{placeAt, noPlace, otherPage, zeroPageIndexed, atZeroPage};
+ghost use Rattle.cpu_access.specs.Modes.{atZeroPageIndexed, atAbsolute, atIndexed, atIndexedIndirect};
+ghost use Rattle.cpu_access.specs.Modes.{atIndirectIndexed, atIndirect, crossing, indexedBy, zeroPagePointer};
+ghost use Rattle.cpu_access.specs.Modes.{secondAddress, displacement, relativeTo, locateOf};
 use crate::Bus;
 use crate::CpuRegisters;
 use crate::Fetched;

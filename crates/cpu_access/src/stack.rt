@@ -1,6 +1,8 @@
 // The writes of an instruction, in order, and the stack, which lies in the zero page.
 ghost use mathlib.Core.Path.{_≡_};
-ghost use Rattle.cpu_access.specs.Stack.{writeAt, noWrite, noWrites, oneWrite, twoWrites, threeWrites, stackAddress, down, up, pushAt, pushHigh, pushLow, pushWord, pushInterrupt, pullOf, pullWord, writtenOver, readAfter};
+ghost use Rattle.cpu_access.specs.Stack.{writeAt, noWrite, noWrites, oneWrite, twoWrites, threeWrites};
+ghost use Rattle.cpu_access.specs.Stack.{stackAddress, down, up, pushAt, pushHigh, pushLow, pushWord};
+ghost use Rattle.cpu_access.specs.Stack.{pushInterrupt, pullOf, pullWord, writtenOver, readAfter};
 use crate::Bus;
 use crate::Got;
 use memory::is_register;

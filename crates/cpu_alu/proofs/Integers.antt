@@ -10,7 +10,8 @@ use Rattle.bits.proofs.Cond.{cond-both}
 
 -- by which of two numbers is the greater
 pub by-less : {A : Type 0} (x y : ℕ) → (x < y → A) → (y ≤ x → A) → A
-by-less {A} x y f g = cond-both {A = Bool} (λ b. A) (ltb x y) true false (λ h. f (ltb-true x y h)) (λ h. g (ltb-false x y h))
+by-less {A} x y f g =
+    cond-both {A = Bool} (λ b. A) (ltb x y) true false (λ h. f (ltb-true x y h)) (λ h. g (ltb-false x y h))
 
 -- x - y
 pub sub-neg : (x y : ℕ) → x < y → subℕ x y ≡ negsuc (y - suc x)
@@ -30,8 +31,10 @@ pub sub-add : (x y u v : ℕ) → subℕ x y +ℤ subℕ u v ≡ subℕ (x + u) 
 sub-add x y u v =
     by-less x y
     (λ p. by-less u v
-    (λ q. let r : x + u < y + v = omega arith in rw (sub-neg x y p, sub-neg u v q, sub-neg (x + u) (y + v) r) (ap negsuc (omega arith)))
+    (λ q. let r : x + u < y + v = omega arith in
+    rw (sub-neg x y p, sub-neg u v q, sub-neg (x + u) (y + v) r) (ap negsuc (omega arith)))
     (λ q. rw (sub-neg x y p, sub-pos u v q) (sub-same (u - v) (suc (y - suc x)) (x + u) (y + v) (omega arith))))
     (λ p. by-less u v
     (λ q. rw (sub-pos x y p, sub-neg u v q) (sub-same (x - y) (suc (v - suc u)) (x + u) (y + v) (omega arith)))
-    (λ q. let r : y + v ≤ x + u = omega arith in rw (sub-pos x y p, sub-pos u v q, sub-pos (x + u) (y + v) r) (ap pos (omega arith))))
+    (λ q. let r : y + v ≤ x + u = omega arith in
+    rw (sub-pos x y p, sub-pos u v q, sub-pos (x + u) (y + v) r) (ap pos (omega arith))))

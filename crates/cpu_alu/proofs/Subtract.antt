@@ -13,7 +13,8 @@ use Rattle.cpu_alu.specs.declared.Computed.{Computed}
 use Rattle.cpu_alu.proofs.Integers.{by-less}
 use Rattle.bits.proofs.Cond.{digit-not}
 
-pub subtract-value : (a m : ℕ) (s : Status) → m < 256 → subtractBinary a m s .value ≡ (a + 256 - (m + digit (not (s .c)))) % 256
+pub subtract-value : (a m : ℕ) (s : Status) → m < 256
+    → subtractBinary a m s .value ≡ (a + 256 - (m + digit (not (s .c)))) % 256
 unfolding addBinary
 subtract-value a m s h = let o = digit-not (s .c) in omega arith
 

@@ -2,7 +2,8 @@
 ghost use mathlib.Core.Path.{_≡_};
 ghost use Prim.Native.Nat.{_<_};
 ghost use lib.IntN.{subℕ};
-ghost use Rattle.cpu_alu.specs.Arithmetic.{overflow, addBinary, lowSum, corrected, addDecimal, adcOf, lowDifference, borrowed, decimalDifference, sbcOf, compareOf};
+ghost use Rattle.cpu_alu.specs.Arithmetic.{overflow, addBinary, lowSum, corrected, addDecimal, adcOf};
+ghost use Rattle.cpu_alu.specs.Arithmetic.{lowDifference, borrowed, decimalDifference, sbcOf, compareOf};
 use crate::Computed;
 use crate::Status;
 use bits::digit8;

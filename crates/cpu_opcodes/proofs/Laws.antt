@@ -42,7 +42,8 @@ abbrev pub passes : (Entry → Bool) → Decoded → Bool
 passes p Undefined = true
 passes p (Defined e) = p e
 
-pub looked-up : (p : Entry → Bool) (o : ℕ) (rs : List Row) → T (allOf (λ r. p (r .entry)) rs) → T (passes p (lookUp o rs))
+pub looked-up : (p : Entry → Bool) (o : ℕ) (rs : List Row) → T (allOf (λ r. p (r .entry)) rs)
+    → T (passes p (lookUp o rs))
 looked-up p o [] t = tt
 looked-up p o (r ∷ rs) t =
     cond-both (λ d. T (passes p d)) (eqb o (r .opcode)) (Defined (r .entry)) (lookUp o rs)

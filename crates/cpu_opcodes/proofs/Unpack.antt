@@ -15,13 +15,19 @@ use Rattle.cpu_opcodes.specs.declared.Decoded.the-variants.{Undefined, D
 
 -- two functions with one list of values agree at each place of it
 pub same-at : {A : Type 0} (f g : ℕ → A) (n k : ℕ) → tabulate f n 0 ≡ tabulate g n 0 → k < n → f k ≡ g k
-same-at f g n k e h = rw (zero-add k) at (sym (getD-tabulate f n 0 k (f k) h) ∙ ap (λ l. getD l k (f k)) e ∙ getD-tabulate g n 0 k (f k) h)
+same-at f g n k e h =
+    rw (zero-add k)
+    at (sym (getD-tabulate f n 0 k (f k) h) ∙ ap (λ l. getD l k (f k)) e ∙ getD-tabulate g n 0 k (f k) h)
 
 -- the table's number e of opcode o, taken apart as the code does
 abbrev pub entryOf : ℕ → ℕ → Decoded
 entryOf o e =
     cond (eqb e 0) Undefined
-    (Defined (record { operation = operationOf (e / 4096) (e / 256 % 16) (o / 16 % 8); mode = modeOf (e / 16 % 16); length = e % 16 }))
+    (Defined (record {
+      operation = operationOf (e / 4096) (e / 256 % 16) (o / 16 % 8);
+      mode = modeOf (e / 16 % 16);
+      length = e % 16;
+    }))
 
 numbers-decode : tabulate (λ o. entryOf o (entryNumber (decodeOf o))) 256 0 ≡ tabulate decodeOf 256 0
 unfolding decodeOf
@@ -34,5 +40,6 @@ table-length = refl
 pub table-decodes : (o : ℕ) → o < 256 → entryOf o (getD opcodeTable o 0) ≡ decodeOf o
 unfolding opcodeTable
 table-decodes o h =
-    ap (entryOf o) (getD-tabulate (λ k. entryNumber (decodeOf k)) 256 0 o 0 h ∙ ap (λ k. entryNumber (decodeOf k)) (zero-add o))
+    ap (entryOf o)
+    (getD-tabulate (λ k. entryNumber (decodeOf k)) 256 0 o 0 h ∙ ap (λ k. entryNumber (decodeOf k)) (zero-add o))
     ∙ same-at (λ k. entryOf k (entryNumber (decodeOf k))) decodeOf 256 o numbers-decode h

@@ -5,18 +5,27 @@ use mathlib.Core.List.{List, [], _∷_, _++_}
 use Prim.Native.Nat.{ℕ, _+_, _*_}
 use Rattle.cpu_opcodes.specs.declared.Entry.{Entry}
 use Rattle.cpu_opcodes.specs.declared.operation.Operation.{Operation}
-use Rattle.cpu_opcodes.specs.declared.operation.Operation.the-variants.{Read, Modify, Store, Branch, BitBranch, Push, Pull, Register, Flag, Brk, Jmp, Jsr, Nop, Rti, Rts}
-use Rattle.cpu_opcodes.specs.declared.operation.ReadOperation.the-variants.{Adc, And, Bit, Cmp, Cpx, Cpy, Eor, Lda, Ldx, Ldy, Ora, Sbc}
-use Rattle.cpu_opcodes.specs.declared.operation.ModifyOperation.the-variants.{Asl, Dec, Inc, Lsr, Rol, Ror, Rmb, Smb}
+use Rattle.cpu_opcodes.specs.declared.operation.Operation.the-variants.{Read, Modify, Store, Branch, BitBranch}
+use Rattle.cpu_opcodes.specs.declared.operation.Operation.the-variants.{Push, Pull, Register, Flag, Brk, Jmp, Jsr}
+use Rattle.cpu_opcodes.specs.declared.operation.Operation.the-variants.{Nop, Rti, Rts}
+use Rattle.cpu_opcodes.specs.declared.operation.ReadOperation.the-variants.{Adc, And, Bit, Cmp, Cpx, Cpy, Eor}
+use Rattle.cpu_opcodes.specs.declared.operation.ReadOperation.the-variants.{Lda, Ldx, Ldy, Ora, Sbc}
+use Rattle.cpu_opcodes.specs.declared.operation.ModifyOperation.the-variants.{Asl, Dec, Inc, Lsr, Rol, Ror, Rmb}
+use Rattle.cpu_opcodes.specs.declared.operation.ModifyOperation.the-variants.{Smb}
 use Rattle.cpu_opcodes.specs.declared.operation.StoreOperation.the-variants.{Sta, Stx, Sty}
-use Rattle.cpu_opcodes.specs.declared.operation.BranchOperation.the-variants.{Bcc, Bcs, Beq, Bmi, Bne, Bpl, Bvc, Bvs}
+use Rattle.cpu_opcodes.specs.declared.operation.BranchOperation.the-variants.{Bcc, Bcs, Beq, Bmi, Bne, Bpl, Bvc}
+use Rattle.cpu_opcodes.specs.declared.operation.BranchOperation.the-variants.{Bvs}
 use Rattle.cpu_opcodes.specs.declared.operation.BitBranchOperation.the-variants.{Bbr, Bbs}
 use Rattle.cpu_opcodes.specs.declared.operation.PushOperation.the-variants.{Pha, Php}
 use Rattle.cpu_opcodes.specs.declared.operation.PullOperation.the-variants.{Pla, Plp}
-use Rattle.cpu_opcodes.specs.declared.operation.RegisterOperation.the-variants.{Dex, Dey, Inx, Iny, Tax, Tay, Tsx, Txa, Txs, Tya}
+use Rattle.cpu_opcodes.specs.declared.operation.RegisterOperation.the-variants.{Dex, Dey, Inx, Iny, Tax, Tay, Tsx}
+use Rattle.cpu_opcodes.specs.declared.operation.RegisterOperation.the-variants.{Txa, Txs, Tya}
 use Rattle.cpu_opcodes.specs.declared.operation.FlagOperation.the-variants.{Clc, Cld, Cli, Clv, Sec, Sed, Sei}
 use Rattle.cpu_opcodes.specs.declared.Mode.{Mode}
-use Rattle.cpu_opcodes.specs.declared.Mode.the-variants.{Implied, Accumulator, Immediate, ZeroPage, ZeroPageX, ZeroPageY, Absolute, AbsoluteX, AbsoluteY, IndexedIndirect, IndirectIndexed, Indirect, Relative, ZeroPageRelative}
+use Rattle.cpu_opcodes.specs.declared.Mode.the-variants.{Implied, Accumulator, Immediate, ZeroPage, ZeroPageX}
+use Rattle.cpu_opcodes.specs.declared.Mode.the-variants.{ZeroPageY, Absolute, AbsoluteX, AbsoluteY}
+use Rattle.cpu_opcodes.specs.declared.Mode.the-variants.{IndexedIndirect, IndirectIndexed, Indirect, Relative}
+use Rattle.cpu_opcodes.specs.declared.Mode.the-variants.{ZeroPageRelative}
 
 -- one line of the set; the length is in clocks, without those that a page crossing or a taken branch adds
 pub record Row : Type 0 where
@@ -192,4 +201,7 @@ bitRows m =
     ∷ []
 
 abbrev pub rows : List Row
-rows = standardRows ++ (bitRows 0 ++ (bitRows 1 ++ (bitRows 2 ++ (bitRows 3 ++ (bitRows 4 ++ (bitRows 5 ++ (bitRows 6 ++ bitRows 7)))))))
+rows =
+    standardRows
+    ++
+    (bitRows 0 ++ (bitRows 1 ++ (bitRows 2 ++ (bitRows 3 ++ (bitRows 4 ++ (bitRows 5 ++ (bitRows 6 ++ bitRows 7)))))))

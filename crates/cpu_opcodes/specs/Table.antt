@@ -9,7 +9,9 @@ use Rattle.cpu_opcodes.specs.declared.Decoded.{Decoded}
 use Rattle.cpu_opcodes.specs.declared.Decoded.the-variants.{Undefined, Defined}
 use Rattle.cpu_opcodes.specs.declared.Entry.{Entry}
 use Rattle.cpu_opcodes.specs.declared.operation.Operation.{Operation}
-use Rattle.cpu_opcodes.specs.declared.operation.Operation.the-variants.{Read, Modify, Store, Branch, BitBranch, Push, Pull, Register, Flag, Brk, Jmp, Jsr, Nop, Rti, Rts}
+use Rattle.cpu_opcodes.specs.declared.operation.Operation.the-variants.{Read, Modify, Store, Branch, BitBranch}
+use Rattle.cpu_opcodes.specs.declared.operation.Operation.the-variants.{Push, Pull, Register, Flag, Brk, Jmp, Jsr}
+use Rattle.cpu_opcodes.specs.declared.operation.Operation.the-variants.{Nop, Rti, Rts}
 use Rattle.cpu_opcodes.specs.declared.operation.ReadOperation.{ReadOperation}
 use Rattle.cpu_opcodes.specs.declared.operation.ModifyOperation.{ModifyOperation}
 use Rattle.cpu_opcodes.specs.declared.operation.StoreOperation.{StoreOperation}
@@ -19,17 +21,24 @@ use Rattle.cpu_opcodes.specs.declared.operation.PushOperation.{PushOpera
 use Rattle.cpu_opcodes.specs.declared.operation.PullOperation.{PullOperation}
 use Rattle.cpu_opcodes.specs.declared.operation.RegisterOperation.{RegisterOperation}
 use Rattle.cpu_opcodes.specs.declared.operation.FlagOperation.{FlagOperation}
-use Rattle.cpu_opcodes.specs.declared.operation.ReadOperation.the-variants.{Adc, And, Bit, Cmp, Cpx, Cpy, Eor, Lda, Ldx, Ldy, Ora, Sbc}
-use Rattle.cpu_opcodes.specs.declared.operation.ModifyOperation.the-variants.{Asl, Dec, Inc, Lsr, Rol, Ror, Rmb, Smb}
+use Rattle.cpu_opcodes.specs.declared.operation.ReadOperation.the-variants.{Adc, And, Bit, Cmp, Cpx, Cpy, Eor}
+use Rattle.cpu_opcodes.specs.declared.operation.ReadOperation.the-variants.{Lda, Ldx, Ldy, Ora, Sbc}
+use Rattle.cpu_opcodes.specs.declared.operation.ModifyOperation.the-variants.{Asl, Dec, Inc, Lsr, Rol, Ror, Rmb}
+use Rattle.cpu_opcodes.specs.declared.operation.ModifyOperation.the-variants.{Smb}
 use Rattle.cpu_opcodes.specs.declared.operation.StoreOperation.the-variants.{Sta, Stx, Sty}
-use Rattle.cpu_opcodes.specs.declared.operation.BranchOperation.the-variants.{Bcc, Bcs, Beq, Bmi, Bne, Bpl, Bvc, Bvs}
+use Rattle.cpu_opcodes.specs.declared.operation.BranchOperation.the-variants.{Bcc, Bcs, Beq, Bmi, Bne, Bpl, Bvc}
+use Rattle.cpu_opcodes.specs.declared.operation.BranchOperation.the-variants.{Bvs}
 use Rattle.cpu_opcodes.specs.declared.operation.BitBranchOperation.the-variants.{Bbr, Bbs}
 use Rattle.cpu_opcodes.specs.declared.operation.PushOperation.the-variants.{Pha, Php}
 use Rattle.cpu_opcodes.specs.declared.operation.PullOperation.the-variants.{Pla, Plp}
-use Rattle.cpu_opcodes.specs.declared.operation.RegisterOperation.the-variants.{Dex, Dey, Inx, Iny, Tax, Tay, Tsx, Txa, Txs, Tya}
+use Rattle.cpu_opcodes.specs.declared.operation.RegisterOperation.the-variants.{Dex, Dey, Inx, Iny, Tax, Tay, Tsx}
+use Rattle.cpu_opcodes.specs.declared.operation.RegisterOperation.the-variants.{Txa, Txs, Tya}
 use Rattle.cpu_opcodes.specs.declared.operation.FlagOperation.the-variants.{Clc, Cld, Cli, Clv, Sec, Sed, Sei}
 use Rattle.cpu_opcodes.specs.declared.Mode.{Mode}
-use Rattle.cpu_opcodes.specs.declared.Mode.the-variants.{Implied, Accumulator, Immediate, ZeroPage, ZeroPageX, ZeroPageY, Absolute, AbsoluteX, AbsoluteY, IndexedIndirect, IndirectIndexed, Indirect, Relative, ZeroPageRelative}
+use Rattle.cpu_opcodes.specs.declared.Mode.the-variants.{Implied, Accumulator, Immediate, ZeroPage, ZeroPageX}
+use Rattle.cpu_opcodes.specs.declared.Mode.the-variants.{ZeroPageY, Absolute, AbsoluteX, AbsoluteY}
+use Rattle.cpu_opcodes.specs.declared.Mode.the-variants.{IndexedIndirect, IndirectIndexed, Indirect, Relative}
+use Rattle.cpu_opcodes.specs.declared.Mode.the-variants.{ZeroPageRelative}
 
 -- the number of an operation within its kind, in the order of the mnemonics
 abbrev pub readNumber : ReadOperation → ℕ

@@ -1,6 +1,8 @@
 // What an instruction does: its operation, by kind. The kind says how memory is used, the operation what is done.
 ghost use mathlib.Core.Path.{_≡_};
-ghost use Rattle.cpu_opcodes.specs.Table.{operationOf, readOperation, modifyOperation, storeOperation, branchOperation, bitBranchOperation, pushOperation, pullOperation, registerOperation, flagOperation};
+ghost use Rattle.cpu_opcodes.specs.Table.{operationOf, readOperation, modifyOperation, storeOperation};
+ghost use Rattle.cpu_opcodes.specs.Table.{branchOperation, bitBranchOperation, pushOperation, pullOperation};
+ghost use Rattle.cpu_opcodes.specs.Table.{registerOperation, flagOperation};
 
 // Reads of the byte at the operand's address.
 pub enum ReadOperation {

@@ -8,15 +8,19 @@ use Rattle.bits.specs.Lists.{anyOf}
 use Rattle.bits.proofs.Cond.{cond-both}
 use Rattle.cpu_opcodes.specs.Table.{operationNumber}
 use Rattle.cpu_opcodes.specs.declared.operation.Operation.{Operation}
-use Rattle.cpu_opcodes.specs.declared.operation.Operation.the-variants.{Read, Modify, Store, Branch, BitBranch, Push, Pull, Register, Flag, Brk, Jmp, Jsr, Nop, Rti, Rts}
+use Rattle.cpu_opcodes.specs.declared.operation.Operation.the-variants.{Read, Modify, Store, Branch, BitBranch, Push}
+use Rattle.cpu_opcodes.specs.declared.operation.Operation.the-variants.{Pull, Register, Flag, Brk, Jmp, Jsr, Nop, Rti}
+use Rattle.cpu_opcodes.specs.declared.operation.Operation.the-variants.{Rts}
 use Rattle.cpu_opcodes.specs.declared.operation.ReadOperation.{ReadOperation}
-use Rattle.cpu_opcodes.specs.declared.operation.ReadOperation.the-variants.{Adc, And, Bit, Cmp, Cpx, Cpy, Eor, Lda, Ldx, Ldy, Ora, Sbc}
+use Rattle.cpu_opcodes.specs.declared.operation.ReadOperation.the-variants.{Adc, And, Bit, Cmp, Cpx, Cpy, Eor, Lda, Ldx}
+use Rattle.cpu_opcodes.specs.declared.operation.ReadOperation.the-variants.{Ldy, Ora, Sbc}
 use Rattle.cpu_opcodes.specs.declared.operation.ModifyOperation.{ModifyOperation}
 use Rattle.cpu_opcodes.specs.declared.operation.ModifyOperation.the-variants.{Asl, Dec, Inc, Lsr, Rol, Ror, Rmb, Smb}
 use Rattle.cpu_opcodes.specs.declared.operation.PullOperation.{PullOperation}
 use Rattle.cpu_opcodes.specs.declared.operation.PullOperation.the-variants.{Pla, Plp}
 use Rattle.cpu_opcodes.specs.declared.operation.RegisterOperation.{RegisterOperation}
-use Rattle.cpu_opcodes.specs.declared.operation.RegisterOperation.the-variants.{Dex, Dey, Inx, Iny, Tax, Tay, Tsx, Txa, Txs, Tya}
+use Rattle.cpu_opcodes.specs.declared.operation.RegisterOperation.the-variants.{Dex, Dey, Inx, Iny, Tax, Tay, Tsx, Txa}
+use Rattle.cpu_opcodes.specs.declared.operation.RegisterOperation.the-variants.{Txs, Tya}
 use Rattle.cpu_opcodes.specs.declared.operation.FlagOperation.{FlagOperation}
 use Rattle.cpu_opcodes.specs.declared.operation.FlagOperation.the-variants.{Clc, Cld, Cli, Clv, Sec, Sed, Sei}
 use Rattle.cpu_alu.specs.Arithmetic.{addBinary, addDecimal, adcOf, subtractBinary, decimalDifference, sbcOf, compareOf}
@@ -35,14 +39,17 @@ listed l o = anyOf (λ p. eqb (operationNumber p) (operationNumber o)) l
 -- RTI, and SBC."
 abbrev pub affectC : List Operation
 affectC =
-    Flag Sec ∷ Flag Clc ∷ Read Adc ∷ Modify Asl ∷ Read Cmp ∷ Read Cpx ∷ Read Cpy ∷ Modify Lsr ∷ Pull Plp ∷ Modify Rol ∷ Modify Ror ∷ Rti
+    Flag Sec ∷ Flag Clc ∷ Read Adc ∷ Modify Asl ∷ Read Cmp ∷ Read Cpx ∷ Read Cpy ∷ Modify Lsr ∷ Pull Plp ∷ Modify Rol
+    ∷ Modify Ror ∷ Rti
     ∷ Read Sbc ∷ []
 
 -- 001, 3.8.2, of Z; 001, 3.8.7, of N: the same instructions
 abbrev pub affectNZ : List Operation
 affectNZ =
-    Read Adc ∷ Read And ∷ Modify Asl ∷ Read Bit ∷ Read Cmp ∷ Read Cpx ∷ Read Cpy ∷ Modify Dec ∷ Register Dex ∷ Register Dey ∷ Read Eor
-    ∷ Modify Inc ∷ Register Inx ∷ Register Iny ∷ Read Lda ∷ Read Ldx ∷ Read Ldy ∷ Modify Lsr ∷ Read Ora ∷ Pull Pla ∷ Pull Plp ∷ Modify Rol
+    Read Adc ∷ Read And ∷ Modify Asl ∷ Read Bit ∷ Read Cmp ∷ Read Cpx ∷ Read Cpy ∷ Modify Dec ∷ Register Dex
+    ∷ Register Dey ∷ Read Eor
+    ∷ Modify Inc ∷ Register Inx ∷ Register Iny ∷ Read Lda ∷ Read Ldx ∷ Read Ldy ∷ Modify Lsr ∷ Read Ora ∷ Pull Pla
+    ∷ Pull Plp ∷ Modify Rol
     ∷ Modify Ror ∷ Rti ∷ Read Sbc ∷ Register Tax ∷ Register Tay ∷ Register Tsx ∷ Register Txa ∷ Register Tya ∷ []
 
 -- 001, 3.8.3: cleared by CLI, set by SEI and BRK; "RTI and .. PLP instructions will also affect the I bit"
@@ -76,7 +83,8 @@ unlisted b e u = rw e at u
 pub read-keeps : (p : ReadOperation) (r : CpuRegisters) (v : ℕ) → Kept (Read p) (r .status) (withRead p r v .status)
 unfolding withRead adcOf addDecimal addBinary sbcOf andOf oraOf eorOf bitOf compareOf
 read-keeps Adc r v =
-    cond-both (λ (k : Computed). Kept (Read Adc) (r .status) (k .status)) (r .status .d) (addDecimal (r .a) v (r .status)) (addBinary (r .a) v (r .status))
+    cond-both (λ (k : Computed). Kept (Read Adc) (r .status) (k .status)) (r .status .d)
+    (addDecimal (r .a) v (r .status)) (addBinary (r .a) v (r .status))
     (λ t. record { n = tt; v = tt; d = refl; i = refl; z = tt; c = tt })
     (λ t. record { n = tt; v = tt; d = refl; i = refl; z = tt; c = tt })
 read-keeps And r v = record { n = tt; v = refl; d = refl; i = refl; z = tt; c = refl }
@@ -112,7 +120,8 @@ unfolding withPulled
 pulled-keeps Pla r v = record { n = tt; v = refl; d = refl; i = refl; z = tt; c = refl }
 pulled-keeps Plp r v = record { n = tt; v = tt; d = tt; i = tt; z = tt; c = tt }
 
-pub register-keeps : (p : RegisterOperation) (r : CpuRegisters) → Kept (Register p) (r .status) (withRegister p r .status)
+pub register-keeps : (p : RegisterOperation) (r : CpuRegisters)
+    → Kept (Register p) (r .status) (withRegister p r .status)
 unfolding withRegister incrementOf decrementOf
 register-keeps Dex r = record { n = tt; v = refl; d = refl; i = refl; z = tt; c = refl }
 register-keeps Dey r = record { n = tt; v = refl; d = refl; i = refl; z = tt; c = refl }

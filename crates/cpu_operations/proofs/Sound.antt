@@ -21,7 +21,9 @@ use Rattle.cpu_access.specs.Modes.{relativeTo}
 use Rattle.cpu_access.proofs.Accesses.{fetch-keeps, pull-keeps, pull-word-keeps, relative-keeps}
 use Rattle.cpu_operations.specs.declared.Operand.{Operand}
 use Rattle.cpu_operations.specs.declared.Executed.{Executed}
-use Rattle.cpu_operations.specs.Effects.{withPc, withStatus, intoA, quiet, completed, stored, modified, branched, branchOperand, bitBranched, jumped, pushedByte, pulledByte, returned, returnedFromInterrupt, interrupted, breakTaken, pushesOf}
+use Rattle.cpu_operations.specs.Effects.{withPc, withStatus, intoA, quiet, completed, stored, modified, branched}
+use Rattle.cpu_operations.specs.Effects.{branchOperand, bitBranched, jumped, pushedByte, pulledByte, returned}
+use Rattle.cpu_operations.specs.Effects.{returnedFromInterrupt, interrupted, breakTaken, pushesOf}
 use Rattle.cpu_operations.specs.Operations.{workOf}
 
 -- the reads so far, with those of an operation, and the clocks that it may add to its entry's length
@@ -76,14 +78,17 @@ pub record Sound (P : ℕ → Bus → Type 0) (k n : ℕ) (c : Cost) (e : Execut
 
 module _ (P : ℕ → Bus → Type 0) (answers memory : List ℕ)
     (more : (k : ℕ) (b : Bus) → P k b → P (suc k) b)
-    (asks : (k a : ℕ) (latch : Bool) (b : Bus) → isRegister a ≡ true → P k b → P (suc k) (askOf answers a latch b .bus)) where
-  completed-sound : (k : ℕ) (o : Operand) (r : CpuRegisters) → P k (o .bus) → Sound P k (o .length) settling (completed o r)
+    (asks : (k a : ℕ) (latch : Bool) (b : Bus) → isRegister a ≡ true → P k b
+    → P (suc k) (askOf answers a latch b .bus)) where
+  completed-sound : (k : ℕ) (o : Operand) (r : CpuRegisters) → P k (o .bus)
+      → Sound P k (o .length) settling (completed o r)
   unfolding completed pushesOf
   completed-sound k o r h =
       let d = digit-le (o .crossed) in
       record { bus = h; writes = lit≤ tt; least = λ l. omega arith; most = λ l. omega arith }
 
-  stored-sound : (k : ℕ) (o : Operand) (r : CpuRegisters) (v : ℕ) → P k (o .bus) → Sound P k (o .length) plain (stored o r v)
+  stored-sound : (k : ℕ) (o : Operand) (r : CpuRegisters) (v : ℕ) → P k (o .bus)
+      → Sound P k (o .length) plain (stored o r v)
   unfolding stored pushesOf
   stored-sound k o r v h = record { bus = h; writes = lit≤ tt; least = λ l. l; most = λ l. omega arith }
 
@@ -91,27 +96,33 @@ module _ (P : ℕ → Bus → Type 0) (answers memory : List ℕ)
   unfolding pushesOf
   quiet-sound k n r b h = record { bus = h; writes = lit≤ tt; least = λ l. l; most = λ l. omega arith }
 
-  modified-sound : (k : ℕ) (o : Operand) (r : CpuRegisters) (v : Computed) → P k (o .bus) → Sound P k (o .length) plain (modified o r v)
+  modified-sound : (k : ℕ) (o : Operand) (r : CpuRegisters) (v : Computed) → P k (o .bus)
+      → Sound P k (o .length) plain (modified o r v)
   unfolding modified
   modified-sound k o r v h =
-      cond-both (Sound P k (o .length) plain) (o .accumulator) (quiet (intoA v r) (o .length) (o .bus)) (stored o (withStatus (v .status) r) (v .value))
+      cond-both (Sound P k (o .length) plain) (o .accumulator) (quiet (intoA v r) (o .length) (o .bus))
+      (stored o (withStatus (v .status) r) (v .value))
       (λ t. quiet-sound k (o .length) (intoA v r) (o .bus) h)
       (λ t. stored-sound k o (withStatus (v .status) r) (v .value) h)
 
-  branched-sound : (k : ℕ) (o : Operand) (r : CpuRegisters) (taken : Bool) → P k (o .bus) → Sound P k (o .length) branching (branched o r taken)
+  branched-sound : (k : ℕ) (o : Operand) (r : CpuRegisters) (taken : Bool) → P k (o .bus)
+      → Sound P k (o .length) branching (branched o r taken)
   unfolding branched pushesOf
   branched-sound k o r taken h =
       let d = digit-le (o .crossed) in
-      cond-both (Sound P k (o .length) branching) taken (quiet (withPc (o .address) r) (o .length + 1 + digit (o .crossed)) (o .bus)) (quiet r (o .length) (o .bus))
+      cond-both (Sound P k (o .length) branching) taken
+      (quiet (withPc (o .address) r) (o .length + 1 + digit (o .crossed)) (o .bus)) (quiet r (o .length) (o .bus))
       (λ t. record { bus = h; writes = lit≤ tt; least = λ l. omega arith; most = λ l. omega arith })
       (λ t. record { bus = h; writes = lit≤ tt; least = λ l. l; most = λ l. omega arith })
 
-  bit-branched-sound : (k : ℕ) (o : Operand) (r : CpuRegisters) (taken : Bool) → P k (o .bus) → Sound P k (o .length) bitBranching (bitBranched answers memory o r taken)
+  bit-branched-sound : (k : ℕ) (o : Operand) (r : CpuRegisters) (taken : Bool) → P k (o .bus)
+      → Sound P k (o .length) bitBranching (bitBranched answers memory o r taken)
   unfolding bitBranched
   bit-branched-sound k o r taken h =
       let f = fetchOf answers memory (r .pc) (o .bus) in
       let p : Place = relativeTo f in
-      let q = relative-keeps P answers memory more asks (suc k) f (fetch-keeps P answers memory more asks k (r .pc) (o .bus) h) in
+      let q = relative-keeps P answers memory more asks (suc k) f
+      (fetch-keeps P answers memory more asks k (r .pc) (o .bus) h) in
       let s = branched-sound (suc k) (branchOperand o p) (withPc (p .pc) r) taken q in
       record { bus = s .bus; writes = s .writes; least = s .least; most = s .most }
 
@@ -119,36 +130,54 @@ module _ (P : ℕ → Bus → Type 0) (answers memory : List ℕ)
   unfolding jumped
   jumped-sound k o r h = quiet-sound k (o .length) (withPc (o .address) r) (o .bus) h
 
-  pushed-sound : (k : ℕ) (o : Operand) (r : CpuRegisters) (v : ℕ) → P k (o .bus) → Sound P k (o .length) plain (pushedByte o r v)
+  pushed-sound : (k : ℕ) (o : Operand) (r : CpuRegisters) (v : ℕ) → P k (o .bus)
+      → Sound P k (o .length) plain (pushedByte o r v)
   unfolding pushedByte pushesOf
   pushed-sound k o r v h = record { bus = h; writes = lit≤ tt; least = λ l. l; most = λ l. omega arith }
 
-  pulled-sound : (k : ℕ) (p : PullOperation) (o : Operand) (r : CpuRegisters) → P k (o .bus) → Sound P k (o .length) pulling (pulledByte answers memory p o r)
+  pulled-sound : (k : ℕ) (p : PullOperation) (o : Operand) (r : CpuRegisters) → P k (o .bus)
+      → Sound P k (o .length) pulling (pulledByte answers memory p o r)
   unfolding pulledByte pushesOf
   pulled-sound k p o r h =
-      record { bus = pull-keeps P answers memory more asks k (r .sp) (o .bus) h; writes = lit≤ tt; least = λ l. l; most = λ l. omega arith }
-
-  returned-sound : (k : ℕ) (o : Operand) (r : CpuRegisters) → P k (o .bus) → Sound P k (o .length) returning (returned answers memory o r)
-  unfolding returned pushesOf
-  returned-sound k o r h =
-      record { bus = pull-word-keeps P answers memory more asks k (r .sp) (o .bus) h; writes = lit≤ tt; least = λ l. l; most = λ l. omega arith }
-
-  returnedFromInterrupt-sound : (k : ℕ) (o : Operand) (r : CpuRegisters) → P k (o .bus) → Sound P k (o .length) resuming (returnedFromInterrupt answers memory o r)
-  unfolding returnedFromInterrupt pushesOf
-  returnedFromInterrupt-sound k o r h =
-      let p = pullOf answers memory (r .sp) (o .bus) in
       record {
-        bus = pull-word-keeps P answers memory more asks (suc k) (p .sp) (p .bus) (pull-keeps P answers memory more asks k (r .sp) (o .bus) h);
+        bus = pull-keeps P answers memory more asks k (r .sp) (o .bus) h;
         writes = lit≤ tt;
         least = λ l. l;
         most = λ l. omega arith;
       }
 
-  breakTaken-sound : (k : ℕ) (o : Operand) (r : CpuRegisters) → P k (o .bus) → Sound P k (o .length) plain (breakTaken memory o r)
+  returned-sound : (k : ℕ) (o : Operand) (r : CpuRegisters) → P k (o .bus)
+      → Sound P k (o .length) returning (returned answers memory o r)
+  unfolding returned pushesOf
+  returned-sound k o r h =
+      record {
+        bus = pull-word-keeps P answers memory more asks k (r .sp) (o .bus) h;
+        writes = lit≤ tt;
+        least = λ l. l;
+        most = λ l. omega arith;
+      }
+
+  returnedFromInterrupt-sound : (k : ℕ) (o : Operand) (r : CpuRegisters) → P k (o .bus)
+      → Sound P k (o .length) resuming (returnedFromInterrupt answers memory o r)
+  unfolding returnedFromInterrupt pushesOf
+  returnedFromInterrupt-sound k o r h =
+      let p = pullOf answers memory (r .sp) (o .bus) in
+      record {
+        bus =
+            pull-word-keeps P answers memory more asks (suc k) (p .sp) (p .bus)
+            (pull-keeps P answers memory more asks k (r .sp) (o .bus) h);
+        writes = lit≤ tt;
+        least = λ l. l;
+        most = λ l. omega arith;
+      }
+
+  breakTaken-sound : (k : ℕ) (o : Operand) (r : CpuRegisters) → P k (o .bus)
+      → Sound P k (o .length) plain (breakTaken memory o r)
   unfolding breakTaken interrupted pushInterrupt pushesOf
   breakTaken-sound k o r h = record { bus = h; writes = lit≤ tt; least = λ l. lit≤ tt; most = λ l. lit≤ tt }
 
-  pub work-sound : (op : Operation) (k : ℕ) (r : CpuRegisters) (o : Operand) → P k (o .bus) → Sound P k (o .length) (costOf op) (workOf answers memory op r o)
+  pub work-sound : (op : Operation) (k : ℕ) (r : CpuRegisters) (o : Operand) → P k (o .bus)
+      → Sound P k (o .length) (costOf op) (workOf answers memory op r o)
   unfolding workOf
   work-sound (operation.Read p) k r o h = completed-sound k o _ h
   work-sound (operation.Modify p) k r o h = modified-sound k o r _ h

@@ -24,14 +24,17 @@ use Rattle.cpu_operations.specs.declared.Worked.{Worked}
 use Rattle.cpu_operations.specs.declared.Written.{Written}
 use Rattle.cpu_operations.specs.declared.Written.the-variants.{Nothing, Pushed, Stored}
 use Rattle.cpu_operations.specs.Updates.{withPc}
-use Rattle.cpu_operations.specs.Effects.{completed, stored, modified, branched, branchOperand, bitBranched, jumped, pushedByte, pulledByte, returned, returnedFromInterrupt, interrupted, breakTaken}
+use Rattle.cpu_operations.specs.Effects.{completed, stored, modified, branched, branchOperand, bitBranched}
+use Rattle.cpu_operations.specs.Effects.{jumped, pushedByte, pulledByte, returned, returnedFromInterrupt}
+use Rattle.cpu_operations.specs.Effects.{interrupted, breakTaken}
 use Rattle.cpu_operations.specs.Operations.{accessOf, workOf}
 use Rattle.cpu_operations.proofs.Flags.{listed}
 
 -- 001, 4.1: "Read/Modify/Write instructions are: ASL, DEC, INC, LSR, RMB, ROL, ROR, and SMB."
 abbrev pub readModifyWrite : List Operation
 readModifyWrite =
-    operation.Modify Asl ∷ operation.Modify Dec ∷ operation.Modify Inc ∷ operation.Modify Lsr ∷ operation.Modify (Rmb 0) ∷ operation.Modify Rol
+    operation.Modify Asl ∷ operation.Modify Dec ∷ operation.Modify Inc ∷ operation.Modify Lsr ∷ operation.Modify (Rmb 0)
+    ∷ operation.Modify Rol
     ∷ operation.Modify Ror ∷ operation.Modify (Smb 0) ∷ []
 
 abbrev pub modifies : Access → Bool
@@ -44,7 +47,8 @@ eightModify : Entry → Bool
 eightModify e = Bool·beq (modifies (accessOf (e .operation))) (listed readModifyWrite (e .operation))
 
 -- of all instructions just these eight read a byte to change it, and so a port's latch
-pub just-eight : (o : ℕ) (e : Entry) → decodeOf o ≡ Defined e → modifies (accessOf (e .operation)) ≡ listed readModifyWrite (e .operation)
+pub just-eight : (o : ℕ) (e : Entry) → decodeOf o ≡ Defined e
+    → modifies (accessOf (e .operation)) ≡ listed readModifyWrite (e .operation)
 unfolding decodeOf eightModify
 just-eight o e h =
     let t : T (eightModify e) = rw h at (looked-up eightModify o rows tt) in
@@ -79,7 +83,8 @@ pub record Stores (b : Bool) (n : ℕ) (w : Worked) : Type 0 where
   pub stored : isStore (w .written) ≡ b
   pub clocks : b ≡ true → w .length ≡ n
 
-modified-stores : (o : Operand) (r : CpuRegisters) (k : Computed) (a : Bool) → o .accumulator ≡ a → Stores (not a) (o .length) (modified o r k .worked)
+modified-stores : (o : Operand) (r : CpuRegisters) (k : Computed) (a : Bool) → o .accumulator ≡ a
+    → Stores (not a) (o .length) (modified o r k .worked)
 unfolding modified stored
 modified-stores o r k true e = rw e (record { stored = refl; clocks = λ h. refl })
 modified-stores o r k false e = rw e (record { stored = refl; clocks = λ h. refl })
@@ -90,13 +95,16 @@ branched-stores o r true n = record { stored = refl; clocks = λ h. absurd (fals
 branched-stores o r false n = record { stored = refl; clocks = λ h. absurd (false≢true h) }
 
 module _ (answers memory : List ℕ) where
-  bit-branched-stores : (o : Operand) (r : CpuRegisters) (taken : Bool) → Stores false (o .length) (bitBranched answers memory o r taken .worked)
+  bit-branched-stores : (o : Operand) (r : CpuRegisters) (taken : Bool)
+      → Stores false (o .length) (bitBranched answers memory o r taken .worked)
   unfolding bitBranched
   bit-branched-stores o r taken =
-      let p = relativeTo (fetchOf answers memory (r .pc) (o .bus)) in branched-stores (branchOperand o p) (withPc (p .pc) r) taken (o .length)
+      let p = relativeTo (fetchOf answers memory (r .pc) (o .bus)) in
+      branched-stores (branchOperand o p) (withPc (p .pc) r) taken (o .length)
 
   -- stores, and the read-modify-write operations in memory, leave one store and no push; all others leave no store
-  pub work-stores : (p : Operation) (r : CpuRegisters) (o : Operand) → Stores (stores p (o .accumulator)) (o .length) (workOf answers memory p r o .worked)
+  pub work-stores : (p : Operation) (r : CpuRegisters) (o : Operand)
+      → Stores (stores p (o .accumulator)) (o .length) (workOf answers memory p r o .worked)
   unfolding workOf completed stored jumped pushedByte pulledByte returned returnedFromInterrupt interrupted breakTaken
   work-stores (operation.Read p) r o = record { stored = refl; clocks = λ h. absurd (false≢true h) }
   work-stores (operation.Modify p) r o = modified-stores o r _ (o .accumulator) refl

@@ -11,14 +11,16 @@ use Rattle.cpu_opcodes.specs.declared.operation.PushOperation.{PushOperation}
 use Rattle.cpu_opcodes.specs.declared.operation.PullOperation.{PullOperation}
 use Rattle.cpu_opcodes.specs.declared.operation.RegisterOperation.{RegisterOperation}
 use Rattle.cpu_opcodes.specs.declared.operation.FlagOperation.{FlagOperation}
-use Rattle.cpu_opcodes.specs.declared.operation.ReadOperation.the-variants.{Adc, And, Bit, Cmp, Cpx, Cpy, Eor, Lda, Ldx, Ldy, Ora, Sbc}
+use Rattle.cpu_opcodes.specs.declared.operation.ReadOperation.the-variants.{Adc, And, Bit, Cmp, Cpx, Cpy, Eor, Lda, Ldx}
+use Rattle.cpu_opcodes.specs.declared.operation.ReadOperation.the-variants.{Ldy, Ora, Sbc}
 use Rattle.cpu_opcodes.specs.declared.operation.ModifyOperation.the-variants.{Asl, Dec, Inc, Lsr, Rol, Ror, Rmb, Smb}
 use Rattle.cpu_opcodes.specs.declared.operation.StoreOperation.the-variants.{Sta, Stx, Sty}
 use Rattle.cpu_opcodes.specs.declared.operation.BranchOperation.the-variants.{Bcc, Bcs, Beq, Bmi, Bne, Bpl, Bvc, Bvs}
 use Rattle.cpu_opcodes.specs.declared.operation.BitBranchOperation.the-variants.{Bbr, Bbs}
 use Rattle.cpu_opcodes.specs.declared.operation.PushOperation.the-variants.{Pha, Php}
 use Rattle.cpu_opcodes.specs.declared.operation.PullOperation.the-variants.{Pla, Plp}
-use Rattle.cpu_opcodes.specs.declared.operation.RegisterOperation.the-variants.{Dex, Dey, Inx, Iny, Tax, Tay, Tsx, Txa, Txs, Tya}
+use Rattle.cpu_opcodes.specs.declared.operation.RegisterOperation.the-variants.{Dex, Dey, Inx, Iny, Tax, Tay, Tsx, Txa}
+use Rattle.cpu_opcodes.specs.declared.operation.RegisterOperation.the-variants.{Txs, Tya}
 use Rattle.cpu_opcodes.specs.declared.operation.FlagOperation.the-variants.{Clc, Cld, Cli, Clv, Sec, Sed, Sei}
 use Rattle.cpu_alu.specs.Status.{pushed, unpacked, withV, withD, withI, withC}
 use Rattle.cpu_alu.specs.Arithmetic.{adcOf, sbcOf, compareOf}

@@ -1,7 +1,9 @@
 // What an instruction leaves, by kind: the registers, what it writes, and the clocks that it takes.
 ghost use mathlib.Core.Path.{_≡_};
 ghost use Prim.Native.Nat.{_≤_};
-ghost use Rattle.cpu_operations.specs.Effects.{executed, quiet, completed, stored, modified, branched, bitBranched, jumped, pushedByte, pulledByte, returned, returnedFromInterrupt, interrupted, breakTaken};
+ghost use Rattle.cpu_operations.specs.Effects.{executed, quiet, completed, stored, modified, branched};
+ghost use Rattle.cpu_operations.specs.Effects.{bitBranched, jumped, pushedByte, pulledByte, returned};
+ghost use Rattle.cpu_operations.specs.Effects.{returnedFromInterrupt, interrupted, breakTaken};
 use crate::Executed;
 use crate::Operand;
 use crate::Worked;

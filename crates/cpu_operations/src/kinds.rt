@@ -1,6 +1,7 @@
 // The operations of each kind (source document 001, appendix A): what each computes of registers, flags and a byte.
 ghost use mathlib.Core.Path.{_≡_};
-ghost use Rattle.cpu_operations.specs.Kinds.{withRead, unflagged, changedBy, byteToStore, branchTaken, bitBranchTaken, byteToPush, withPulled, withRegister, withFlag};
+ghost use Rattle.cpu_operations.specs.Kinds.{withRead, unflagged, changedBy, byteToStore, branchTaken};
+ghost use Rattle.cpu_operations.specs.Kinds.{bitBranchTaken, byteToPush, withPulled, withRegister, withFlag};
 use crate::updates::into_a;
 use crate::updates::into_x;
 use crate::updates::into_y;

@@ -24,7 +24,8 @@ module _ {W : Type 0} (S : System W) (f : W → W) (k : Unseen S f) where
   unfolding leapOf
   leap-along n w =
       let v = S .pass (S .gap n w) w in
-      rw (k .gap n w, k .pass (S .gap n w) w) (sym (cond-along f (ltb (S .gap n w) n) (S .plain v) v (sym (k .plain v)) refl))
+      rw (k .gap n w, k .pass (S .gap n w) w)
+      (sym (cond-along f (ltb (S .gap n w) n) (S .plain v) v (sym (k .plain v)) refl))
 
   pub moved-along : (w v : W) → movedOf S (f w) (f v) ≡ movedOf S w v
   unfolding movedOf
@@ -40,12 +41,14 @@ module _ {W : Type 0} (S : System W) (f : W → W) (k : Unseen S f) where
   leaps-along (suc most) n w = again (ltb 0 n && S .running w) refl (leaps-along most (leftAfter S n w) (leapOf S n w))
     where
       again : (b : Bool) → (ltb 0 n && S .running w) ≡ b
-          → leapsOf S most (leftAfter S n w) (f (leapOf S n w)) ≡ along (leapsOf S most (leftAfter S n w) (leapOf S n w))
+          → leapsOf S most (leftAfter S n w) (f (leapOf S n w))
+          ≡ along (leapsOf S most (leftAfter S n w) (leapOf S n w))
           → leapsOf S (suc most) n (f w) ≡ along (leapsOf S (suc most) n w)
       again true e later =
           let l = leapsOf S most (leftAfter S n w) (leapOf S n w) in
           rw (k .running w, e, leapsOf, k .gap n w, leap-along n w, later)
-          (ap {B = Run W} (λ (m : ℕ). record { world = f (l .world); leaps = m + l .leaps }) (moved-along w (leapOf S n w)))
+          (ap {B = Run W} (λ (m : ℕ). record { world = f (l .world); leaps = m + l .leaps })
+          (moved-along w (leapOf S n w)))
       again false e later = rw (k .running w, e, leapsOf)
 
   pub run-along : (n : ℕ) (w : W) → run S n (f w) ≡ record { world = f (run S n w .world); leaps = run S n w .leaps }

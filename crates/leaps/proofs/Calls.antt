@@ -17,7 +17,9 @@ use Rattle.leaps.specs.Leaps.{plains, leapCount, trace, leadingQuiet}
 use Rattle.leaps.specs.Chip.{Chip}
 use Rattle.leaps.specs.World.{WorldOf, plainOf, runningIn, doneIn, systemOf}
 use Rattle.leaps.specs.Lists.{Machine, Call, runFor, Listed, calls, FairOf, stepOf, runOf, plainRunOf}
-use Rattle.leaps.specs.Calls.{ResultOf, HandedOf, stopOf, callStart, handedBackOf, refusedWith, lentOf, afterCallOf, resultByOf, refusalIn, refusedHanded, refusedCall, machineOf, Room, Fit}
+use Rattle.leaps.specs.Calls.{ResultOf, HandedOf, stopOf, callStart, handedBackOf, refusedWith, lentOf}
+use Rattle.leaps.specs.Calls.{afterCallOf, resultByOf, refusalIn, refusedHanded, refusedCall, machineOf, Room}
+use Rattle.leaps.specs.Calls.{Fit}
 use Rattle.leaps.proofs.Laws.{Lawful, plains-stopped, gap-leads}
 use Rattle.leaps.proofs.Lists as lists
 use Rattle.leaps.proofs.Lists.{Callable}
@@ -25,7 +27,8 @@ use Rattle.leaps.proofs.Chips.{ChipLaws, lawful, no-gap-event, plain-fi
 use Rattle.leaps.proofs.Parts.{wholeOf, Rest, plains-rest, plains-whole, lent-whole, count-whole}
 
 -- what is lent is refused just where the whole is: the output lists lose as much of their lengths
-drop-eqb : (k : ℕ) (l m : List ℕ) → k ≤ length l → k ≤ length m → eqb (length (drop k l)) (length (drop k m)) ≡ eqb (length l) (length m)
+drop-eqb : (k : ℕ) (l m : List ℕ) → k ≤ length l → k ≤ length m
+    → eqb (length (drop k l)) (length (drop k m)) ≡ eqb (length l) (length m)
 drop-eqb k l m a b = rw (length-drop k l, length-drop k m) (by-test (eqb (length l) (length m)) refl)
   where
     by-test : (t : Bool) → eqb (length l) (length m) ≡ t → eqb (length l - k) (length m - k) ≡ t
@@ -37,7 +40,8 @@ pub refusal-no-stop : (limits : Limits) (formed : Bool) (clock span : ℕ) (cloc
     → stopOf (refusalOf limits formed clock span clocks codes times words n) ≡ 0
 unfolding stopOf refusalOf
 refusal-no-stop limits formed clock span clocks codes times words n =
-    first (not (eqb span (limits .memory))) (not formed) (not (eqb (length clocks) (length codes)) || not (eqb times words))
+    first (not (eqb span (limits .memory))) (not formed)
+    (not (eqb (length clocks) (length codes)) || not (eqb times words))
     (ltb lastClock (clock + n)) (not (pinsRight (limits .pin) clock clocks codes))
   where
     first : (a b c d e : Bool) → stopOf (firstOf ((1, a) ∷ (2, b) ∷ (3, c) ∷ (4, d) ∷ (5, e) ∷ [])) ≡ 0
@@ -53,7 +57,8 @@ unfolding stopOf
 zero-no-stop = refl
 
 -- "A refused call hands on what it got"
-pub refused-hands-on : {S : Type 0} (number : ℕ) (w : WorldOf S) → stopOf number ≡ 0 → w .stop ≡ 0 → afterCallOf w (refusedHanded number (lentOf w)) ≡ w
+pub refused-hands-on : {S : Type 0} (number : ℕ) (w : WorldOf S) → stopOf number ≡ 0 → w .stop ≡ 0
+    → afterCallOf w (refusedHanded number (lentOf w)) ≡ w
 unfolding afterCallOf
 refused-hands-on number w none on =
     rw (
@@ -74,20 +79,30 @@ module _ {S : Type 0} (C : Chip S) (L : ChipLaws C) where
 
   refusal-lent : (n : ℕ) (w : WorldOf S) → Room w → refusalIn C n (lentOf w) ≡ refusalIn C n w
   unfolding refusalOf
-  refusal-lent n w room = rw (drop-eqb (w .written) (w .outputClocks) (w .outputWords) (room .outputClocks) (room .outputWords))
+  refusal-lent n w room =
+      rw (drop-eqb (w .written) (w .outputClocks) (w .outputWords) (room .outputClocks) (room .outputWords))
 
   -- what is not refused is of demand 3
   pub fit-call : (n : ℕ) (w : WorldOf S) → Room w → refusalIn C n w ≡ 0 → Fit C w
   fit-call n w room e =
-      let a = accepted (C .limits) (C .wellFormed (w .state)) (C .clock (w .state)) (length (w .memory)) (w .inputClocks) (w .inputCodes)
+      let a = accepted (C .limits) (C .wellFormed (w .state)) (C .clock (w .state)) (length (w .memory))
+      (w .inputClocks) (w .inputCodes)
       (length (w .outputClocks)) (length (w .outputWords)) n e in
-      record { memory = a .memory; state = a .state; pins = a .pins; outputs = a .outputs; written = room .outputClocks }
+      record {
+        memory = a .memory;
+        state = a .state;
+        pins = a .pins;
+        outputs = a .outputs;
+        written = room .outputClocks;
+      }
 
   -- a call that fits the clock is not refused
-  pub accepted-call : (n : ℕ) (w : WorldOf S) → Fit C w → C .clock (w .state) + n ≤ lastClock → eqb (refusalIn C n w) 0 ≡ true
+  pub accepted-call : (n : ℕ) (w : WorldOf S) → Fit C w → C .clock (w .state) + n ≤ lastClock
+      → eqb (refusalIn C n w) 0 ≡ true
   accepted-call n w f h =
       eq-eqb (refusalIn C n w) 0
-      (accepts (C .limits) (C .wellFormed (w .state)) (C .clock (w .state)) (length (w .memory)) (w .inputClocks) (w .inputCodes)
+      (accepts (C .limits) (C .wellFormed (w .state)) (C .clock (w .state)) (length (w .memory)) (w .inputClocks)
+      (w .inputCodes)
       (length (w .outputClocks)) (length (w .outputWords)) n
       (record {
         memory = f .memory;
@@ -113,8 +128,10 @@ module _ {S : Type 0} (C : Chip S) (L : ChipLaws C) where
     done-world leaps =
         let r = plains-rest C n (lentOf w) in
         let count : end .read ≡ r .count = r .read ∙ zero-add (r .count) in
-        let clocks : drop (end .read) (w .inputClocks) ≡ end .inputClocks = ap (λ (k : ℕ). drop k (w .inputClocks)) count ∙ sym (r .inputClocks) in
-        let codes : drop (end .read) (w .inputCodes) ≡ end .inputCodes = ap (λ (k : ℕ). drop k (w .inputCodes)) count ∙ sym (r .inputCodes) in
+        let clocks : drop (end .read) (w .inputClocks) ≡ end .inputClocks =
+        ap (λ (k : ℕ). drop k (w .inputClocks)) count ∙ sym (r .inputClocks) in
+        let codes : drop (end .read) (w .inputCodes) ≡ end .inputCodes =
+        ap (λ (k : ℕ). drop k (w .inputCodes)) count ∙ sym (r .inputCodes) in
         rw (clocks, codes, plains-stop C L n (lentOf w) zero-no-stop) whole-end
 
     -- and its result
@@ -130,7 +147,8 @@ module _ {S : Type 0} (C : Chip S) (L : ChipLaws C) where
     refused-world : afterCallOf w (refusedCall C n (lentOf w)) ≡ w
     refused-world =
         refused-hands-on (refusalIn C n (lentOf w)) w
-        (refusal-no-stop (C .limits) (C .wellFormed (w .state)) (C .clock (w .state)) (length (w .memory)) (w .inputClocks) (w .inputCodes)
+        (refusal-no-stop (C .limits) (C .wellFormed (w .state)) (C .clock (w .state)) (length (w .memory))
+        (w .inputClocks) (w .inputCodes)
         (length (lentOf w .outputClocks)) (length (lentOf w .outputWords)) n) on
 
   -- ---- the machine keeps the laws of calls
@@ -158,7 +176,8 @@ module _ {S : Type 0} (C : Chip S) (L : ChipLaws C) where
   -- the same from any state, memory and lists: a start has nothing written, so that it needs no premise
   pub fair-start : (cs : List Call) (s : S) (memory inputClocks inputCodes outputClocks outputWords : List ℕ)
       → FairOf M cs (callStart s memory inputClocks inputCodes outputClocks outputWords)
-  fair-start cs s memory inputClocks inputCodes outputClocks outputWords = fair cs _ (record { outputClocks = omega arith; outputWords = omega arith })
+  fair-start cs s memory inputClocks inputCodes outputClocks outputWords =
+      fair cs _ (record { outputClocks = omega arith; outputWords = omega arith })
 
   -- the single-clock call is a run of 1, and the run is plain clocks with document 01's count
   pub single-run : (w : WorldOf S) → stepOf M w ≡ plainRunOf M 1 w
@@ -168,7 +187,8 @@ module _ {S : Type 0} (C : Chip S) (L : ChipLaws C) where
   runs-plainly n w room = lists.runs-plainly M callable n w room
 
   -- "the gap (clocks before the next event clock, at most those left)", of the clocks that plain clocks do
-  pub gap-leading : (n : ℕ) (w : WorldOf S) → Fit C w → runningIn w ≡ true → C .gap n (w .state) (w .inputClocks) ≡ leadingQuiet (trace (systemOf C) n w)
+  pub gap-leading : (n : ℕ) (w : WorldOf S) → Fit C w → runningIn w ≡ true
+      → C .gap n (w .state) (w .inputClocks) ≡ leadingQuiet (trace (systemOf C) n w)
   gap-leading n w f on = gap-leads (systemOf C) (lawful C L) (Fit C) (plain-fits C L) (no-gap-event C L) n w f on
 
   -- ---- a run cut in two: document 01, "Joints, edges and proved examples"
@@ -182,30 +202,39 @@ module _ {S : Type 0} (C : Chip S) (L : ChipLaws C) where
       → calls M (runFor a ∷ runFor b ∷ []) w .world ≡ calls M (runFor (a + b) ∷ []) w .world
   cut a b w f on h =
       lists.cut M callable a b w f (eq-eqb (w .stop) 0 on) (accepted-call a w f (omega arith))
-      (accepted-call b (plains (systemOf C) a w) (fits-on a w f) (omega (arith, clock-most C L a w))) (accepted-call (a + b) w f h)
+      (accepted-call b (plains (systemOf C) a w) (fits-on a w f) (omega (arith, clock-most C L a w)))
+      (accepted-call (a + b) w f h)
 
   -- n plain clocks that do not stop are n clocks
-  clock-all : (n : ℕ) (w : WorldOf S) → eqb (plains (systemOf C) n w .stop) 0 ≡ true → C .clock (plains (systemOf C) n w .state) ≡ C .clock (w .state) + n
+  clock-all : (n : ℕ) (w : WorldOf S) → eqb (plains (systemOf C) n w .stop) 0 ≡ true
+      → C .clock (plains (systemOf C) n w .state) ≡ C .clock (w .state) + n
   unfolding plains
   clock-all zero w e = sym (add-zero (C .clock (w .state)))
   clock-all (suc n) w e = by-done (doneIn C w) refl (clock-all n (plainOf C w) e)
     where
-      by-done : (d : Bool) → doneIn C w ≡ d → C .clock (plains (systemOf C) n (plainOf C w) .state) ≡ C .clock (plainOf C w .state) + n
+      by-done : (d : Bool) → doneIn C w ≡ d
+          → C .clock (plains (systemOf C) n (plainOf C w) .state) ≡ C .clock (plainOf C w .state) + n
           → C .clock (plains (systemOf C) n (plainOf C w) .state) ≡ C .clock (w .state) + suc n
       by-done true d later = omega (arith, later, lawful C L .done-clock w d)
       by-done false d later =
           let stopped : eqb (plainOf C w .stop) 0 ≡ false = lawful C L .undone-stops w d in
-          absurd (false≢true (sym stopped ∙ ap (λ (v : WorldOf S). eqb (v .stop) 0) (sym (plains-stopped (systemOf C) (lawful C L) n (plainOf C w) stopped)) ∙ e))
+          absurd (false≢true (sym stopped
+          ∙ ap (λ (v : WorldOf S). eqb (v .stop) 0)
+          (sym (plains-stopped (systemOf C) (lawful C L) n (plainOf C w) stopped)) ∙ e))
 
   -- P7, "cut after a clocks from clock 0, an input on clock a is the first half's": none of clock a or before is left
   -- to the second
-  pub first-half : (a : ℕ) (w : WorldOf S) → Fit C w → C .clock (w .state) ≡ 0 → a ≤ lastClock → calls M (runFor a ∷ []) w .world .stop ≡ 0
-      → (k : ℕ) → k < length (calls M (runFor a ∷ []) w .world .inputClocks) → a < getD (calls M (runFor a ∷ []) w .world .inputClocks) k 0
+  pub first-half : (a : ℕ) (w : WorldOf S) → Fit C w → C .clock (w .state) ≡ 0 → a ≤ lastClock
+      → calls M (runFor a ∷ []) w .world .stop ≡ 0
+      → (k : ℕ) → k < length (calls M (runFor a ∷ []) w .world .inputClocks)
+      → a < getD (calls M (runFor a ∷ []) w .world .inputClocks) k 0
   first-half a w f start h on k within =
       let v = plains (systemOf C) a w in
-      let same : calls M (runFor a ∷ []) w .world ≡ v = lists.run-plains M callable a w (fit-room w f) (accepted-call a w f (omega arith)) in
+      let same : calls M (runFor a ∷ []) w .world ≡ v =
+      lists.run-plains M callable a w (fit-room w f) (accepted-call a w f (omega arith)) in
       let unstopped : v .stop ≡ 0 = sym (ap (λ (x : WorldOf S). x .stop) same) ∙ on in
       let clock = clock-all a w (eq-eqb (v .stop) 0 unstopped) in
       let inside : k < length (v .inputClocks) = rw same at within in
-      let above = right-above (C .limits .pin) (C .clock (v .state)) (v .inputClocks) (v .inputCodes) (fits-on a w f .pins) k inside in
+      let above = right-above (C .limits .pin) (C .clock (v .state)) (v .inputClocks) (v .inputCodes)
+      (fits-on a w f .pins) k inside in
       rw same (omega (arith, above, clock))

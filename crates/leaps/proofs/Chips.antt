@@ -14,7 +14,8 @@ use Rattle.pin_lists.specs.PinLists.{pinsRight, dueCount}
 use Rattle.pin_lists.proofs.PinLists.{right-read, due-within}
 use Rattle.leaps.specs.Chip.{Chip, ClockEnd, ClockOutcome, stopped, ended}
 use Rattle.leaps.specs.Leaps.{System, plains}
-use Rattle.leaps.specs.World.{WorldOf, putRecord, stoppedAt, movedTo, after, dueIn, outcomeIn, plainOf, runningIn, isDone, doneIn, eventIn, passIn, systemOf}
+use Rattle.leaps.specs.World.{WorldOf, putRecord, stoppedAt, movedTo, after, dueIn, outcomeIn, plainOf, runningIn}
+use Rattle.leaps.specs.World.{isDone, doneIn, eventIn, passIn, systemOf}
 use Rattle.leaps.specs.Calls.{isStop, stopOf, Fit}
 use Rattle.leaps.proofs.Laws.{Lawful}
 
@@ -22,18 +23,23 @@ use Rattle.leaps.proofs.Laws.{Lawful}
 pub record ChipLaws {S : Type 0} (C : Chip S) : Type 0 where
   -- a clock that is done: "Clock plus 1"; every field stays in its range; memory keeps its length; a record that is put
   -- has room; a stop that it ends in is one by name
-  pub done-clock : (s : S) (codes memory : List ℕ) (free : Bool) (d : ClockEnd S) → C .outcome s codes memory free ≡ ended d
+  pub done-clock : (s : S) (codes memory : List ℕ) (free : Bool) (d : ClockEnd S)
+      → C .outcome s codes memory free ≡ ended d
       → C .clock (d .state) ≡ C .clock s + 1
   pub done-formed : (s : S) (codes memory : List ℕ) (free : Bool) (d : ClockEnd S) → C .wellFormed s ≡ true
       → C .outcome s codes memory free ≡ ended d → C .wellFormed (d .state) ≡ true
-  pub done-memory : (s : S) (codes memory : List ℕ) (free : Bool) (d : ClockEnd S) → C .outcome s codes memory free ≡ ended d
+  pub done-memory : (s : S) (codes memory : List ℕ) (free : Bool) (d : ClockEnd S)
+      → C .outcome s codes memory free ≡ ended d
       → length (d .memory) ≡ length memory
-  pub done-room : (s : S) (codes memory : List ℕ) (free : Bool) (d : ClockEnd S) → C .outcome s codes memory free ≡ ended d
+  pub done-room : (s : S) (codes memory : List ℕ) (free : Bool) (d : ClockEnd S)
+      → C .outcome s codes memory free ≡ ended d
       → d .differs ≡ true → free ≡ true
-  pub done-stop : (s : S) (codes memory : List ℕ) (free : Bool) (d : ClockEnd S) → C .outcome s codes memory free ≡ ended d
+  pub done-stop : (s : S) (codes memory : List ℕ) (free : Bool) (d : ClockEnd S)
+      → C .outcome s codes memory free ≡ ended d
       → stopOf (d .stop) ≡ d .stop
   -- the number of a clock that is not done is a stop by name
-  pub stopped-stop : (s : S) (codes memory : List ℕ) (free : Bool) (number : ℕ) → C .outcome s codes memory free ≡ stopped number
+  pub stopped-stop : (s : S) (codes memory : List ℕ) (free : Bool) (number : ℕ)
+      → C .outcome s codes memory free ≡ stopped number
       → isStop number ≡ true
   -- the first clock of a gap has no input, is no event clock, is done, and is a gap of one clock passed: nothing else
   -- changes
@@ -41,12 +47,14 @@ pub record ChipLaws {S : Type 0} (C : Chip S) : Type 0 where
   pub gap-quiet : (n : ℕ) (s : S) (clocks : List ℕ) → 0 < C .gap n s clocks → C .event s [] ≡ false
   pub gapWord : S → ℕ
   pub gap-outcome : (n : ℕ) (s : S) (clocks memory : List ℕ) (free : Bool) → 0 < C .gap n s clocks
-      → C .outcome s [] memory free ≡ ended (record { state = C .pass 1 s; memory = memory; differs = false; word = gapWord s; stop = 0 })
+      → C .outcome s [] memory free
+      ≡ ended (record { state = C .pass 1 s; memory = memory; differs = false; word = gapWord s; stop = 0 })
   -- "at most those left", and one clock nearer with each clock
   pub gap-le : (n : ℕ) (s : S) (clocks : List ℕ) → C .gap n s clocks ≤ n
   pub gap-passed : (g n : ℕ) (s : S) (clocks : List ℕ) → C .gap (n - g) (C .pass g s) clocks ≡ C .gap n s clocks - g
   -- with a clock left and no gap, the next clock is an event clock, of a right pin list
-  pub gap-event : (n : ℕ) (s : S) (clocks codes : List ℕ) → pinsRight (C .limits .pin) (C .clock s) clocks codes ≡ true → 0 < n
+  pub gap-event : (n : ℕ) (s : S) (clocks codes : List ℕ) → pinsRight (C .limits .pin) (C .clock s) clocks codes ≡ true
+      → 0 < n
       → C .gap n s clocks ≡ 0 → C .event s (take (dueCount (C .clock s + 1) clocks) codes) ≡ true
   -- gaps passed add up; "clock plus gap"
   pub pass-zero : (s : S) → C .pass 0 s ≡ s
@@ -67,10 +75,12 @@ stop-itself number e = rw e
 
 pub record-length : (differs : Bool) (at value : ℕ) (l : List ℕ) → length (putRecord differs at value l) ≡ length l
 unfolding putRecord
-record-length differs at value l = cond-both (λ (x : List ℕ). length x ≡ length l) differs (set l at value) l (λ _. length-set l at value) (λ _. refl)
+record-length differs at value l =
+    cond-both (λ (x : List ℕ). length x ≡ length l) differs (set l at value) l (λ _. length-set l at value) (λ _. refl)
 
 -- the records written stay within the output space
-written-within : (differs : Bool) (written space : ℕ) → written ≤ space → (differs ≡ true → ltb written space ≡ true) → written + digit differs ≤ space
+written-within : (differs : Bool) (written space : ℕ) → written ≤ space → (differs ≡ true → ltb written space ≡ true)
+    → written + digit differs ≤ space
 written-within true written space h room = let l = ltb-true written space (room refl) in omega arith
 written-within false written space h room = omega arith
 
@@ -106,7 +116,8 @@ module _ {S : Type 0} (C : Chip S) (L : ChipLaws C) where
     done-counts : doneIn C w ≡ true → C .clock (plainOf C w .state) ≡ C .clock (w .state) + 1
     done-counts d = by-running (runningIn w) refl
       where
-        by-outcome : (o : ClockOutcome S) → outcomeIn C w (dueIn C w) ≡ o → isDone o ≡ true → C .clock (after C w (dueIn C w) o .state) ≡ C .clock (w .state) + 1
+        by-outcome : (o : ClockOutcome S) → outcomeIn C w (dueIn C w) ≡ o → isDone o ≡ true
+            → C .clock (after C w (dueIn C w) o .state) ≡ C .clock (w .state) + 1
         by-outcome (stopped number) e z = absurd (false≢true z)
         by-outcome (ended end) e z = L .done-clock (w .state) _ (w .memory) _ end e
 
@@ -114,15 +125,18 @@ module _ {S : Type 0} (C : Chip S) (L : ChipLaws C) where
         by-running true e = rw (plain-on e) (by-outcome (outcomeIn C w (dueIn C w)) refl (sym (done-on e) ∙ d))
         by-running false e = absurd (false≢true (sym (done-off e) ∙ d))
 
-    undone-stays : doneIn C w ≡ false → (C .clock (plainOf C w .state) ≡ C .clock (w .state)) × (runningIn (plainOf C w) ≡ false)
+    undone-stays : doneIn C w ≡ false
+        → (C .clock (plainOf C w .state) ≡ C .clock (w .state)) × (runningIn (plainOf C w) ≡ false)
     undone-stays d = by-running (runningIn w) refl
       where
         by-outcome : (o : ClockOutcome S) → outcomeIn C w (dueIn C w) ≡ o → isDone o ≡ false
-            → (C .clock (after C w (dueIn C w) o .state) ≡ C .clock (w .state)) × (runningIn (after C w (dueIn C w) o) ≡ false)
+            → (C .clock (after C w (dueIn C w) o .state) ≡ C .clock (w .state))
+            × (runningIn (after C w (dueIn C w) o) ≡ false)
         by-outcome (stopped number) e z = (refl, stop-some number (L .stopped-stop (w .state) _ (w .memory) _ number e))
         by-outcome (ended end) e z = absurd (false≢true (sym z))
 
-        by-running : (r : Bool) → runningIn w ≡ r → (C .clock (plainOf C w .state) ≡ C .clock (w .state)) × (runningIn (plainOf C w) ≡ false)
+        by-running : (r : Bool) → runningIn w ≡ r
+            → (C .clock (plainOf C w .state) ≡ C .clock (w .state)) × (runningIn (plainOf C w) ≡ false)
         by-running true e = rw (plain-on e) (by-outcome (outcomeIn C w (dueIn C w)) refl (sym (done-on e) ∙ d))
         by-running false e = rw (plain-off e) (refl, e)
 
@@ -134,7 +148,8 @@ module _ {S : Type 0} (C : Chip S) (L : ChipLaws C) where
           rw (
             plain-on e,
             L .gap-input n (w .state) (w .inputClocks) inside,
-            L .gap-outcome n (w .state) (w .inputClocks) (w .memory) (ltb (w .written) (length (w .outputClocks))) inside,
+            L .gap-outcome n (w .state) (w .inputClocks) (w .memory) (ltb (w .written) (length (w .outputClocks)))
+                inside,
             add-zero (w .read),
             add-zero (w .written),
             eqb-true (w .stop) 0 e,
@@ -145,12 +160,15 @@ module _ {S : Type 0} (C : Chip S) (L : ChipLaws C) where
           rw (
             done-on e,
             L .gap-input n (w .state) (w .inputClocks) inside,
-            L .gap-outcome n (w .state) (w .inputClocks) (w .memory) (ltb (w .written) (length (w .outputClocks))) inside,
+            L .gap-outcome n (w .state) (w .inputClocks) (w .memory) (ltb (w .written) (length (w .outputClocks)))
+                inside,
           )
 
       quiet-event : eventIn C w ≡ false
       unfolding eventIn
-      quiet-event = rw (eventIn, L .gap-input n (w .state) (w .inputClocks) inside) (L .gap-quiet n (w .state) (w .inputClocks) inside)
+      quiet-event =
+          rw (eventIn, L .gap-input n (w .state) (w .inputClocks) inside)
+          (L .gap-quiet n (w .state) (w .inputClocks) inside)
 
   pub lawful : Lawful (systemOf C)
   lawful = record {
@@ -171,7 +189,8 @@ module _ {S : Type 0} (C : Chip S) (L : ChipLaws C) where
   }
 
   -- a world of demand 3 whose next clock is not in a gap: it is an event clock
-  pub no-gap-event : (n : ℕ) (w : WorldOf S) → Fit C w → 0 < n → C .gap n (w .state) (w .inputClocks) ≡ 0 → eventIn C w ≡ true
+  pub no-gap-event : (n : ℕ) (w : WorldOf S) → Fit C w → 0 < n → C .gap n (w .state) (w .inputClocks) ≡ 0
+      → eventIn C w ≡ true
   unfolding eventIn
   no-gap-event n w f h none = L .gap-event n (w .state) (w .inputClocks) (w .inputCodes) (f .pins) h none
 
@@ -183,14 +202,20 @@ module _ {S : Type 0} (C : Chip S) (L : ChipLaws C) where
         record {
           memory = L .done-memory (w .state) _ (w .memory) _ d e ∙ f .memory;
           state = L .done-formed (w .state) _ (w .memory) _ d (f .state) e;
-          pins = rw (L .done-clock (w .state) _ (w .memory) _ d e) (right-read (C .limits .pin) (C .clock (w .state)) (w .inputClocks) (w .inputCodes) (f .pins));
-          outputs = record-length (d .differs) _ _ (w .outputClocks) ∙ f .outputs ∙ sym (record-length (d .differs) _ _ (w .outputWords));
+          pins =
+              rw (L .done-clock (w .state) _ (w .memory) _ d e)
+              (right-read (C .limits .pin) (C .clock (w .state)) (w .inputClocks) (w .inputCodes) (f .pins));
+          outputs =
+              record-length (d .differs) _ _ (w .outputClocks) ∙ f .outputs
+              ∙ sym (record-length (d .differs) _ _ (w .outputWords));
           written = rw (record-length (d .differs) (w .written) (C .clock (d .state)) (w .outputClocks))
-              (written-within (d .differs) (w .written) (length (w .outputClocks)) (f .written) (L .done-room (w .state) _ (w .memory) _ d e));
+              (written-within (d .differs) (w .written) (length (w .outputClocks)) (f .written)
+              (L .done-room (w .state) _ (w .memory) _ d e));
         }
 
     stopped-fits : (number : ℕ) → Fit C (stoppedAt number w)
-    stopped-fits number = record { memory = f .memory; state = f .state; pins = f .pins; outputs = f .outputs; written = f .written }
+    stopped-fits number =
+        record { memory = f .memory; state = f .state; pins = f .pins; outputs = f .outputs; written = f .written }
 
     -- a plain clock keeps what demand 3 starts from
     pub plain-fits : Fit C (plainOf C w)
@@ -203,14 +228,30 @@ module _ {S : Type 0} (C : Chip S) (L : ChipLaws C) where
 
   pub plain-advances : (w : WorldOf S) → Advanced C w (plainOf C w)
   unfolding plainOf
-  plain-advances w = cond-both (Advanced C w) (runningIn w) _ w (λ _. by-outcome (outcomeIn C w (dueIn C w)) refl) (λ _. same)
+  plain-advances w =
+      cond-both (Advanced C w) (runningIn w) _ w (λ _. by-outcome (outcomeIn C w (dueIn C w)) refl) (λ _. same)
     where
       same : Advanced C w w
-      same = record { clock = omega arith; read = omega arith; memory = refl; outputClocks = refl; outputWords = refl; written = λ h. h }
+      same =
+          record {
+            clock = omega arith;
+            read = omega arith;
+            memory = refl;
+            outputClocks = refl;
+            outputWords = refl;
+            written = λ h. h;
+          }
 
       by-outcome : (o : ClockOutcome S) → outcomeIn C w (dueIn C w) ≡ o → Advanced C w (after C w (dueIn C w) o)
       by-outcome (stopped number) d =
-          record { clock = omega arith; read = omega arith; memory = refl; outputClocks = refl; outputWords = refl; written = λ h. h }
+          record {
+            clock = omega arith;
+            read = omega arith;
+            memory = refl;
+            outputClocks = refl;
+            outputWords = refl;
+            written = λ h. h;
+          }
       by-outcome (ended e) d =
           record {
             clock = omega (arith, L .done-clock (w .state) _ (w .memory) _ e d);
@@ -218,7 +259,9 @@ module _ {S : Type 0} (C : Chip S) (L : ChipLaws C) where
             memory = L .done-memory (w .state) _ (w .memory) _ e d;
             outputClocks = record-length (e .differs) _ _ (w .outputClocks);
             outputWords = record-length (e .differs) _ _ (w .outputWords);
-            written = λ h. written-within (e .differs) (w .written) (length (w .outputClocks)) h (L .done-room (w .state) _ (w .memory) _ e d);
+            written =
+                λ h. written-within (e .differs) (w .written) (length (w .outputClocks)) h
+                (L .done-room (w .state) _ (w .memory) _ e d);
           }
 
   -- n plain clocks are at most n clocks
@@ -230,13 +273,17 @@ module _ {S : Type 0} (C : Chip S) (L : ChipLaws C) where
   -- the stop is its own
   plain-stop : (w : WorldOf S) → stopOf (w .stop) ≡ w .stop → stopOf (plainOf C w .stop) ≡ plainOf C w .stop
   unfolding plainOf
-  plain-stop w h = cond-both (λ (v : WorldOf S). stopOf (v .stop) ≡ v .stop) (runningIn w) _ w (λ _. by-outcome (outcomeIn C w (dueIn C w)) refl) (λ _. h)
+  plain-stop w h =
+      cond-both (λ (v : WorldOf S). stopOf (v .stop) ≡ v .stop) (runningIn w) _ w
+      (λ _. by-outcome (outcomeIn C w (dueIn C w)) refl) (λ _. h)
     where
-      by-outcome : (o : ClockOutcome S) → outcomeIn C w (dueIn C w) ≡ o → stopOf (after C w (dueIn C w) o .stop) ≡ after C w (dueIn C w) o .stop
+      by-outcome : (o : ClockOutcome S) → outcomeIn C w (dueIn C w) ≡ o
+          → stopOf (after C w (dueIn C w) o .stop) ≡ after C w (dueIn C w) o .stop
       by-outcome (stopped number) e = stop-itself number (L .stopped-stop (w .state) _ (w .memory) _ number e)
       by-outcome (ended d) e = L .done-stop (w .state) _ (w .memory) _ d e
 
-  pub plains-stop : (n : ℕ) (w : WorldOf S) → stopOf (w .stop) ≡ w .stop → stopOf (plains (systemOf C) n w .stop) ≡ plains (systemOf C) n w .stop
+  pub plains-stop : (n : ℕ) (w : WorldOf S) → stopOf (w .stop) ≡ w .stop
+      → stopOf (plains (systemOf C) n w .stop) ≡ plains (systemOf C) n w .stop
   unfolding plains
   plains-stop zero w h = h
   plains-stop (suc n) w h = plains-stop n (plainOf C w) (plain-stop w h)

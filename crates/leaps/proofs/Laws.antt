@@ -9,7 +9,8 @@ use native.Mathlib.Omega.{arith}
 use lib.Dec.{ltb, eqb}
 use borrow.Author.Tests.{ltb-true, ltb-false, lt-ltb, le-ltb, eqb-true, eqb-false}
 use Rattle.bits.proofs.Cond.{and-left, and-right, digit-not}
-use Rattle.leaps.specs.Leaps.{System, eventsIn, quietEnd, plains, leapOf, movedOf, leftAfter, leapsOf, run, trace, leapCount, leadingQuiet, ByLeaps, no-leap, one-more}
+use Rattle.leaps.specs.Leaps.{System, eventsIn, quietEnd, plains, leapOf, movedOf, leftAfter, leapsOf, run, trace}
+use Rattle.leaps.specs.Leaps.{leapCount, leadingQuiet, ByLeaps, no-leap, one-more}
 
 -- what is asked of a machine
 pub record Lawful {W : Type 0} (S : System W) : Type 0 where
@@ -130,10 +131,12 @@ module _ {W : Type 0} (S : System W) (L : Lawful S) where
   leaps-plain : (most n : ℕ) (w : W) → n ≤ most → leapsOf S most n w .world ≡ plains S n w
   unfolding leapsOf
   leaps-plain zero n w h = sym (plains-none n w (omega arith))
-  leaps-plain (suc most) n w h = again (ltb 0 n && S .running w) refl (leaps-plain most (leftAfter S n w) (leapOf S n w))
+  leaps-plain (suc most) n w h =
+      again (ltb 0 n && S .running w) refl (leaps-plain most (leftAfter S n w) (leapOf S n w))
     where
       again : (b : Bool) → (ltb 0 n && S .running w) ≡ b
-          → (leftAfter S n w ≤ most → leapsOf S most (leftAfter S n w) (leapOf S n w) .world ≡ plains S (leftAfter S n w) (leapOf S n w))
+          → (leftAfter S n w ≤ most
+          → leapsOf S most (leftAfter S n w) (leapOf S n w) .world ≡ plains S (leftAfter S n w) (leapOf S n w))
           → leapsOf S (suc most) n w .world ≡ plains S n w
       again true e later =
           let z = and-right (ltb 0 n) (S .running w) e in
@@ -148,7 +151,8 @@ module _ {W : Type 0} (S : System W) (L : Lawful S) where
   unfolding run
   run-plain n w = leaps-plain n n w (omega arith)
 
-  leaps-over : (most n : ℕ) (w : W) → (ltb 0 n && S .running w) ≡ false → leapsOf S most n w ≡ record { world = w; leaps = 0 }
+  leaps-over : (most n : ℕ) (w : W) → (ltb 0 n && S .running w) ≡ false
+      → leapsOf S most n w ≡ record { world = w; leaps = 0 }
   unfolding leapsOf
   leaps-over zero n w e = refl
   leaps-over (suc most) n w e = rw (e, leapsOf)
@@ -158,7 +162,8 @@ module _ {W : Type 0} (S : System W) (L : Lawful S) where
   unfolding leapsOf
   leaps-same zero g n w h k = sym (leaps-over g n w (rw (le-ltb 0 n (omega arith))))
   leaps-same (suc f) zero n w h k = leaps-over (suc f) n w (rw (le-ltb 0 n (omega arith)))
-  leaps-same (suc f) (suc g) n w h k = again (ltb 0 n && S .running w) refl (leaps-same f g (leftAfter S n w) (leapOf S n w))
+  leaps-same (suc f) (suc g) n w h k =
+      again (ltb 0 n && S .running w) refl (leaps-same f g (leftAfter S n w) (leapOf S n w))
     where
       again : (b : Bool) → (ltb 0 n && S .running w) ≡ b
           → (leftAfter S n w ≤ f → leftAfter S n w ≤ g
@@ -176,7 +181,8 @@ module _ {W : Type 0} (S : System W) (L : Lawful S) where
   unfolding run leapsOf
   run-leap zero w h z = absurd (omega arith)
   run-leap (suc n) w h z =
-      rw (z, lt-ltb 0 (suc n) h, leapsOf) (rw (leaps-same n (leftAfter S (suc n) w) (leftAfter S (suc n) w) (leapOf S (suc n) w) (omega arith) (omega arith)))
+      rw (z, lt-ltb 0 (suc n) h, leapsOf) (rw (leaps-same n (leftAfter S (suc n) w) (leftAfter S (suc n) w)
+      (leapOf S (suc n) w) (omega arith) (omega arith)))
 
   -- a run of no clocks, or of a machine that has stopped
   pub run-over : (n : ℕ) (w : W) → (ltb 0 n && S .running w) ≡ false → run S n w ≡ record { world = w; leaps = 0 }
@@ -196,9 +202,11 @@ module _ {W : Type 0} (S : System W) (L : Lawful S) where
   pub run-one : (w : W) → run S 1 w ≡ record { world = S .plain w; leaps = movedOf S w (S .plain w) }
   run-one w = still (S .running w) refl
     where
-      still : (b : Bool) → S .running w ≡ b → run S 1 w ≡ record { world = S .plain w; leaps = movedOf S w (S .plain w) }
+      still : (b : Bool) → S .running w ≡ b
+          → run S 1 w ≡ record { world = S .plain w; leaps = movedOf S w (S .plain w) }
       still true z =
-          let leap : leapOf S 1 w ≡ S .plain w = leap-plain 1 w z ∙ ap (λ (n : ℕ). plains S n w) (omega arith) ∙ plains-one w in
+          let leap : leapOf S 1 w ≡ S .plain w =
+          leap-plain 1 w z ∙ ap (λ (n : ℕ). plains S n w) (omega arith) ∙ plains-one w in
           let none : leftAfter S 1 w ≡ 0 = omega arith in
           run-leap 1 w (omega arith) z ∙ rw (leap, none, run-over 0 (S .plain w) refl, add-zero)
       still false z = run-over 1 w (rw z) ∙ rw (L .stopped-plain w z, moved-by 0 w w (omega arith))
@@ -214,16 +222,20 @@ module _ {W : Type 0} (S : System W) (L : Lawful S) where
   by-leaps-run {n} {w} (one-more {k} {m} {v} before on some reached) =
       let leap : leapOf S m v ≡ S .plain (S .pass (S .gap m v) v) = leap-through m v some in
       let moved : movedOf S v (leapOf S m v) ≡ 1 =
-      moved-later v (leapOf S m v) (rw leap (omega (arith, L .done-clock (S .pass (S .gap m v) v) reached, L .pass-clock (S .gap m v) v))) in
+      moved-later v (leapOf S m v)
+      (rw leap (omega (arith, L .done-clock (S .pass (S .gap m v) v) reached, L .pass-clock (S .gap m v) v))) in
       by-leaps-run before ∙ rw (run-leap m v (omega arith) on, moved, add-assoc)
 
   -- a whole leap ends past the event clock that it began before
-  leap-far : (m : ℕ) (v : W) → S .gap m v < m → S .done (S .pass (S .gap m v) v) ≡ true → S .clock v + S .gap m v < S .clock (leapOf S m v)
+  leap-far : (m : ℕ) (v : W) → S .gap m v < m → S .done (S .pass (S .gap m v) v) ≡ true
+      → S .clock v + S .gap m v < S .clock (leapOf S m v)
   leap-far m v some reached =
-      rw (leap-through m v some) (omega (arith, L .done-clock (S .pass (S .gap m v) v) reached, L .pass-clock (S .gap m v) v))
+      rw (leap-through m v some)
+      (omega (arith, L .done-clock (S .pass (S .gap m v) v) reached, L .pass-clock (S .gap m v) v))
 
   -- as many leaps from one start lead to one world
-  same-leaps : {n : ℕ} {w : W} {k m k' m' : ℕ} {v v' : W} → ByLeaps S n w k m v → ByLeaps S n w k' m' v' → k ≡ k' → (m ≡ m') × (v ≡ v')
+  same-leaps : {n : ℕ} {w : W} {k m k' m' : ℕ} {v v' : W} → ByLeaps S n w k m v → ByLeaps S n w k' m' v' → k ≡ k'
+      → (m ≡ m') × (v ≡ v')
   same-leaps no-leap no-leap e = (refl, refl)
   same-leaps no-leap (one-more b on some reached) e = absurd (omega (arith, e))
   same-leaps (one-more a on some reached) no-leap e = absurd (omega (arith, e))
@@ -238,7 +250,8 @@ module _ {W : Type 0} (S : System W) (L : Lawful S) where
   more-leaps {n} {w} {k} {m} {k'} {m'} {v} {v'} first (one-more {k = j} {m = i} {v = u} before on some reached) h =
       by-test (eqb k j) refl (λ less. more-leaps first before less)
     where
-      by-test : (t : Bool) → eqb k j ≡ t → (k < j → S .clock v + S .gap m v < S .clock u) → S .clock v + S .gap m v < S .clock (leapOf S i u)
+      by-test : (t : Bool) → eqb k j ≡ t → (k < j → S .clock v + S .gap m v < S .clock u)
+          → S .clock v + S .gap m v < S .clock (leapOf S i u)
       by-test true e earlier =
           let s = same-leaps first before (eqb-true k j e) in
           let clock : S .clock v ≡ S .clock u = ap (S .clock) (s .1) in
@@ -256,7 +269,8 @@ module _ {W : Type 0} (S : System W) (L : Lawful S) where
     where
       by-same : (t : Bool) → eqb k' k ≡ t → k' ≤ k → ⊥
       by-same true e h =
-          let clock : S .clock (S .pass g v) ≡ S .clock v = ap (S .clock) (same-leaps walked first (eqb-true k' k e) .1) in
+          let clock : S .clock (S .pass g v) ≡ S .clock v =
+          ap (S .clock) (same-leaps walked first (eqb-true k' k e) .1) in
           omega (arith, clock, L .pass-clock g v)
       by-same false e h =
           let other = eqb-false k' k e in
@@ -280,7 +294,8 @@ module _ {W : Type 0} (S : System W) (L : Lawful S) where
   trace-stopped : (n : ℕ) (w : W) → S .running w ≡ false → trace S n w ≡ []
   trace-stopped n w e = trace-undone n w (L .stopped-done w e)
 
-  trace-pass : (g m n : ℕ) (w : W) → S .running w ≡ true → g ≤ S .gap n w → trace S (g + m) w ≡ quiets g (trace S m (S .pass g w))
+  trace-pass : (g m n : ℕ) (w : W) → S .running w ≡ true → g ≤ S .gap n w
+      → trace S (g + m) w ≡ quiets g (trace S m (S .pass g w))
   trace-pass zero m n w z h = rw (zero-add, L .pass-zero)
   trace-pass (suc g) m n w z h =
       let p : S .plain w ≡ S .pass 1 w = L .quiet-plain n w z (omega arith) in
@@ -303,10 +318,17 @@ module _ {W : Type 0} (S : System W) (L : Lawful S) where
           ≡ movedOf S w (S .plain v) + (eventsIn (trace S m (S .plain v)) + quietEnd (trace S m (S .plain v)))
       ends true d =
           let h = L .done-clock v d in
-          rw (trace-done m v d, e, moved-later w (S .plain v) (omega arith), events-quiets, end-quiets, end-event) (omega arith)
+          rw (trace-done m v d, e, moved-later w (S .plain v) (omega arith), events-quiets, end-quiets, end-event)
+          (omega arith)
       ends false d =
           let h = L .undone-clock v d in
-          rw (trace-undone (suc m) v d, trace-stopped m (S .plain v) (L .undone-stops v d), moved-by g w (S .plain v) (omega arith), events-quiets, end-all)
+          rw (
+            trace-undone (suc m) v d,
+            trace-stopped m (S .plain v) (L .undone-stops v d),
+            moved-by g w (S .plain v) (omega arith),
+            events-quiets,
+            end-all,
+          )
           (omega arith)
 
   -- a leap that reaches the end of the run
@@ -372,7 +394,8 @@ module _ {W : Type 0} (S : System W) (L : Lawful S) where
             let j : Inv v = subst Inv (plains-pass g n w z (omega arith)) (plains-kept g w i) in
             let event = gap-event (n - g) v j (omega arith) (L .gap-passed g n w ∙ omega arith) in
             ap (λ (m : ℕ). leapCount S m w) k
-            ∙ count-reached g (n - (g + 1)) w v (trace-pass g (suc (n - (g + 1))) n w z (omega arith)) event (L .pass-clock g w)
+            ∙ count-reached g (n - (g + 1)) w v (trace-pass g (suc (n - (g + 1))) n w z (omega arith)) event
+            (L .pass-clock g w)
         reached false e =
             let h = ltb-false g n e in
             let k : n ≡ g + 0 = omega (arith, L .gap-le n w) in
@@ -383,7 +406,8 @@ module _ {W : Type 0} (S : System W) (L : Lawful S) where
     leaps-count : (most n : ℕ) (w : W) → n ≤ most → Inv w → leapsOf S most n w .leaps ≡ leapCount S n w
     unfolding leapsOf
     leaps-count zero n w h i = sym (count-none n w (omega arith))
-    leaps-count (suc most) n w h i = again (ltb 0 n && S .running w) refl (leaps-count most (leftAfter S n w) (leapOf S n w))
+    leaps-count (suc most) n w h i =
+        again (ltb 0 n && S .running w) refl (leaps-count most (leftAfter S n w) (leapOf S n w))
       where
         again : (b : Bool) → (ltb 0 n && S .running w) ≡ b
             → (leftAfter S n w ≤ most → Inv (leapOf S n w)
@@ -419,5 +443,7 @@ module _ {W : Type 0} (S : System W) (L : Lawful S) where
         let j : Inv v = subst Inv (plains-pass g n w z (omega arith)) (plains-kept g w i) in
         let none : S .gap (n - g) v ≡ 0 = L .gap-passed g n w ∙ omega arith in
         let whole : n ≡ g + (n - g) = omega arith in
-        let shape : trace S n w ≡ quiets g (trace S (n - g) v) = ap (λ (k : ℕ). trace S k w) whole ∙ trace-pass g (n - g) n w z (omega arith) in
-        sym (ap leadingQuiet shape ∙ leading-quiets g (trace S (n - g) v) ∙ ap (λ (k : ℕ). g + k) (no-leading (n - g) v j none) ∙ add-zero g)
+        let shape : trace S n w ≡ quiets g (trace S (n - g) v) =
+        ap (λ (k : ℕ). trace S k w) whole ∙ trace-pass g (n - g) n w z (omega arith) in
+        sym (ap leadingQuiet shape ∙ leading-quiets g (trace S (n - g) v)
+        ∙ ap (λ (k : ℕ). g + k) (no-leading (n - g) v j none) ∙ add-zero g)

@@ -7,7 +7,8 @@ use mathlib.Core.List.{List, [], _∷_}
 use Prim.Native.Nat.{ℕ, _+_, _<_}
 use native.Mathlib.Nat.{add-zero}
 use Rattle.leaps.specs.Leaps.{plains, run, leapCount}
-use Rattle.leaps.specs.Lists.{Machine, Call, singleClock, runFor, countOf, Listed, listed, stepOf, handedRun, runOf, plainRunOf, callOf, calls, clocksAccepted, resultsBy, FairOf}
+use Rattle.leaps.specs.Lists.{Machine, Call, singleClock, runFor, countOf, Listed, listed, stepOf, handedRun}
+use Rattle.leaps.specs.Lists.{runOf, plainRunOf, callOf, calls, clocksAccepted, resultsBy, FairOf}
 use Rattle.leaps.proofs.Laws.{Lawful, plains-add, plains-stopped, plains-kept, run-plain, run-count, count-one}
 
 -- what is asked of a machine
@@ -24,13 +25,16 @@ pub record Callable {W H R : Type 0} (M : Machine W H R) : Type 1 where
   pub lent-room : (w : W) → M .Room (M .lent w)
   pub lent-accepts : (n : ℕ) (w : W) → M .Room w → M .accepts n (M .lent w) ≡ M .accepts n w
   -- plain clocks on what is lent are plain clocks on the whole, which `afterCallOf` puts together again
-  pub lent-count : (n : ℕ) (w : W) → M .Room w → M .system .running w ≡ true → leapCount (M .system) n (M .lent w) ≡ leapCount (M .system) n w
+  pub lent-count : (n : ℕ) (w : W) → M .Room w → M .system .running w ≡ true
+      → leapCount (M .system) n (M .lent w) ≡ leapCount (M .system) n w
   pub done-world : (n leaps : ℕ) (w : W) → M .Room w → M .system .running w ≡ true
       → M .afterCall w (M .handedBack leaps (plains (M .system) n (M .lent w))) ≡ plains (M .system) n w
   pub done-result : (n leaps : ℕ) (w : W) → M .Room w → M .system .running w ≡ true
-      → M .resultIn (M .handedBack leaps (plains (M .system) n (M .lent w))) ≡ M .resultBy leaps w (plains (M .system) n w)
+      → M .resultIn (M .handedBack leaps (plains (M .system) n (M .lent w)))
+      ≡ M .resultBy leaps w (plains (M .system) n w)
   -- "A refused call hands on what it got"
-  pub refused-world : (n : ℕ) (w : W) → M .Room w → M .system .running w ≡ true → M .afterCall w (M .refused n (M .lent w)) ≡ w
+  pub refused-world : (n : ℕ) (w : W) → M .Room w → M .system .running w ≡ true
+      → M .afterCall w (M .refused n (M .lent w)) ≡ w
   pub refused-result : (n : ℕ) (w : W) → M .Room w → M .resultIn (M .refused n (M .lent w)) ≡ M .refusedBy n w
 
 module _ {W H R : Type 0} (M : Machine W H R) (L : Callable M) where
@@ -51,7 +55,10 @@ module _ {W H R : Type 0} (M : Machine W H R) (L : Callable M) where
           ≡ cond t (M .handedBack (leapCount (M .system) n w) (plains (M .system) n w)) (M .refused n w)
       by-test true e =
           let f = L .accepts-fit n w room e in
-          rw (run-plain (M .system) (L .lawful) n w, run-count (M .system) (L .lawful) (L .Fit) (L .fit-kept) (L .gap-event) n w f)
+          rw (
+            run-plain (M .system) (L .lawful) n w,
+            run-count (M .system) (L .lawful) (L .Fit) (L .fit-kept) (L .gap-event) n w f,
+          )
       by-test false e = refl
 
   -- either call, by plain clocks
@@ -67,7 +74,9 @@ module _ {W H R : Type 0} (M : Machine W H R) (L : Callable M) where
     abbrev n : ℕ
     n = countOf c
 
-    call-done : M .accepts n w ≡ true → callOf M c (M .lent w) ≡ M .handedBack (leapCount (M .system) n (M .lent w)) (plains (M .system) n (M .lent w))
+    call-done : M .accepts n w ≡ true
+        → callOf M c (M .lent w)
+        ≡ M .handedBack (leapCount (M .system) n (M .lent w)) (plains (M .system) n (M .lent w))
     unfolding plainRunOf
     call-done e = call-plain c (M .lent w) (L .lent-room w) ∙ rw (L .lent-accepts n w room, e)
 
@@ -84,7 +93,8 @@ module _ {W H R : Type 0} (M : Machine W H R) (L : Callable M) where
     fair-ended e = rw (e, calls, clocksAccepted, resultsBy)
 
     calls-on : M .system .running w ≡ true
-        → calls M (c ∷ cs) w ≡ listed (M .resultIn (callOf M c (M .lent w))) (calls M cs (M .afterCall w (callOf M c (M .lent w))))
+        → calls M (c ∷ cs) w
+        ≡ listed (M .resultIn (callOf M c (M .lent w))) (calls M cs (M .afterCall w (callOf M c (M .lent w))))
     unfolding calls
     calls-on e = rw (e, calls)
 
@@ -93,13 +103,15 @@ module _ {W H R : Type 0} (M : Machine W H R) (L : Callable M) where
     unfolding clocksAccepted
     accepted-done e d = rw (e, clocksAccepted) (rw d)
 
-    accepted-refused : M .system .running w ≡ true → M .accepts (countOf c) w ≡ false → clocksAccepted M (c ∷ cs) w ≡ clocksAccepted M cs w
+    accepted-refused : M .system .running w ≡ true → M .accepts (countOf c) w ≡ false
+        → clocksAccepted M (c ∷ cs) w ≡ clocksAccepted M cs w
     unfolding clocksAccepted
     accepted-refused e d = rw (e, clocksAccepted) (rw d)
 
     results-done : M .system .running w ≡ true → M .accepts (countOf c) w ≡ true
         → resultsBy M (c ∷ cs) w
-        ≡ M .resultBy (leapCount (M .system) (countOf c) w) w (plains (M .system) (countOf c) w) ∷ resultsBy M cs (plains (M .system) (countOf c) w)
+        ≡ M .resultBy (leapCount (M .system) (countOf c) w) w (plains (M .system) (countOf c) w)
+        ∷ resultsBy M cs (plains (M .system) (countOf c) w)
     unfolding resultsBy
     results-done e d = rw (e, resultsBy) (rw d)
 
@@ -157,18 +169,24 @@ module _ {W H R : Type 0} (M : Machine W H R) (L : Callable M) where
   fair-lent cs w = fair cs (M .lent w) (L .lent-room w)
 
   -- one run, as plain clocks
-  pub run-plains : (n : ℕ) (w : W) → M .Room w → M .accepts n w ≡ true → calls M (runFor n ∷ []) w .world ≡ plains (M .system) n w
+  pub run-plains : (n : ℕ) (w : W) → M .Room w → M .accepts n w ≡ true
+      → calls M (runFor n ∷ []) w .world ≡ plains (M .system) n w
   unfolding clocksAccepted countOf
-  run-plains n w room d = ap (λ (l : Listed W R). l .world) (fair (runFor n ∷ []) w room) ∙ by-stop (M .system .running w) refl
+  run-plains n w room d =
+      ap (λ (l : Listed W R). l .world) (fair (runFor n ∷ []) w room) ∙ by-stop (M .system .running w) refl
     where
-      by-stop : (r : Bool) → M .system .running w ≡ r → plains (M .system) (clocksAccepted M (runFor n ∷ []) w) w ≡ plains (M .system) n w
+      by-stop : (r : Bool) → M .system .running w ≡ r
+          → plains (M .system) (clocksAccepted M (runFor n ∷ []) w) w ≡ plains (M .system) n w
       by-stop true e = ap (λ (k : ℕ). plains (M .system) k w) (accepted-done (runFor n) [] w e d ∙ add-zero n)
-      by-stop false e = plains-stopped (M .system) (L .lawful) _ w e ∙ sym (plains-stopped (M .system) (L .lawful) n w e)
+      by-stop false e =
+          plains-stopped (M .system) (L .lawful) _ w e ∙ sym (plains-stopped (M .system) (L .lawful) n w e)
 
   -- a run cut in two over the rest of the lists ends the same in all but the leap count, where none of the three is
   -- refused
-  pub cut : (a b : ℕ) (w : W) → L .Fit w → M .system .running w ≡ true → M .accepts a w ≡ true → M .accepts b (plains (M .system) a w) ≡ true
-      → M .accepts (a + b) w ≡ true → calls M (runFor a ∷ runFor b ∷ []) w .world ≡ calls M (runFor (a + b) ∷ []) w .world
+  pub cut : (a b : ℕ) (w : W) → L .Fit w → M .system .running w ≡ true → M .accepts a w ≡ true
+      → M .accepts b (plains (M .system) a w) ≡ true
+      → M .accepts (a + b) w ≡ true
+      → calls M (runFor a ∷ runFor b ∷ []) w .world ≡ calls M (runFor (a + b) ∷ []) w .world
   unfolding clocksAccepted countOf
   cut a b w f on first second whole =
       let v = plains (M .system) a w in

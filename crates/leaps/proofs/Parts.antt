@@ -14,7 +14,8 @@ use Rattle.bits.specs.Bits.{digit}
 use Rattle.bits.proofs.Cond.{cond-both}
 use Rattle.leaps.specs.Leaps.{plains, trace, leapCount, eventsIn, quietEnd}
 use Rattle.leaps.specs.Chip.{Chip, ClockEnd, ClockOutcome, stopped, ended}
-use Rattle.leaps.specs.World.{WorldOf, stoppedAt, movedTo, putRecord, after, dueIn, outcomeIn, plainOf, runningIn, isDone, doneIn, eventIn, systemOf}
+use Rattle.leaps.specs.World.{WorldOf, stoppedAt, movedTo, putRecord, after, dueIn, outcomeIn, plainOf, runningIn}
+use Rattle.leaps.specs.World.{isDone, doneIn, eventIn, systemOf}
 use Rattle.leaps.specs.Calls.{lentOf, Room}
 use Rattle.leaps.proofs.Laws.{trace-done, trace-undone}
 use Rattle.leaps.proofs.Chips.{ChipLaws, lawful}
@@ -82,13 +83,15 @@ module _ {S : Type 0} (C : Chip S) where
   plain-rest u = cond-both (Rest u) (runningIn u) _ u (λ _. by-outcome (outcomeIn C u (dueIn C u))) (λ _. none-read u)
     where
       by-outcome : (o : ClockOutcome S) → Rest u (after C u (dueIn C u) o)
-      by-outcome (stopped number) = record { count = 0; inputClocks = refl; inputCodes = refl; read = sym (add-zero (u .read)) }
+      by-outcome (stopped number) =
+          record { count = 0; inputClocks = refl; inputCodes = refl; read = sym (add-zero (u .read)) }
       by-outcome (ended e) = record { count = dueIn C u; inputClocks = refl; inputCodes = refl; read = refl }
 
   more-read : (u v x : WorldOf S) → Rest u v → Rest v x → Rest u x
   more-read u v x a b = record {
     count = a .count + b .count;
-    inputClocks = b .inputClocks ∙ ap (drop (b .count)) (a .inputClocks) ∙ drop-drop (b .count) (a .count) (u .inputClocks);
+    inputClocks =
+        b .inputClocks ∙ ap (drop (b .count)) (a .inputClocks) ∙ drop-drop (b .count) (a .count) (u .inputClocks);
     inputCodes = b .inputCodes ∙ ap (drop (b .count)) (a .inputCodes) ∙ drop-drop (b .count) (a .count) (u .inputCodes);
     read = b .read ∙ ap (λ (k : ℕ). k + b .count) (a .read) ∙ add-assoc (u .read) (a .count) (b .count);
   }
@@ -96,7 +99,8 @@ module _ {S : Type 0} (C : Chip S) where
   pub plains-rest : (n : ℕ) (u : WorldOf S) → Rest u (plains (systemOf C) n u)
   unfolding plains
   plains-rest zero u = none-read u
-  plains-rest (suc n) u = more-read u (plainOf C u) (plains (systemOf C) n (plainOf C u)) (plain-rest u) (plains-rest n (plainOf C u))
+  plains-rest (suc n) u =
+      more-read u (plainOf C u) (plains (systemOf C) n (plainOf C u)) (plain-rest u) (plains-rest n (plainOf C u))
 
   module _ (w v : WorldOf S) (room : Room w) where
     before-clocks : length (take (w .written) (w .outputClocks)) ≡ w .written
@@ -106,14 +110,20 @@ module _ {S : Type 0} (C : Chip S) where
     before-words = length-take-le (w .written) (w .outputWords) (room .outputWords)
 
     outcome-whole : outcomeIn C (wholeOf w v) (dueIn C (wholeOf w v)) ≡ outcomeIn C v (dueIn C v)
-    outcome-whole = rw (outcomeIn, free-behind (take (w .written) (w .outputClocks)) (v .outputClocks) (w .written) (v .written) before-clocks)
+    outcome-whole =
+        rw (
+          outcomeIn,
+          free-behind (take (w .written) (w .outputClocks)) (v .outputClocks) (w .written) (v .written) before-clocks,
+        )
 
     after-whole : (o : ClockOutcome S) → after C (wholeOf w v) (dueIn C v) o ≡ wholeOf w (after C v (dueIn C v) o)
     after-whole (stopped number) = refl
     after-whole (ended e) =
         rw (
-          put-behind (e .differs) (take (w .written) (w .outputClocks)) (v .outputClocks) (w .written) (v .written) (C .clock (e .state)) before-clocks,
-          put-behind (e .differs) (take (w .written) (w .outputWords)) (v .outputWords) (w .written) (v .written) (e .word) before-words,
+          put-behind (e .differs) (take (w .written) (w .outputClocks)) (v .outputClocks) (w .written) (v .written)
+              (C .clock (e .state)) before-clocks,
+          put-behind (e .differs) (take (w .written) (w .outputWords)) (v .outputWords) (w .written) (v .written)
+              (e .word) before-words,
           add-assoc (w .read) (v .read) (dueIn C v),
           add-assoc (w .written) (v .written) (digit (e .differs)),
         )
@@ -133,7 +143,8 @@ module _ {S : Type 0} (C : Chip S) where
     done-whole = rw outcome-whole
 
   -- n plain clocks
-  pub plains-whole : (n : ℕ) (w v : WorldOf S) → Room w → plains (systemOf C) n (wholeOf w v) ≡ wholeOf w (plains (systemOf C) n v)
+  pub plains-whole : (n : ℕ) (w v : WorldOf S) → Room w
+      → plains (systemOf C) n (wholeOf w v) ≡ wholeOf w (plains (systemOf C) n v)
   unfolding plains
   plains-whole zero w v room = refl
   plains-whole (suc n) w v room = rw (plain-whole w v room) (plains-whole n w (plainOf C v) room)
@@ -145,7 +156,8 @@ module _ {S : Type 0} (C : Chip S) where
     trace-whole zero w v room = refl
     trace-whole (suc n) w v room = by-done (doneIn C v) refl (trace-whole n w (plainOf C v) room)
       where
-        by-done : (d : Bool) → doneIn C v ≡ d → trace (systemOf C) n (wholeOf w (plainOf C v)) ≡ trace (systemOf C) n (plainOf C v)
+        by-done : (d : Bool) → doneIn C v ≡ d
+            → trace (systemOf C) n (wholeOf w (plainOf C v)) ≡ trace (systemOf C) n (plainOf C v)
             → trace (systemOf C) (suc n) (wholeOf w v) ≡ trace (systemOf C) (suc n) v
         by-done true e later =
             trace-done (systemOf C) (lawful C L) n (wholeOf w v) (done-whole w v room ∙ e)
@@ -155,6 +167,7 @@ module _ {S : Type 0} (C : Chip S) where
             trace-undone (systemOf C) (lawful C L) (suc n) (wholeOf w v) (done-whole w v room ∙ e)
             ∙ sym (trace-undone (systemOf C) (lawful C L) (suc n) v e)
 
-    pub count-whole : (n : ℕ) (w v : WorldOf S) → Room w → leapCount (systemOf C) n (wholeOf w v) ≡ leapCount (systemOf C) n v
+    pub count-whole : (n : ℕ) (w v : WorldOf S) → Room w
+        → leapCount (systemOf C) n (wholeOf w v) ≡ leapCount (systemOf C) n v
     unfolding leapCount
     count-whole n w v room = rw (trace-whole n w v room)

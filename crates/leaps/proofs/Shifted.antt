@@ -14,7 +14,8 @@ use Rattle.bits.specs.Bits.{digit}
 use Rattle.pin_lists.specs.PinLists.{pinOf, entryRight, restRight, pinsRight, dueCount}
 use Rattle.leaps.specs.Chip.{Chip, ClockOutcome, stopped, ended}
 use Rattle.leaps.specs.Leaps.{Run, plains, leapOf, movedOf, leftAfter, leapsOf, run, trace, leapCount}
-use Rattle.leaps.specs.World.{WorldOf, putRecord, after, dueIn, outcomeIn, plainOf, runningIn, isDone, doneIn, eventIn, passIn, systemOf}
+use Rattle.leaps.specs.World.{WorldOf, putRecord, after, dueIn, outcomeIn, plainOf, runningIn, isDone, doneIn}
+use Rattle.leaps.specs.World.{eventIn, passIn, systemOf}
 use Rattle.leaps.specs.Shifted.{shiftedClocks, ShiftedRecords, shiftedOutcome, ShiftedWorld}
 
 -- what is asked of a chip: `shift k s` is `s` with its clock k later, and no rule looks at the clock's value

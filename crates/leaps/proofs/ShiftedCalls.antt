@@ -14,12 +14,16 @@ use Rattle.refusals.specs.Refusals.{lastClock, firstOf, refusalOf}
 use Rattle.leaps.specs.Chip.{Chip}
 use Rattle.leaps.specs.Leaps.{plains, run, leapCount}
 use Rattle.leaps.specs.World.{WorldOf, plainOf, runningIn, systemOf}
-use Rattle.leaps.specs.Lists.{Machine, Call, countOf, Listed, stepOf, runOf, plainRunOf, calls, clocksAccepted, resultsBy}
-use Rattle.leaps.specs.Calls.{ResultOf, HandedOf, callStart, handedBackOf, refusedWith, refusedHanded, resultByOf, refusalIn, refusedCall, machineOf, Room}
-use Rattle.leaps.specs.Shifted.{shiftedClocks, shiftedResult, ShiftedWorld, ShiftedHanded, ShiftedListed, clockRefusal, RefusedAlike, clocksFit}
+use Rattle.leaps.specs.Lists.{Machine, Call, countOf, Listed, stepOf, runOf, plainRunOf, calls, clocksAccepted}
+use Rattle.leaps.specs.Lists.{resultsBy}
+use Rattle.leaps.specs.Calls.{ResultOf, HandedOf, callStart, handedBackOf, refusedWith, refusedHanded, resultByOf}
+use Rattle.leaps.specs.Calls.{refusalIn, refusedCall, machineOf, Room}
+use Rattle.leaps.specs.Shifted.{shiftedClocks, shiftedResult, ShiftedWorld, ShiftedHanded, ShiftedListed}
+use Rattle.leaps.specs.Shifted.{clockRefusal, RefusedAlike, clocksFit}
 use Rattle.leaps.proofs.Chips.{ChipLaws}
 use Rattle.leaps.proofs.Calls as theory
-use Rattle.leaps.proofs.Shifted.{ShiftLaws, pins-shifted, shifted-clock, running-shifted, plain-shifted, plains-shifted, moved-shifted, count-shifted, run-shifted}
+use Rattle.leaps.proofs.Shifted.{ShiftLaws, pins-shifted, shifted-clock, running-shifted, plain-shifted}
+use Rattle.leaps.proofs.Shifted.{plains-shifted, moved-shifted, count-shifted, run-shifted}
 
 -- ---- refusals
 
@@ -273,7 +277,8 @@ module _ {S : Type 0} (C : Chip S) (shift : ℕ → S → S) (L : ShiftLaws C sh
               ∙ sym (accepted-from c cs w true true on accepted);
           results =
               results-from c cs v true true e d
-              ∙ results-both _ _ _ _ (result-shifted w v x y _ _ r p (count-shifted C shift L k n w v r)) (rest .results)
+              ∙ results-both _ _ _ _ (result-shifted w v x y _ _ r p (count-shifted C shift L k n w v r))
+              (rest .results)
               ∙ ap (map (shiftedResult shift k)) (sym (results-from c cs w true true on accepted));
         }
     plain-by true false e d fit later =

@@ -14,8 +14,10 @@ use Rattle.refusals.specs.Refusals.{refusalOf}
 use Rattle.leaps.specs.Leaps.{plains}
 use Rattle.leaps.specs.Chip.{Chip}
 use Rattle.leaps.specs.World.{WorldOf, runningIn, systemOf}
-use Rattle.leaps.specs.Lists.{Call, singleClock, runFor, countOf, stepOf, runOf, callOf, Listed, listed, calls, clocksAccepted, resultsBy}
-use Rattle.leaps.specs.Calls.{ResultOf, HandedOf, refusedWith, refusedHanded, refusedCall, stopOf, lentOf, afterCallOf, refusalIn, machineOf, Room}
+use Rattle.leaps.specs.Lists.{Call, singleClock, runFor, countOf, stepOf, runOf, callOf, Listed, listed, calls}
+use Rattle.leaps.specs.Lists.{clocksAccepted, resultsBy}
+use Rattle.leaps.specs.Calls.{ResultOf, HandedOf, refusedWith, refusedHanded, refusedCall, stopOf, lentOf}
+use Rattle.leaps.specs.Calls.{afterCallOf, refusalIn, machineOf, Room}
 use Rattle.leaps.specs.Summed.{withSums, listedSums, callsWithSums}
 use Rattle.leaps.proofs.Chips.{ChipLaws}
 use Rattle.leaps.proofs.Calls.{fair, refused-hands-on}
@@ -32,7 +34,8 @@ one-no-stop = refl
 -- ---- one call
 
 module _ {S : Type 0} (sums : List ℕ) (call : WorldOf S → HandedOf S) (w : WorldOf S) where
-  pub list-refused : pageListRefused (length (w .memory)) (length sums) ≡ true → withSums sums call w ≡ refusedHanded 13 w
+  pub list-refused : pageListRefused (length (w .memory)) (length sums) ≡ true
+      → withSums sums call w ≡ refusedHanded 13 w
   unfolding withSums
   list-refused wrong = rw wrong
 
@@ -45,7 +48,8 @@ module _ {S : Type 0} (sums : List ℕ) (call : WorldOf S → HandedOf S) (w : W
   memory-first m = list-accepted (memory-wrong (length (w .memory)) (length sums) m)
 
   -- and before all else
-  pub list-next : length (w .memory) ≡ memorySpan → (length sums ≡ pageCount → ⊥) → withSums sums call w ≡ refusedHanded 13 w
+  pub list-next : length (w .memory) ≡ memorySpan → (length sums ≡ pageCount → ⊥)
+      → withSums sums call w ≡ refusedHanded 13 w
   list-next m n = list-refused (list-wrong (length (w .memory)) (length sums) m n)
 
   -- "Unless 13 refuses it, a run with sums moves the machine just as a run lacking them."
@@ -61,7 +65,8 @@ module _ {S : Type 0} (sums : List ℕ) (call : WorldOf S → HandedOf S) (w : W
 
 module _ {S : Type 0} (call : Call → WorldOf S → HandedOf S) where
   module _ (c : Call) (cs : List Call) (sums : List ℕ) (w : WorldOf S) where
-    ended : runningIn w ≡ false → callsWithSums call (c ∷ cs) sums w ≡ listedSums (record { world = w; results = [] }) sums
+    ended : runningIn w ≡ false
+        → callsWithSums call (c ∷ cs) sums w ≡ listedSums (record { world = w; results = [] }) sums
     unfolding callsWithSums
     ended e = rw (e, callsWithSums)
 
@@ -75,13 +80,16 @@ module _ {S : Type 0} (call : Call → WorldOf S → HandedOf S) where
   -- with 256 sums the calls are those lacking sums, and the sums have changed as memory has
   module _ (lacking : List Call → WorldOf S → Listed (WorldOf S) (ResultOf S))
       (none : (w : WorldOf S) → lacking [] w ≡ record { world = w; results = [] })
-      (over : (c : Call) (cs : List Call) (w : WorldOf S) → runningIn w ≡ false → lacking (c ∷ cs) w ≡ record { world = w; results = [] })
+      (over : (c : Call) (cs : List Call) (w : WorldOf S) → runningIn w ≡ false
+      → lacking (c ∷ cs) w ≡ record { world = w; results = [] })
       (next : (c : Call) (cs : List Call) (w : WorldOf S) → runningIn w ≡ true
       → lacking (c ∷ cs) w ≡ listed (call c (lentOf w) .result) (lacking cs (afterCallOf w (call c (lentOf w))))) where
     pub list-with-sums : (cs : List Call) (sums : List ℕ) (w : WorldOf S) → length sums ≡ pageCount → SixteenBits sums
-        → callsWithSums call cs sums w ≡ listedSums (lacking cs w) (sumsAfter sums (w .memory) (lacking cs w .world .memory))
+        → callsWithSums call cs sums w
+        ≡ listedSums (lacking cs w) (sumsAfter sums (w .memory) (lacking cs w .world .memory))
     unfolding callsWithSums afterCallOf
-    list-with-sums [] sums w n words = rw (none w) (ap (listedSums (record { world = w; results = [] })) (sums-kept 0 sums (w .memory) words))
+    list-with-sums [] sums w n words =
+        rw (none w) (ap (listedSums (record { world = w; results = [] })) (sums-kept 0 sums (w .memory) words))
     list-with-sums (c ∷ cs) sums w n words =
         let h = call c (lentOf w) in
         by-running (runningIn w) refl
@@ -117,14 +125,16 @@ module _ {S : Type 0} (call : Call → WorldOf S → HandedOf S) where
     pub list-exactly : (cs : List Call) (sums : List ℕ) (w : WorldOf S) → length sums ≡ pageCount → SixteenBits sums
         → (p : ℕ) → p < pageCount → let end = callsWithSums call cs sums w in
         (sumAt (end .sums) p < sumSpan)
-        × ((sumAt (end .sums) p + pageSum p (w .memory)) % sumSpan ≡ (sumAt sums p + pageSum p (end .list .world .memory)) % sumSpan)
+        × ((sumAt (end .sums) p + pageSum p (w .memory)) % sumSpan
+        ≡ (sumAt sums p + pageSum p (end .list .world .memory)) % sumSpan)
     list-exactly cs sums w n words p h =
         rw (list-with-sums cs sums w n words)
         (exactly-changed sums (w .memory) (lacking cs w .world .memory) p (omega (arith, n)))
 
     -- and right sums are right at its end
     pub list-right-after : (cs : List Call) (sums : List ℕ) (w : WorldOf S) → length sums ≡ pageCount → SixteenBits sums
-        → Right sums (w .memory) → let end = callsWithSums call cs sums w in Right (end .sums) (end .list .world .memory)
+        → Right sums (w .memory) → let end =
+        callsWithSums call cs sums w in Right (end .sums) (end .list .world .memory)
     list-right-after cs sums w n words right =
         rw (list-with-sums cs sums w n words) (right-after sums (w .memory) (lacking cs w .world .memory) right)
 
@@ -144,13 +154,17 @@ module _ {S : Type 0} (call : Call → WorldOf S → HandedOf S) where
 
   -- where each call is refused with the same number, each hands on
   pub calls-refused-by : (number : ℕ) → stopOf number ≡ 0 → (cs : List Call) (sums : List ℕ) (w : WorldOf S)
-      → ((c : Call) → withSums sums (call c) (lentOf w) ≡ refusedHanded number (lentOf w)) → SixteenBits sums → w .stop ≡ 0
+      → ((c : Call) → withSums sums (call c) (lentOf w) ≡ refusedHanded number (lentOf w)) → SixteenBits sums
+      → w .stop ≡ 0
       → callsWithSums call cs sums w
       ≡ listedSums (record { world = w; results = map (λ (c : Call). refusedWith number (w .state)) cs }) sums
   unfolding callsWithSums
   calls-refused-by number none [] sums w refused words on = refl
   calls-refused-by number none (c ∷ cs) sums w refused words on =
-      rw (refused-next number none c cs sums w (refused c) words on, calls-refused-by number none cs sums w refused words on)
+      rw (
+        refused-next number none c cs sums w (refused c) words on,
+        calls-refused-by number none cs sums w refused words on,
+      )
 
   -- with another number of sums, and a memory of 65,536 bytes, that is 13: of the first call of a list, and of all
   module _ (sums : List ℕ) (w : WorldOf S) (m : length (w .memory) ≡ memorySpan) (n : length sums ≡ pageCount → ⊥)
@@ -162,8 +176,10 @@ module _ {S : Type 0} (call : Call → WorldOf S → HandedOf S) where
     thirteen-next c cs = refused-next 13 thirteen-no-stop c cs sums w (list-next sums (call c) (lentOf w) m n) words on
 
     pub calls-refused : (cs : List Call)
-        → callsWithSums call cs sums w ≡ listedSums (record { world = w; results = map (λ (c : Call). refusedWith 13 (w .state)) cs }) sums
-    calls-refused cs = calls-refused-by 13 thirteen-no-stop cs sums w (λ c. list-next sums (call c) (lentOf w) m n) words on
+        → callsWithSums call cs sums w
+        ≡ listedSums (record { world = w; results = map (λ (c : Call). refusedWith 13 (w .state)) cs }) sums
+    calls-refused cs =
+        calls-refused-by 13 thirteen-no-stop cs sums w (λ c. list-next sums (call c) (lentOf w) m n) words on
 
 -- ---- of a chip
 
@@ -175,13 +191,15 @@ module _ {S : Type 0} (C : Chip S) where
   unfolding calls
   calls-none w = refl
 
-  calls-over : (c : Call) (cs : List Call) (w : WorldOf S) → runningIn w ≡ false → lackingOf (c ∷ cs) w ≡ record { world = w; results = [] }
+  calls-over : (c : Call) (cs : List Call) (w : WorldOf S) → runningIn w ≡ false
+      → lackingOf (c ∷ cs) w ≡ record { world = w; results = [] }
   unfolding calls
   calls-over c cs w e = rw (e, calls)
 
   calls-next : (c : Call) (cs : List Call) (w : WorldOf S) → runningIn w ≡ true
       → lackingOf (c ∷ cs) w
-      ≡ listed (callOf (machineOf C) c (lentOf w) .result) (lackingOf cs (afterCallOf w (callOf (machineOf C) c (lentOf w))))
+      ≡ listed (callOf (machineOf C) c (lentOf w) .result)
+      (lackingOf cs (afterCallOf w (callOf (machineOf C) c (lentOf w))))
   unfolding calls
   calls-next c cs w e = rw (e, calls)
 
@@ -189,17 +207,21 @@ module _ {S : Type 0} (C : Chip S) where
     pub calls-alike : length sums ≡ pageCount → SixteenBits sums
         → callsWithSums (callOf (machineOf C)) cs sums w
         ≡ listedSums (calls (machineOf C) cs w) (sumsAfter sums (w .memory) (calls (machineOf C) cs w .world .memory))
-    calls-alike n words = list-with-sums (callOf (machineOf C)) lackingOf calls-none calls-over calls-next cs sums w n words
+    calls-alike n words =
+        list-with-sums (callOf (machineOf C)) lackingOf calls-none calls-over calls-next cs sums w n words
 
     pub calls-exactly : length sums ≡ pageCount → SixteenBits sums
         → (p : ℕ) → p < pageCount → let end = callsWithSums (callOf (machineOf C)) cs sums w in
         (sumAt (end .sums) p < sumSpan)
-        × ((sumAt (end .sums) p + pageSum p (w .memory)) % sumSpan ≡ (sumAt sums p + pageSum p (end .list .world .memory)) % sumSpan)
-    calls-exactly n words p h = list-exactly (callOf (machineOf C)) lackingOf calls-none calls-over calls-next cs sums w n words p h
+        × ((sumAt (end .sums) p + pageSum p (w .memory)) % sumSpan
+        ≡ (sumAt sums p + pageSum p (end .list .world .memory)) % sumSpan)
+    calls-exactly n words p h =
+        list-exactly (callOf (machineOf C)) lackingOf calls-none calls-over calls-next cs sums w n words p h
 
     pub calls-right-after : length sums ≡ pageCount → SixteenBits sums → Right sums (w .memory)
         → let end = callsWithSums (callOf (machineOf C)) cs sums w in Right (end .sums) (end .list .world .memory)
-    calls-right-after n words right = list-right-after (callOf (machineOf C)) lackingOf calls-none calls-over calls-next cs sums w n words right
+    calls-right-after n words right =
+        list-right-after (callOf (machineOf C)) lackingOf calls-none calls-over calls-next cs sums w n words right
 
   -- DEMAND 3 of a list of calls with 256 sums: what plain clocks say, and the sums changed by exactly what the pages'
   -- bytes change over them
@@ -207,7 +229,8 @@ module _ {S : Type 0} (C : Chip S) where
       → length sums ≡ pageCount → SixteenBits sums
       → callsWithSums (callOf (machineOf C)) cs sums w
       ≡ (let end = plains (systemOf C) (clocksAccepted (machineOf C) cs w) w in
-      listedSums (record { world = end; results = resultsBy (machineOf C) cs w }) (sumsAfter sums (w .memory) (end .memory)))
+      listedSums (record { world = end; results = resultsBy (machineOf C) cs w })
+      (sumsAfter sums (w .memory) (end .memory)))
   fair-with-sums L cs sums w room n words = calls-alike cs sums w n words ∙ rw (fair C L cs w room) refl
 
   -- a memory of another length is 1, whatever the page list

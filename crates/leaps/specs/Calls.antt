@@ -113,7 +113,8 @@ module _ {S : Type 0} (C : Chip S) where
   -- the number of the refusal of a call for n clocks, or 0
   abbrev pub refusalIn : ℕ → WorldOf S → ℕ
   refusalIn n w =
-      refusalOf (C .limits) (C .wellFormed (w .state)) (C .clock (w .state)) (length (w .memory)) (w .inputClocks) (w .inputCodes)
+      refusalOf (C .limits) (C .wellFormed (w .state)) (C .clock (w .state)) (length (w .memory)) (w .inputClocks)
+      (w .inputCodes)
       (length (w .outputClocks)) (length (w .outputWords)) n
 
   abbrev pub refusedCall : ℕ → WorldOf S → HandedOf S
@@ -139,6 +140,7 @@ module _ {S : Type 0} (C : Chip S) where
 pub record Fit {S : Type 0} (C : Chip S) (w : WorldOf S) : Type 0 where
   pub memory : length (w .memory) ≡ C .limits .memory  -- number 1: of the chip's length
   pub state : C .wellFormed (w .state) ≡ true  -- "Well-formed: every field is within its range here."
-  pub pins : pinsRight (C .limits .pin) (C .clock (w .state)) (w .inputClocks) (w .inputCodes) ≡ true  -- "Pin lists", of the rest; so both are of equal length
+  pub pins : pinsRight (C .limits .pin) (C .clock (w .state)) (w .inputClocks) (w .inputCodes)
+      ≡ true  -- "Pin lists", of the rest; so both are of equal length
   pub outputs : length (w .outputClocks) ≡ length (w .outputWords)  -- "two lent lists", of equal length
   pub written : w .written ≤ length (w .outputClocks)  -- the records written are within them

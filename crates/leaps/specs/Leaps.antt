@@ -91,5 +91,6 @@ module _ {W : Type 0} (S : System W) where
 -- stopped, its gap ends before the clocks left do, and its event clock is done.
 pub data ByLeaps {W : Type 0} (S : System W) (n : ℕ) (w : W) : ℕ → ℕ → W → Type 0 where
   no-leap : ByLeaps S n w 0 n w
-  one-more : {k m : ℕ} {v : W} → ByLeaps S n w k m v → S .running v ≡ true → S .gap m v < m → S .done (S .pass (S .gap m v) v) ≡ true
+  one-more : {k m : ℕ} {v : W} → ByLeaps S n w k m v → S .running v ≡ true → S .gap m v < m
+      → S .done (S .pass (S .gap m v) v) ≡ true
       → ByLeaps S n w (k + 1) (leftAfter S m v) (leapOf S m v)

@@ -51,7 +51,9 @@ module _ {W R : Type 0} where
 module _ {W H R : Type 0} (M : Machine W H R) where
   -- the single-clock call: 1 leap where the clock moved
   unfoldable pub stepOf : W → H
-  stepOf w = cond (M .accepts 1 w) (M .handedBack (movedOf (M .system) w (M .system .plain w)) (M .system .plain w)) (M .refused 1 w)
+  stepOf w =
+      cond (M .accepts 1 w) (M .handedBack (movedOf (M .system) w (M .system .plain w)) (M .system .plain w))
+      (M .refused 1 w)
 
   abbrev pub handedRun : Run W → H
   handedRun r = M .handedBack (r .leaps) (r .world)
@@ -79,8 +81,8 @@ module _ {W H R : Type 0} (M : Machine W H R) where
         | false ↦ record { world = w; results = [] }
       ]
 
-  -- ---- by plain clocks alone, which "go from a copy of demand 3's start, with stop 0, and take nothing that a call gives
-  -- back"
+  -- ---- by plain clocks alone, which "go from a copy of demand 3's start, with stop 0, and take nothing that a call
+  -- gives back"
 
   -- n: the sum of the counts of the calls not refused; "A refused call hands on what it got"
   unfoldable pub clocksAccepted : List Call → W → ℕ

@@ -22,7 +22,8 @@ module _ (p : ℕ) where
       rw (ne-eqb (pageOf address) p other) (omega (arith, behind (address + 1) bytes (omega arith)))
 
   -- in the page, with j addresses of it left
-  within : (j address : ℕ) (bytes : List ℕ) → address + j ≡ pageLength * p + pageLength → j ≤ pageLength → partSum p address bytes ≡ totalOf (take j bytes)
+  within : (j address : ℕ) (bytes : List ℕ) → address + j ≡ pageLength * p + pageLength → j ≤ pageLength
+      → partSum p address bytes ≡ totalOf (take j bytes)
   unfolding partSum totalOf
   within zero address [] e h = refl
   within (suc j) address [] e h = refl
@@ -32,7 +33,8 @@ module _ (p : ℕ) where
       rw (eq-eqb (pageOf address) p own) (ap (λ n. b + n) (within j (address + 1) bytes (omega arith) (omega arith)))
 
   -- before the page, by j addresses
-  ahead : (j address : ℕ) (bytes : List ℕ) → address + j ≡ pageLength * p → partSum p address bytes ≡ totalOf (take pageLength (drop j bytes))
+  ahead : (j address : ℕ) (bytes : List ℕ) → address + j ≡ pageLength * p
+      → partSum p address bytes ≡ totalOf (take pageLength (drop j bytes))
   unfolding partSum totalOf
   ahead zero address bytes e = within pageLength address bytes (omega arith) (omega arith)
   ahead (suc j) address [] e = refl
@@ -47,7 +49,8 @@ module _ (p : ℕ) where
 -- ---- the bytes of all pages
 
 -- two lists of numbers, added entry by entry
-total-both : (f g : ℕ → ℕ) (n i : ℕ) → totalOf (tabulate (λ p. f p + g p) n i) ≡ totalOf (tabulate f n i) + totalOf (tabulate g n i)
+total-both : (f g : ℕ → ℕ) (n i : ℕ)
+    → totalOf (tabulate (λ p. f p + g p) n i) ≡ totalOf (tabulate f n i) + totalOf (tabulate g n i)
 unfolding totalOf
 total-both f g zero i = refl
 total-both f g (suc n) i = omega (arith, total-both f g n (suc i))
@@ -90,5 +93,6 @@ pages-whole n address (b ∷ bytes) h =
     )
 
 -- the sums of a memory's pages come to the sum of its bytes
-pub pages-total : (n : ℕ) (memory : List ℕ) → length memory ≤ pageLength * n → totalOf (tabulate (λ p. pageSum p memory) n 0) ≡ totalOf memory
+pub pages-total : (n : ℕ) (memory : List ℕ) → length memory ≤ pageLength * n
+    → totalOf (tabulate (λ p. pageSum p memory) n 0) ≡ totalOf memory
 pages-total n memory h = pages-whole n 0 memory (omega arith)

@@ -10,7 +10,8 @@ use lib.Dec.{eqb, ltb}
 use lib.ListN.{length, getD, set, replicate, length-set, length-replicate, getD-replicate, List·getD-eq-default}
 use lib.Seq.{ext-getD, getD-set-same, getD-set-other}
 use Rattle.bits.proofs.Tables.{getD-tabulate, length-tabulate}
-use Rattle.page_sums.specs.PageSums.{sumSpan, pageOf, partSum, pageSum, sumChanged, sumAt, sumAfter, sumsAfterPart, sumsAfter, Right, SixteenBits}
+use Rattle.page_sums.specs.PageSums.{sumSpan, pageOf, partSum, pageSum, sumChanged, sumAt, sumAfter}
+use Rattle.page_sums.specs.PageSums.{sumsAfterPart, sumsAfter, Right, SixteenBits}
 
 -- ---- one sum
 
@@ -21,7 +22,8 @@ module _ (sum : ℕ) where
   unfolding sumChanged
   changed-exactly before after = omega arith
 
-  pub changed-alone : (before after x : ℕ) → x < sumSpan → (x + before) % sumSpan ≡ (sum + after) % sumSpan → x ≡ sumChanged sum before after
+  pub changed-alone : (before after x : ℕ) → x < sumSpan → (x + before) % sumSpan ≡ (sum + after) % sumSpan
+      → x ≡ sumChanged sum before after
   unfolding sumChanged
   changed-alone before after x h e = omega arith
 
@@ -45,12 +47,14 @@ module _ (sum : ℕ) where
   changed-as-much a b c d e = omega arith
 
   -- to add 65,536 less what was there is to take it off
-  pub taken-off : (before after : ℕ) → before ≤ sumSpan → (sum + after + sumSpan - before) % sumSpan ≡ sumChanged sum before after
+  pub taken-off : (before after : ℕ) → before ≤ sumSpan
+      → (sum + after + sumSpan - before) % sumSpan ≡ sumChanged sum before after
   unfolding sumChanged
   taken-off before after h = omega arith
 
   -- what else is in the page plays no part
-  pub changed-beside : (rest before after : ℕ) → sumChanged sum (rest + before) (rest + after) ≡ sumChanged sum before after
+  pub changed-beside : (rest before after : ℕ)
+      → sumChanged sum (rest + before) (rest + after) ≡ sumChanged sum before after
   unfolding sumChanged
   changed-beside rest before after = omega arith
 
@@ -63,7 +67,8 @@ changed-right before after = omega arith
 
 module _ (p : ℕ) where
   -- of one part behind another
-  pub part-append : (address : ℕ) (x y : List ℕ) → partSum p address (x ++ y) ≡ partSum p address x + partSum p (address + length x) y
+  pub part-append : (address : ℕ) (x y : List ℕ)
+      → partSum p address (x ++ y) ≡ partSum p address x + partSum p (address + length x) y
   unfolding partSum
   part-append address [] y = rw add-zero (omega arith)
   part-append address (b ∷ x) y =
@@ -75,13 +80,15 @@ module _ (p : ℕ) where
       → partSum p address (set part k v) + getD part k 0 ≡ partSum p address part + v
   unfolding partSum
   put-own address k v [] h e = absurd (omega arith)
-  put-own address zero v (b ∷ part) h e = let own : pageOf address ≡ p = rw add-zero at e in rw (eq-eqb (pageOf address) p own) (omega arith)
+  put-own address zero v (b ∷ part) h e =
+      let own : pageOf address ≡ p = rw add-zero at e in rw (eq-eqb (pageOf address) p own) (omega arith)
   put-own address (suc k) v (b ∷ part) h e =
       let later : address + 1 + k ≡ address + suc k = omega arith in
       omega (arith, put-own (address + 1) k v part (omega arith) (ap pageOf later ∙ e))
 
   -- and no other page's does
-  pub put-other : (address k v : ℕ) (part : List ℕ) → (pageOf (address + k) ≡ p → ⊥) → partSum p address (set part k v) ≡ partSum p address part
+  pub put-other : (address k v : ℕ) (part : List ℕ) → (pageOf (address + k) ≡ p → ⊥)
+      → partSum p address (set part k v) ≡ partSum p address part
   unfolding partSum
   put-other address k v [] other = refl
   put-other address zero v (b ∷ part) other =
@@ -89,7 +96,8 @@ module _ (p : ℕ) where
       rw (ne-eqb (pageOf address) p alone)
   put-other address (suc k) v (b ∷ part) other =
       let later : address + 1 + k ≡ address + suc k = omega arith in
-      ap (λ n. cond (eqb (pageOf address) p) b 0 + n) (put-other (address + 1) k v part (λ e. other (ap pageOf (sym later) ∙ e)))
+      ap (λ n. cond (eqb (pageOf address) p) b 0 + n)
+      (put-other (address + 1) k v part (λ e. other (ap pageOf (sym later) ∙ e)))
 
 -- ---- the sums
 
@@ -98,12 +106,16 @@ module _ (address : ℕ) (sums part later : List ℕ) where
   unfolding sumsAfterPart
   sums-length = length-tabulate _ (length sums) 0
 
-  pub sum-after : (p : ℕ) → p < length sums → getD (sumsAfterPart address sums part later) p 0 ≡ sumAfter address sums part later p
+  pub sum-after : (p : ℕ) → p < length sums
+      → getD (sumsAfterPart address sums part later) p 0 ≡ sumAfter address sums part later p
   unfolding sumsAfterPart
-  sum-after p h = getD-tabulate (sumAfter address sums part later) (length sums) 0 p 0 h ∙ ap (sumAfter address sums part later) (zero-add p)
+  sum-after p h =
+      getD-tabulate (sumAfter address sums part later) (length sums) 0 p 0 h
+      ∙ ap (sumAfter address sums part later) (zero-add p)
 
   -- a list of as many sums with these entries is this one
-  pub sums-are : (l : List ℕ) → length l ≡ length sums → ((p : ℕ) → p < length sums → getD l p 0 ≡ sumAfter address sums part later p)
+  pub sums-are : (l : List ℕ) → length l ≡ length sums
+      → ((p : ℕ) → p < length sums → getD l p 0 ≡ sumAfter address sums part later p)
       → l ≡ sumsAfterPart address sums part later
   sums-are l n h =
       ext-getD 0 l (sumsAfterPart address sums part later) (n ∙ sym sums-length)
@@ -118,7 +130,8 @@ sixteen-after address sums part later p = by-place (ltb p (length sums)) refl
         rw (sum-after address sums part later p (ltb-true p (length sums) e))
         (changed-below (sumAt sums p) (partSum p address part) (partSum p address later))
     by-place false e =
-        let beyond : length (sumsAfterPart address sums part later) ≤ p = omega (arith, sums-length address sums part later, ltb-false p (length sums) e) in
+        let beyond : length (sumsAfterPart address sums part later) ≤ p =
+        omega (arith, sums-length address sums part later, ltb-false p (length sums) e) in
         rw (List·getD-eq-default (sumsAfterPart address sums part later) 0 beyond) (omega arith)
 
 -- a list of no sums stays so
@@ -132,7 +145,8 @@ sums-kept address sums part words =
     sums-are address sums part part sums refl (λ p h. sym (unchanged (sumAt sums p) (partSum p address part) (words p)))
 
 -- the changes of one memory after another add up
-pub sums-twice : (address : ℕ) (sums a b c : List ℕ) → sumsAfterPart address (sumsAfterPart address sums a b) b c ≡ sumsAfterPart address sums a c
+pub sums-twice : (address : ℕ) (sums a b c : List ℕ)
+    → sumsAfterPart address (sumsAfterPart address sums a b) b c ≡ sumsAfterPart address sums a c
 sums-twice address sums a b c =
     let between = sumsAfterPart address sums a b in
     let n = sums-length address sums a b in
@@ -148,18 +162,22 @@ pub sums-then : (address : ℕ) (sums a b c : List ℕ) {between last : List ℕ
 sums-then address sums a b c e f = f ∙ ap (λ l. sumsAfterPart address l b c) e ∙ sums-twice address sums a b c
 
 -- a part that changes alone
-pub sums-beside : (sums front x y : List ℕ) → sumsAfter sums (front ++ x) (front ++ y) ≡ sumsAfterPart (length front) sums x y
+pub sums-beside : (sums front x y : List ℕ)
+    → sumsAfter sums (front ++ x) (front ++ y) ≡ sumsAfterPart (length front) sums x y
 sums-beside sums front x y =
-    sums-are (length front) sums x y (sumsAfter sums (front ++ x) (front ++ y)) (sums-length 0 sums (front ++ x) (front ++ y))
+    sums-are (length front) sums x y (sumsAfter sums (front ++ x) (front ++ y))
+    (sums-length 0 sums (front ++ x) (front ++ y))
     (λ p h. sum-after 0 sums (front ++ x) (front ++ y) p h
     ∙ rw (part-append p 0 front x, part-append p 0 front y, zero-add (length front))
     (changed-beside (sumAt sums p) (partSum p 0 front) (partSum p (length front) x) (partSum p (length front) y)))
 
 -- a byte put changes the sum of its page alone, by what the byte changes
 pub byte-summed : (address k v : ℕ) (sums part : List ℕ) → SixteenBits sums → k < length part
-    → set sums (pageOf (address + k)) (sumChanged (getD sums (pageOf (address + k)) 0) (getD part k 0) v) ≡ sumsAfterPart address sums part (set part k v)
+    → set sums (pageOf (address + k)) (sumChanged (getD sums (pageOf (address + k)) 0) (getD part k 0) v)
+    ≡ sumsAfterPart address sums part (set part k v)
 byte-summed address k v sums part words h =
-    sums-are address sums part (set part k v) (set sums own new) (length-set sums own new) (λ p i. by-page p i (eqb own p) refl)
+    sums-are address sums part (set part k v) (set sums own new) (length-set sums own new)
+    (λ p i. by-page p i (eqb own p) refl)
   where
     own : ℕ
     own = pageOf (address + k)
@@ -174,7 +192,8 @@ byte-summed address k v sums part words h =
         let inside : own < length sums = omega arith in
         rw (← same)
         (getD-set-same sums own new 0 inside
-        ∙ changed-as-much (getD sums own 0) (getD part k 0) v (partSum own address part) (partSum own address (set part k v)) (put-own own address k v part h refl))
+        ∙ changed-as-much (getD sums own 0) (getD part k 0) v (partSum own address part)
+        (partSum own address (set part k v)) (put-own own address k v part h refl))
     by-page p i false e =
         let other = eqb-false own p e in
         getD-set-other sums own p new 0 (λ s. other (sym s))
@@ -183,15 +202,19 @@ byte-summed address k v sums part words h =
 -- ---- document 02, U7
 
 -- a sum changes, right or wrong before, by exactly what its page's bytes change
-pub exactly-changed : (sums memory later : List ℕ) (p : ℕ) → p < length sums → let sum = getD (sumsAfter sums memory later) p 0 in
+pub exactly-changed : (sums memory later : List ℕ) (p : ℕ) → p < length sums
+    → let sum = getD (sumsAfter sums memory later) p 0 in
     (sum < sumSpan) × ((sum + pageSum p memory) % sumSpan ≡ (sumAt sums p + pageSum p later) % sumSpan)
 exactly-changed sums memory later p h =
-    let e = sum-after 0 sums memory later p h in
-    (rw e (changed-below (sumAt sums p) (pageSum p memory) (pageSum p later)), rw e (changed-exactly (sumAt sums p) (pageSum p memory) (pageSum p later)))
+    let e = sum-after 0 sums memory later p h in (
+      rw e (changed-below (sumAt sums p) (pageSum p memory) (pageSum p later)),
+      rw e (changed-exactly (sumAt sums p) (pageSum p memory) (pageSum p later)),
+    )
 
 -- and no other list of as many sums below 65,536 does
 pub alone-changed : (sums memory later l : List ℕ) → length l ≡ length sums
-    → ((p : ℕ) → p < length sums → (sumAt l p < sumSpan) × ((sumAt l p + pageSum p memory) % sumSpan ≡ (sumAt sums p + pageSum p later) % sumSpan))
+    → ((p : ℕ) → p < length sums
+    → (sumAt l p < sumSpan) × ((sumAt l p + pageSum p memory) % sumSpan ≡ (sumAt sums p + pageSum p later) % sumSpan))
     → l ≡ sumsAfter sums memory later
 alone-changed sums memory later l n h =
     sums-are 0 sums memory later l n
@@ -209,12 +232,14 @@ unfolding partSum
 zeros-sum p address zero = refl
 zeros-sum p address (suc n) = by-page (eqb (pageOf address) p) (zeros-sum p (address + 1) n)
   where
-    by-page : (t : Bool) → partSum p (address + 1) (replicate n 0) ≡ 0 → cond t 0 0 + partSum p (address + 1) (replicate n 0) ≡ 0
+    by-page : (t : Bool) → partSum p (address + 1) (replicate n 0) ≡ 0
+        → cond t 0 0 + partSum p (address + 1) (replicate n 0) ≡ 0
     by-page true e = omega arith
     by-page false e = omega arith
 
 pub zeros-right : (n m : ℕ) → Right (replicate n 0) (replicate m 0)
-zeros-right n m p h = let i : p < n = omega (arith, length-replicate n (zero)) in getD-replicate n p 0 0 i ∙ rw (zeros-sum p 0 m)
+zeros-right n m p h =
+    let i : p < n = omega (arith, length-replicate n (zero)) in getD-replicate n p 0 0 i ∙ rw (zeros-sum p 0 m)
 
 -- a byte that was 10h and becomes 05h, beside a sum of 0
 pub wrong-sum : sumChanged 0 0x10 0x05 ≡ 65525

@@ -1,7 +1,8 @@
 -- Totals of page sums: along any order of the pages the total of right sums is that of all bytes.
 use mathlib.Core.Path.{_≡_, refl, ap, sym, _∙_}
 use mathlib.Core.Logic.{∥∥₁-elim}
-use mathlib.Core.List.{List, [], _∷_, map, Perm, List·Permᴰ, List·Permᴰ·nil, List·Permᴰ·cons, List·Permᴰ·swap, List·Permᴰ·trans}
+use mathlib.Core.List.{List, [], _∷_, map, Perm, List·Permᴰ, List·Permᴰ·nil, List·Permᴰ·cons, List·Permᴰ·swap}
+use mathlib.Core.List.{List·Permᴰ·trans}
 use Prim.Native.Nat.{ℕ, zero, suc, _+_, _*_, _%_, _≤_, _<_}
 use native.Mathlib.Numerals.{add-one}
 use native.Mathlib.Nat.{ℕ-set, zero-add}
@@ -12,7 +13,8 @@ use borrow.Author.Tests.{eq-eqb}
 use Rattle.bits.specs.Lists.{tabulate}
 use Rattle.bits.proofs.Tables.{upTo, getD-tabulate, length-tabulate}
 use Rattle.memory.specs.Memory.{memorySpan}
-use Rattle.page_sums.specs.PageSums.{totalOf, pageCount, pageLength, sumSpan, pageSum, sumAt, Right, totalAlong, totalResult, totalCall}
+use Rattle.page_sums.specs.PageSums.{totalOf, pageCount, pageLength, sumSpan, pageSum, sumAt, Right, totalAlong}
+use Rattle.page_sums.specs.PageSums.{totalResult, totalCall}
 use Rattle.page_sums.proofs.Pages.{pages-total}
 
 -- the total from entry i on
@@ -51,7 +53,8 @@ in-order sums =
 pub along-any : (order sums : List ℕ) → Perm order (upTo (length sums)) → totalAlong order sums ≡ totalOf sums % sumSpan
 along-any order sums p =
     ap (λ n. n % sumSpan)
-    (total-permuted (sumAt sums) order (upTo (length sums)) p ∙ ap totalOf (own-order (sumAt sums) (length sums) 0 ∙ in-order sums))
+    (total-permuted (sumAt sums) order (upTo (length sums)) p
+    ∙ ap totalOf (own-order (sumAt sums) (length sums) 0 ∙ in-order sums))
 
 -- totals of numbers that are equal modulo 65,536
 total-alike : (f g : ℕ → ℕ) (n i : ℕ) → ((p : ℕ) → p < i + n → f p % sumSpan ≡ g p % sumSpan)
@@ -64,15 +67,18 @@ total-alike f g (suc n) i h =
     omega (arith, here, later)
 
 -- right sums, of pages that reach beyond the memory
-pub right-total : (sums memory : List ℕ) → length memory ≤ pageLength * length sums → Right sums memory → totalOf sums % sumSpan ≡ totalOf memory % sumSpan
+pub right-total : (sums memory : List ℕ) → length memory ≤ pageLength * length sums → Right sums memory
+    → totalOf sums % sumSpan ≡ totalOf memory % sumSpan
 right-total sums memory h right =
     ap (λ l. totalOf l % sumSpan) (sym (in-order sums))
-    ∙ total-alike (sumAt sums) (λ p. pageSum p memory) (length sums) 0 (λ p u. let e = right p (omega arith) in omega (arith, e))
+    ∙ total-alike (sumAt sums) (λ p. pageSum p memory) (length sums) 0
+    (λ p u. let e = right p (omega arith) in omega (arith, e))
     ∙ ap (λ n. n % sumSpan) (pages-total (length sums) memory h)
 
 -- 02, U7: "Where all are right, the total taken from them in any order of pages equals the straight sum of all bytes
 -- modulo 65,536", for every permutation of 0 to 255
-pub any-order : (order sums memory : List ℕ) → Perm order (upTo pageCount) → length sums ≡ pageCount → length memory ≡ memorySpan → Right sums memory
+pub any-order : (order sums memory : List ℕ) → Perm order (upTo pageCount) → length sums ≡ pageCount
+    → length memory ≡ memorySpan → Right sums memory
     → totalAlong order sums ≡ totalOf memory % sumSpan
 any-order order sums memory p n m right =
     along-any order sums (rw n p) ∙ right-total sums memory (omega arith) right

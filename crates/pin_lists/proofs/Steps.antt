@@ -25,7 +25,8 @@ module _ (lastPin : ℕ) where
   behind-last c [] [] = refl
   behind-last c [] (d ∷ ds) = refl
   behind-last c (t ∷ ts) [] = refl
-  behind-last c (t ∷ ts) (d ∷ ds) = ap (λ (b : Bool). b && restRight lastPin t (pinOf d) ts ds) (within (codeRight lastPin d) _ _ later)
+  behind-last c (t ∷ ts) (d ∷ ds) =
+      ap (λ (b : Bool). b && restRight lastPin t (pinOf d) ts ds) (within (codeRight lastPin d) _ _ later)
     where
       within : (a x y : Bool) → (a ≡ true → x ≡ y) → (a && x) ≡ (a && y)
       within true x y h = h refl
@@ -50,7 +51,8 @@ module _ (lastPin : ℕ) where
 
     -- one entry more
     pub rest-next : i < length ts → restRight lastPin c p (drop i ts) (drop i cs)
-        ≡ (entryRight lastPin c p (getD ts i 0) (getD cs i 0) && restRight lastPin (getD ts i 0) (pinOf (getD cs i 0)) (drop (i + 1) ts) (drop (i + 1) cs))
+        ≡ (entryRight lastPin c p (getD ts i 0) (getD cs i 0) && restRight lastPin (getD ts i 0) (pinOf (getD cs i 0))
+        (drop (i + 1) ts) (drop (i + 1) cs))
     unfolding restRight
     rest-next h = let l : i < length cs = omega arith in rw (drop-cons ts i 0 h, drop-cons cs i 0 l, add-one i)
 

@@ -25,7 +25,8 @@ use Rattle.r6501q.specs.declared.host.HostDue.{HostDue}
 use Rattle.r6501q.specs.declared.host.HostPeripherals.{HostPeripherals}
 use Rattle.r6501q.specs.declared.host.HostLevels.{HostLevels}
 use Rattle.r6501q.specs.declared.host.HostState.{HostState}
-use Rattle.r6501q.specs.Host.{flagOf, isFlag, waitingFromHost, levelsFromHost, stateFromHost, waitingFits, flagsFit, haltOf, hostWaiting, hostLevels, hostState}
+use Rattle.r6501q.specs.Host.{flagOf, isFlag, waitingFromHost, levelsFromHost, stateFromHost, waitingFits}
+use Rattle.r6501q.specs.Host.{flagsFit, haltOf, hostWaiting, hostLevels, hostState}
 use Rattle.r6501q.specs.Calls.{HostWorld, hostWellFormed, worldFromHost, hostHandedOf, hostRefusalOf, hostCall}
 use Rattle.r6501q.specs.Lists.{hostCalled}
 
@@ -120,7 +121,8 @@ host-kept h e =
 -- ---- refusals
 
 -- a flag above 1, or a none that is not 0, 0, 0, is number 2, and everything is as it was
-pub flag-refused : (call : World → Handed) (n : ℕ) (w : HostWorld) → flagsFit (w .state) ≡ false → length (w .memory) ≡ memorySpan
+pub flag-refused : (call : World → Handed) (n : ℕ) (w : HostWorld) → flagsFit (w .state) ≡ false
+    → length (w .memory) ≡ memorySpan
     → hostCall call n w ≡ refusedHanded 2 w
 unfolding hostCall refusalOf
 flag-refused call n w e m = rw (e, eq-eqb _ _ m)
@@ -139,7 +141,8 @@ library-refused halt (runFor n) v e = rw e
 -- A refused exported call, single clock or run, hands back the very state that it got, the lists as they were, and the
 -- number of the first row of the table that is so, what does not fit being a state that is not well-formed. No halt
 -- address changes that.
-pub exported-refused : (halt : ℕ) (c : Call) (w : HostWorld) → eqb (hostRefusalOf (hostWellFormed (w .state)) (countOf c) w) 0 ≡ false
+pub exported-refused : (halt : ℕ) (c : Call) (w : HostWorld)
+    → eqb (hostRefusalOf (hostWellFormed (w .state)) (countOf c) w) 0 ≡ false
     → hostCalled halt c w ≡ refusedHanded (hostRefusalOf (hostWellFormed (w .state)) (countOf c) w) w
 unfolding hostCall
 exported-refused halt c w e = by-flags (flagsFit (w .state)) refl
@@ -147,11 +150,15 @@ exported-refused halt c w e = by-flags (flagsFit (w .state)) refl
     n : ℕ
     n = countOf c
 
-    by-flags : (t : Bool) → flagsFit (w .state) ≡ t → hostCalled halt c w ≡ refusedHanded (hostRefusalOf (hostWellFormed (w .state)) n w) w
+    by-flags : (t : Bool) → flagsFit (w .state) ≡ t
+        → hostCalled halt c w ≡ refusedHanded (hostRefusalOf (hostWellFormed (w .state)) n w) w
     by-flags true f =
-        let number : refusalIn (r6501q (haltOf halt)) n (worldFromHost w) ≡ hostRefusalOf (hostWellFormed (w .state)) n w = rw (f, same-clock (w .state)) in
+        let number : refusalIn (r6501q (haltOf halt)) n (worldFromHost w)
+        ≡ hostRefusalOf (hostWellFormed (w .state)) n w = rw (f, same-clock (w .state)) in
         let v = worldFromHost w in
         let library : hostCalled halt c w ≡ hostHandedOf (callOf (machine (haltOf halt)) c v) = rw f in
-        let back : hostHandedOf (refusedHanded (refusalIn (r6501q (haltOf halt)) n v) v) ≡ refusedHanded (refusalIn (r6501q (haltOf halt)) n v) w = rw (host-kept (w .state) f) in
-        library ∙ ap hostHandedOf (library-refused (haltOf halt) c v (ap (λ (k : ℕ). eqb k 0) number ∙ e)) ∙ back ∙ ap (λ (k : ℕ). refusedHanded k w) number
+        let back : hostHandedOf (refusedHanded (refusalIn (r6501q (haltOf halt)) n v) v)
+        ≡ refusedHanded (refusalIn (r6501q (haltOf halt)) n v) w = rw (host-kept (w .state) f) in
+        library ∙ ap hostHandedOf (library-refused (haltOf halt) c v (ap (λ (k : ℕ). eqb k 0) number ∙ e)) ∙ back
+        ∙ ap (λ (k : ℕ). refusedHanded k w) number
     by-flags false f = rw f

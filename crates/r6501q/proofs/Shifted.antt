@@ -7,7 +7,8 @@ use lib.Dec.{eqb}
 use Rattle.leaps.specs.Leaps.{plains, leapCount}
 use Rattle.leaps.specs.Lists.{Call, singleClock, runFor, countOf, callOf, Listed, calls}
 use Rattle.leaps.specs.Calls.{ResultOf, handedBackOf, refusalIn, Room}
-use Rattle.leaps.specs.Shifted.{shiftedResult, ShiftedWorld, ShiftedHanded, ShiftedListed, clockRefusal, RefusedAlike, clocksFit}
+use Rattle.leaps.specs.Shifted.{shiftedResult, ShiftedWorld, ShiftedHanded, ShiftedListed, clockRefusal, RefusedAlike}
+use Rattle.leaps.specs.Shifted.{clocksFit}
 use Rattle.r6501q_state.specs.declared.state.State.{State}
 use Rattle.r6501q_step.specs.R6501q.{World, Handed, Result, r6501q, chip, machine}
 use Rattle.r6501q_step.specs.Shifted.{shiftedState}
@@ -35,7 +36,8 @@ module _ (k : ℕ) where
   unfolding flagsFit
   fit-shifted h = refl
 
-  world-from : (w v : HostWorld) → ShiftedWorld hostShifted k w v → ShiftedWorld shiftedState k (worldFromHost w) (worldFromHost v)
+  world-from : (w v : HostWorld) → ShiftedWorld hostShifted k w v
+      → ShiftedWorld shiftedState k (worldFromHost w) (worldFromHost v)
   world-from w v r = record {
     state = ap stateFromHost (r .state) ∙ from-shifted (w .state);
     memory = r .memory;
@@ -59,10 +61,12 @@ module _ (k : ℕ) where
     stop = r .stop;
   }
 
-  result-to : (r : Result) → hostResultOf (shiftedResult shiftedState k r) ≡ shiftedResult hostShifted k (hostResultOf r)
+  result-to : (r : Result)
+      → hostResultOf (shiftedResult shiftedState k r) ≡ shiftedResult hostShifted k (hostResultOf r)
   result-to r = rw (to-shifted (r .state))
 
-  handed-to : (h g : Handed) → ShiftedHanded shiftedState k h g → ShiftedHanded hostShifted k (hostHandedOf h) (hostHandedOf g)
+  handed-to : (h g : Handed) → ShiftedHanded shiftedState k h g
+      → ShiftedHanded hostShifted k (hostHandedOf h) (hostHandedOf g)
   handed-to h g r = record {
     result = ap hostResultOf (r .result) ∙ result-to (h .result);
     memory = r .memory;
@@ -95,17 +99,22 @@ module _ (halt k : ℕ) (w v : HostWorld) (r : ShiftedWorld hostShifted k w v) (
 
   -- the exported single clock and the exported run hand back the same but for the clock, leaps too, refused or not,
   -- where 4 is told at both clocks or at neither;
-  pub host-call-shifted : (c : Call) → RefusedAlike (r6501q (haltOf halt)) (countOf c) (worldFromHost w) (worldFromHost v)
+  pub host-call-shifted : (c : Call)
+      → RefusedAlike (r6501q (haltOf halt)) (countOf c) (worldFromHost w) (worldFromHost v)
       → ShiftedHanded hostShifted k (hostCalled halt c w) (hostCalled halt c v)
   unfolding callOf countOf
   host-call-shifted c alike =
       rw (call-library halt c w fits, call-library halt c v later-fits)
-      (handed-to k (callOf (machine (haltOf halt)) c (worldFromHost w)) (callOf (machine (haltOf halt)) c (worldFromHost v)) (by-call c alike))
+      (handed-to k (callOf (machine (haltOf halt)) c (worldFromHost w))
+      (callOf (machine (haltOf halt)) c (worldFromHost v)) (by-call c alike))
     where
       by-call : (c : Call) → RefusedAlike (r6501q (haltOf halt)) (countOf c) (worldFromHost w) (worldFromHost v)
-          → ShiftedHanded shiftedState k (callOf (machine (haltOf halt)) c (worldFromHost w)) (callOf (machine (haltOf halt)) c (worldFromHost v))
-      by-call singleClock alike = step-shifted (haltOf halt) k (worldFromHost w) (worldFromHost v) (world-from k w v r) alike
-      by-call (runFor n) alike = run-call-shifted (haltOf halt) k (worldFromHost w) (worldFromHost v) (world-from k w v r) n alike
+          → ShiftedHanded shiftedState k (callOf (machine (haltOf halt)) c (worldFromHost w))
+          (callOf (machine (haltOf halt)) c (worldFromHost v))
+      by-call singleClock alike =
+          step-shifted (haltOf halt) k (worldFromHost w) (worldFromHost v) (world-from k w v r) alike
+      by-call (runFor n) alike =
+          run-call-shifted (haltOf halt) k (worldFromHost w) (worldFromHost v) (world-from k w v r) n alike
 
   module _ (room : Room w) where
     library-room : Room (worldFromHost w)
@@ -119,7 +128,8 @@ module _ (halt k : ℕ) (w v : HostWorld) (r : ShiftedWorld hostShifted k w v) (
         let earlier = calls (machine (haltOf halt)) cs (worldFromHost w) in
         let later = calls (machine (haltOf halt)) cs (worldFromHost v) in
         let four = rw (host-calls halt cs v later-fits, clocks-fit (later .results)) at none in
-        let l = list-shifted (haltOf halt) k (worldFromHost w) (worldFromHost v) (world-from k w v r) library-room cs four in
+        let l =
+        list-shifted (haltOf halt) k (worldFromHost w) (worldFromHost v) (world-from k w v r) library-room cs four in
         rw (host-calls halt cs w fits, host-calls halt cs v later-fits)
         (record {
           world = world-to k (earlier .world) (later .world) (l .world);
@@ -130,9 +140,11 @@ module _ (halt k : ℕ) (w v : HostWorld) (r : ShiftedWorld hostShifted k w v) (
     -- leaps, past the last clock too.
     pub host-run-past-last : (n : ℕ) → refusalIn (r6501q (haltOf halt)) n (worldFromHost w) ≡ 0
         → ShiftedHanded hostShifted k (hostCalled halt (runFor n) w)
-        (hostHandedOf (handedBackOf (leapCount (chip (haltOf halt)) n (worldFromHost v)) (plains (chip (haltOf halt)) n (worldFromHost v))))
+        (hostHandedOf (handedBackOf (leapCount (chip (haltOf halt)) n (worldFromHost v))
+        (plains (chip (haltOf halt)) n (worldFromHost v))))
     unfolding callOf
     host-run-past-last n accepted =
         rw (call-library halt (runFor n) w fits)
         (handed-to k (callOf (machine (haltOf halt)) (runFor n) (worldFromHost w)) _
-        (run-past-last (haltOf halt) k (worldFromHost w) (worldFromHost v) (world-from k w v r) library-room n accepted))
+        (run-past-last (haltOf halt) k (worldFromHost w) (worldFromHost v) (world-from k w v r) library-room n
+        accepted))

@@ -27,7 +27,8 @@ pub thirteen-first : (halt : ℕ) (c : Call) (sums : List ℕ) (w : HostWorld) �
 thirteen-first halt c sums w m n = theory.list-next sums (hostCalled halt c) w m n
 
 -- a memory of another length is 1, whatever page list, flags and halt address
-memory-number : (formed : Bool) (n : ℕ) (w : HostWorld) → (length (w .memory) ≡ memorySpan → ⊥) → hostRefusalOf formed n w ≡ 1
+memory-number : (formed : Bool) (n : ℕ) (w : HostWorld) → (length (w .memory) ≡ memorySpan → ⊥)
+    → hostRefusalOf formed n w ≡ 1
 unfolding refusalOf
 memory-number formed n w m = rw (ne-eqb (length (w .memory)) memorySpan m)
 
@@ -35,7 +36,8 @@ pub one-first : (halt : ℕ) (c : Call) (sums : List ℕ) (w : HostWorld) → (l
     → withSums sums (hostCalled halt c) w ≡ refusedHanded 1 w
 one-first halt c sums w m =
     let one = memory-number (hostWellFormed (w .state)) (countOf c) w m in
-    theory.memory-first sums (hostCalled halt c) w m ∙ exported-refused halt c w (rw one) ∙ ap (λ (number : ℕ). refusedHanded number w) one
+    theory.memory-first sums (hostCalled halt c) w m ∙ exported-refused halt c w (rw one)
+    ∙ ap (λ (number : ℕ). refusedHanded number w) one
 
 -- ---- a list of exported calls
 
@@ -71,7 +73,8 @@ module _ (halt : ℕ) (cs : List Call) (sums : List ℕ) (w : HostWorld) where
   pub host-calls-alike : length sums ≡ pageCount → SixteenBits sums
       → end ≡ listedSums (hostCalls halt cs w) (sumsAfter sums (w .memory) (hostCalls halt cs w .world .memory))
   host-calls-alike n words =
-      theory.list-with-sums (hostCalled halt) (hostCalls halt) (hosts-none halt) (hosts-over halt) (hosts-next halt) cs sums w n words
+      theory.list-with-sums (hostCalled halt) (hostCalls halt) (hosts-none halt) (hosts-over halt) (hosts-next halt) cs
+      sums w n words
 
   -- DEMAND 3 of the exported calls with 256 sums
   pub host-fair-with-sums : Room w → length sums ≡ pageCount → SixteenBits sums → HostFairWithSums
@@ -82,30 +85,39 @@ module _ (halt : ℕ) (cs : List Call) (sums : List ℕ) (w : HostWorld) where
   -- each sum changes, right or wrong before, by exactly what its page's bytes change over the list
   pub host-exactly : length sums ≡ pageCount → SixteenBits sums → (p : ℕ) → p < pageCount
       → (sumAt (end .sums) p < sumSpan)
-      × ((sumAt (end .sums) p + pageSum p (w .memory)) % sumSpan ≡ (sumAt sums p + pageSum p (end .list .world .memory)) % sumSpan)
+      × ((sumAt (end .sums) p + pageSum p (w .memory)) % sumSpan
+      ≡ (sumAt sums p + pageSum p (end .list .world .memory)) % sumSpan)
   host-exactly n words p h =
-      theory.list-exactly (hostCalled halt) (hostCalls halt) (hosts-none halt) (hosts-over halt) (hosts-next halt) cs sums w n words p h
+      theory.list-exactly (hostCalled halt) (hostCalls halt) (hosts-none halt) (hosts-over halt) (hosts-next halt) cs
+      sums w n words p h
 
   -- right before, right after
-  pub host-right-after : length sums ≡ pageCount → SixteenBits sums → Right sums (w .memory) → Right (end .sums) (end .list .world .memory)
+  pub host-right-after : length sums ≡ pageCount → SixteenBits sums → Right sums (w .memory)
+      → Right (end .sums) (end .list .world .memory)
   host-right-after n words right =
-      theory.list-right-after (hostCalled halt) (hostCalls halt) (hosts-none halt) (hosts-over halt) (hosts-next halt) cs sums w n words right
+      theory.list-right-after (hostCalled halt) (hostCalls halt) (hosts-none halt) (hosts-over halt) (hosts-next halt)
+      cs sums w n words right
 
   -- with another number each is refused by 13 and hands on
-  pub host-thirteen-hands-on : length (w .memory) ≡ memorySpan → (length sums ≡ pageCount → ⊥) → SixteenBits sums → w .stop ≡ 0
+  pub host-thirteen-hands-on : length (w .memory) ≡ memorySpan → (length sums ≡ pageCount → ⊥) → SixteenBits sums
+      → w .stop ≡ 0
       → end ≡ listedSums (record { world = w; results = map (λ (c : Call). refusedWith 13 (w .state)) cs }) sums
   host-thirteen-hands-on m n words on = theory.calls-refused (hostCalled halt) sums w m n words on cs
 
   -- one such call before any list of calls: it is refused, and the list goes on from the same world, with the same sums
-  pub host-thirteen-next : length (w .memory) ≡ memorySpan → (length sums ≡ pageCount → ⊥) → SixteenBits sums → w .stop ≡ 0
-      → (c : Call) → callsWithSums (hostCalled halt) (c ∷ cs) sums w ≡ listedSums (listed (refusedWith 13 (w .state)) (end .list)) (end .sums)
+  pub host-thirteen-next : length (w .memory) ≡ memorySpan → (length sums ≡ pageCount → ⊥) → SixteenBits sums
+      → w .stop ≡ 0
+      → (c : Call)
+      → callsWithSums (hostCalled halt) (c ∷ cs) sums w
+      ≡ listedSums (listed (refusedWith 13 (w .state)) (end .list)) (end .sums)
   host-thirteen-next m n words on c = theory.thirteen-next (hostCalled halt) sums w m n words on c cs
 
   -- with a memory of another length it is 1, whatever the page list
   pub host-one-hands-on : (length (w .memory) ≡ memorySpan → ⊥) → SixteenBits sums → w .stop ≡ 0
       → end ≡ listedSums (record { world = w; results = map (λ (c : Call). refusedWith 1 (w .state)) cs }) sums
   host-one-hands-on m words on =
-      theory.calls-refused-by (hostCalled halt) 1 theory.one-no-stop cs sums w (λ c. one-first halt c sums (lentOf w) m) words on
+      theory.calls-refused-by (hostCalled halt) 1 theory.one-no-stop cs sums w (λ c. one-first halt c sums (lentOf w) m)
+      words on
 
 -- the same from any state, memory and lists: a start has nothing written, so that it needs no room
 pub host-fair-with-sums-start : (halt : ℕ) (cs : List Call) (sums : List ℕ) (h : HostState)

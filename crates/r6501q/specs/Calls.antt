@@ -20,7 +20,8 @@ use Rattle.r6501q.specs.declared.host.HostResult.{HostResult}
 use Rattle.r6501q.specs.declared.host.HostLoadResult.{HostLoadResult}
 use Rattle.r6501q.specs.declared.host.HostLatchResult.{HostLatchResult}
 use Rattle.r6501q.specs.declared.host.HostTotalResult.{HostTotalResult}
-use Rattle.r6501q.specs.Host.{stateFromHost, flagsFit, hostState, hostLoadResult, hostTotalResult, hostLatchResult}
+use Rattle.r6501q.specs.Host.{stateFromHost, flagsFit, hostState, hostLoadResult, hostTotalResult}
+use Rattle.r6501q.specs.Host.{hostLatchResult}
 
 -- "Well-formed: every field is within its range here", the flags too
 abbrev pub hostWellFormed : HostState → Bool

@@ -11,7 +11,8 @@ use Rattle.leaps.specs.Calls.{lentOf, afterCallOf, refusedWith}
 use Rattle.r6501q_step.specs.R6501q.{World, Result, chip, machine}
 use Rattle.r6501q.specs.declared.host.HostState.{HostState}
 use Rattle.r6501q.specs.Host.{haltOf, flagsFit}
-use Rattle.r6501q.specs.Calls.{HostWorld, HostHanded, worldFromHost, hostWorld, hostResultOf, hostRefusalOf, hostCall}
+use Rattle.r6501q.specs.Calls.{HostWorld, HostHanded, worldFromHost, hostWorld, hostResultOf, hostRefusalOf}
+use Rattle.r6501q.specs.Calls.{hostCall}
 
 abbrev pub HostListed : Type 0
 HostListed = Listed HostWorld (calls.ResultOf HostState)

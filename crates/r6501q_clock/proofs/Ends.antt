@@ -40,28 +40,34 @@ module _ (P : State → Type 0) where
   finish-ends next word true false h = tt
   finish-ends next word false free h = (h, λ e. absurd (false≢true e))
 
-  clock-ends : (s : State) (codes memory : List ℕ) (free : Bool) → Ends (λ n. P (n .state)) (processorOf (readyOf s codes) memory)
+  clock-ends : (s : State) (codes memory : List ℕ) (free : Bool)
+      → Ends (λ n. P (n .state)) (processorOf (readyOf s codes) memory)
       → Finishes (λ e. P (e .state) × (e .differs ≡ true → free ≡ true)) (clockOf s codes memory free)
   unfolding clockOf
   clock-ends s codes memory free h = by-processed (processorOf (readyOf s codes) memory) h
     where
       by-processed : (x : Processed) → Ends (λ n. P (n .state)) x
-          → Finishes (λ e. P (e .state) × (e .differs ≡ true → free ≡ true)) (recorded (drivenWord (s .peripherals)) free x)
+          → Finishes (λ e. P (e .state) × (e .differs ≡ true → free ≡ true))
+          (recorded (drivenWord (s .peripherals)) free x)
       by-processed (processed.Stopped number) k = tt
       by-processed (processed.Done next) k = finish-ends next _ _ free k
 
 -- "Clock plus 1"
-pub done-clock : (s : State) (codes memory : List ℕ) (free : Bool) (e : Ended) → clockOf s codes memory free ≡ Done e → e .state .clock ≡ s .clock + 1
+pub done-clock : (s : State) (codes memory : List ℕ) (free : Bool) (e : Ended) → clockOf s codes memory free ≡ Done e
+    → e .state .clock ≡ s .clock + 1
 done-clock s codes memory free e d =
-    let m = clock-ends (λ t. t .clock ≡ s .clock + 1) s codes memory free (along (processorOf (readyOf s codes) memory) (processor-clock (readyOf s codes) memory)) in
+    let m = clock-ends (λ t. t .clock ≡ s .clock + 1) s codes memory free
+    (along (processorOf (readyOf s codes) memory) (processor-clock (readyOf s codes) memory)) in
     (rw d at m) .0
   where
-    along : (x : Processed) → Ends (λ n. n .state .clock ≡ readyOf s codes .clock) x → Ends (λ n. n .state .clock ≡ s .clock + 1) x
+    along : (x : Processed) → Ends (λ n. n .state .clock ≡ readyOf s codes .clock) x
+        → Ends (λ n. n .state .clock ≡ s .clock + 1) x
     along (processed.Stopped number) h = tt
     along (processed.Done n) h = h ∙ ready-clock s codes
 
 -- a record that is put has room
-pub done-room : (s : State) (codes memory : List ℕ) (free : Bool) (e : Ended) → clockOf s codes memory free ≡ Done e → e .differs ≡ true → free ≡ true
+pub done-room : (s : State) (codes memory : List ℕ) (free : Bool) (e : Ended) → clockOf s codes memory free ≡ Done e
+    → e .differs ≡ true → free ≡ true
 done-room s codes memory free e d =
     let m = clock-ends (λ t. Unit {0}) s codes memory free (nothing (processorOf (readyOf s codes) memory)) in
     (rw d at m) .1
@@ -71,27 +77,32 @@ done-room s codes memory free e d =
     nothing (processed.Done n) = tt
 
 -- every field stays in its range
-pub done-formed : (s : State) (codes memory : List ℕ) (free : Bool) (e : Ended) → wellFormed s ≡ true → clockOf s codes memory free ≡ Done e
+pub done-formed : (s : State) (codes memory : List ℕ) (free : Bool) (e : Ended) → wellFormed s ≡ true
+    → clockOf s codes memory free ≡ Done e
     → wellFormed (e .state) ≡ true
 done-formed s codes memory free e f d =
-    let m = clock-ends (λ t. wellFormed t ≡ true) s codes memory free (processor-formed (readyOf s codes) memory (ready-formed s codes f)) in
+    let m = clock-ends (λ t. wellFormed t ≡ true) s codes memory free
+    (processor-formed (readyOf s codes) memory (ready-formed s codes f)) in
     (rw d at m) .0
 
 -- a commit keeps the memory's length
 put-length : (there : Bool) (w : Write) (m : List ℕ) → length (putWrite there w m) ≡ length m
 unfolding putWrite
 put-length there w m =
-    cond-both (λ (l : List ℕ). length l ≡ length m) (there && not (isRegister (w .address))) (set m (w .address) (w .value)) m (λ _. length-set m (w .address) (w .value)) (λ _. refl)
+    cond-both (λ (l : List ℕ). length l ≡ length m) (there && not (isRegister (w .address)))
+    (set m (w .address) (w .value)) m (λ _. length-set m (w .address) (w .value)) (λ _. refl)
 
 pub commit-length : (m : List ℕ) (w : Writes) → length (committed m w) ≡ length m
 unfolding committed
 commit-length m w =
     let one = putWrite (ltb 0 (w .count)) (w .first) m in
     let two = putWrite (ltb 1 (w .count)) (w .second) one in
-    put-length (ltb 2 (w .count)) (w .third) two ∙ put-length (ltb 1 (w .count)) (w .second) one ∙ put-length (ltb 0 (w .count)) (w .first) m
+    put-length (ltb 2 (w .count)) (w .third) two ∙ put-length (ltb 1 (w .count)) (w .second) one
+    ∙ put-length (ltb 0 (w .count)) (w .first) m
 
 -- what holds of 6 and of 7 holds of the number of a stop
-pub stop-either : (P : ℕ → Type 0) → P undefinedStop → P fullStop → (s : State) (codes memory : List ℕ) (free : Bool) (number : ℕ)
+pub stop-either : (P : ℕ → Type 0) → P undefinedStop → P fullStop
+    → (s : State) (codes memory : List ℕ) (free : Bool) (number : ℕ)
     → clockOf s codes memory free ≡ Stopped number → P number
 unfolding clockOf finished
 stop-either P six seven s codes memory free number e = by-processed (processorOf (readyOf s codes) memory) refl e
@@ -114,4 +125,5 @@ stop-either P six seven s codes memory free number e = by-processed (processorOf
     by-processed (processed.Done next) p q =
         let word = drivenWord (next .state .peripherals) in
         let differs = not (eqb word (drivenWord (s .peripherals))) in
-        by-stop (cond (differs && not free) (Stopped fullStop) (Done (endedWith next word differs))) (by-full (differs && not free) (endedWith next word differs)) q
+        by-stop (cond (differs && not free) (Stopped fullStop) (Done (endedWith next word differs)))
+        (by-full (differs && not free) (endedWith next word differs)) q

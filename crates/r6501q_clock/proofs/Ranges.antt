@@ -17,42 +17,57 @@ use Rattle.r6501q_state.specs.declared.state.State.{State}
 use Rattle.r6501q_state.specs.State.{peripheralsFit, wellFormed}
 use Rattle.r6501q_state.specs.Pins.{levelsOf, rose, withEdges, resetOf, sensedAt, sensed}
 use Rattle.r6501q_state.specs.Control.{modeA, modeB}
-use Rattle.r6501q_state.proofs.Ranges.{InPeripherals, in-peripherals, fit-peripherals, set-lt, formed, formed-cpu, formed-peripherals, sensed-formed}
+use Rattle.r6501q_state.proofs.Ranges.{InPeripherals, in-peripherals, fit-peripherals, set-lt, formed, formed-cpu}
+use Rattle.r6501q_state.proofs.Ranges.{formed-peripherals, sensed-formed}
 use Rattle.r6501q_clock.specs.Clock.{inputsSet, countA, countB, sentBy, heardBy, worked, workedState, readyOf}
 
 counted-a-in : (p : Peripherals) (before now : ℕ) → InPeripherals p → InPeripherals (countA p before now .peripherals)
 unfolding countA
 counted-a-in p before now i =
-    record { ifr = set-lt 4 (p .control .ifr) _ (omega arith) (i .ifr); transmitter = i .transmitter; receiver = i .receiver }
+    record {
+      ifr = set-lt 4 (p .control .ifr) _ (omega arith) (i .ifr);
+      transmitter = i .transmitter;
+      receiver = i .receiver;
+    }
 
 counted-b-in : (p : Peripherals) (before now : ℕ) → InPeripherals p → InPeripherals (countB p before now)
 unfolding countB
 counted-b-in p before now i =
-    record { ifr = set-lt 5 (p .control .ifr) _ (omega arith) (i .ifr); transmitter = i .transmitter; receiver = i .receiver }
+    record {
+      ifr = set-lt 5 (p .control .ifr) _ (omega arith) (i .ifr);
+      transmitter = i .transmitter;
+      receiver = i .receiver;
+    }
 
 sent-in : (p : Peripherals) (ticks : Ticks) → InPeripherals p → InPeripherals (sentBy p ticks)
 unfolding sentBy
 sent-in p ticks i = record {
   ifr = i .ifr;
   receiver = i .receiver;
-  transmitter = transmitter-clock-fits (p .transmitter) ticks (p .control .sccr) (p .control .scsr) (p .serial .sent) (i .transmitter);
+  transmitter =
+      transmitter-clock-fits (p .transmitter) ticks (p .control .sccr) (p .control .scsr) (p .serial .sent)
+      (i .transmitter);
 }
 
-heard-in : (p : Peripherals) (ticks : Ticks) (before now : ℕ) → InPeripherals p → InPeripherals (heardBy p ticks before now)
+heard-in : (p : Peripherals) (ticks : Ticks) (before now : ℕ) → InPeripherals p
+    → InPeripherals (heardBy p ticks before now)
 unfolding heardBy
 heard-in p ticks before now i = record {
   ifr = i .ifr;
   transmitter = i .transmitter;
   receiver =
-      receiver-clock-fits (p .receiver) ticks (rose 4 before now) (p .control .sccr) (p .control .scsr) (p .serial .received) (bit 7 now) (i .receiver);
+      receiver-clock-fits (p .receiver) ticks (rose 4 before now) (p .control .sccr) (p .control .scsr)
+      (p .serial .received) (bit 7 now) (i .receiver);
 }
 
 -- steps 2 and 3
-pub worked-fits : (p : Peripherals) (before now : ℕ) → peripheralsFit p ≡ true → peripheralsFit (worked p before now) ≡ true
+pub worked-fits : (p : Peripherals) (before now : ℕ) → peripheralsFit p ≡ true
+    → peripheralsFit (worked p before now) ≡ true
 unfolding worked
 worked-fits p before now e =
     let a = countA p before now in
-    fit-peripherals _ (heard-in _ (a .ticks) before now (sent-in _ (a .ticks) (counted-b-in (a .peripherals) before now (counted-a-in p before now (in-peripherals p e)))))
+    fit-peripherals _ (heard-in _ (a .ticks) before now
+    (sent-in _ (a .ticks) (counted-b-in (a .peripherals) before now (counted-a-in p before now (in-peripherals p e)))))
 
 -- steps 1 to 3
 pub ready-formed : (s : State) (codes : List ℕ) → wellFormed s ≡ true → wellFormed (readyOf s codes) ≡ true
@@ -60,11 +75,13 @@ unfolding readyOf
 ready-formed s codes e =
     let t = sensed (inputsSet s codes) in
     let f = sensed-formed (inputsSet s codes) (formed (inputsSet s codes) (formed-cpu s e) (formed-peripherals s e)) in
-    formed (readyOf s codes) (formed-cpu t f) (worked-fits (t .peripherals) (s .last .ports) (t .last .ports) (formed-peripherals t f))
+    formed (readyOf s codes) (formed-cpu t f)
+    (worked-fits (t .peripherals) (s .last .ports) (t .last .ports) (formed-peripherals t f))
 
 -- "Clock plus 1"
 pub ready-clock : (s : State) (codes : List ℕ) → readyOf s codes .clock ≡ s .clock + 1
 unfolding readyOf sensed sensedAt withEdges resetOf
 ready-clock s codes =
     cond-both (λ (t : State). t .clock ≡ s .clock + 1) (levelsOf (inputsSet s codes) .res)
-    (withEdges (inputsSet s codes) (levelsOf (inputsSet s codes))) (resetOf (withEdges (inputsSet s codes) (levelsOf (inputsSet s codes)))) (λ _. refl) (λ _. refl)
+    (withEdges (inputsSet s codes) (levelsOf (inputsSet s codes)))
+    (resetOf (withEdges (inputsSet s codes) (levelsOf (inputsSet s codes)))) (λ _. refl) (λ _. refl)

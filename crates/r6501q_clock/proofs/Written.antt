@@ -57,8 +57,11 @@ put-bytes : (ws : List Write) (m : List ℕ) (a : ℕ) → isRegister a ≡ fals
 unfolding putAll byteAfter
 put-bytes [] m a e inside = refl
 put-bytes (w ∷ ws) m a e inside =
-    put-bytes ws (putWrite true w m) a e (rw (put-length w m) (inside .1)) ∙ ap (byteAfter ws a) (put-byte w m a e (inside .0))
+    put-bytes ws (putWrite true w m) a e (rw (put-length w m) (inside .1))
+    ∙ ap (byteAfter ws a) (put-byte w m a e (inside .0))
 
-pub byte-committed : (ws : List Write) (m : List ℕ) (a : ℕ) → isRegister a ≡ false → Inside (length m) ws → inOrder ws .count ≤ 3
+pub byte-committed : (ws : List Write) (m : List ℕ) (a : ℕ) → isRegister a ≡ false → Inside (length m) ws
+    → inOrder ws .count ≤ 3
     → memoryByte (committed m (inOrder ws)) a ≡ byteAfter ws a (memoryByte m a)
-byte-committed ws m a e inside few = ap (λ (n : List ℕ). memoryByte n a) (all-committed m ws few) ∙ put-bytes ws m a e inside
+byte-committed ws m a e inside few =
+    ap (λ (n : List ℕ). memoryByte n a) (all-committed m ws few) ∙ put-bytes ws m a e inside

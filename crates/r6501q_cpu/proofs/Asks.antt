@@ -22,20 +22,23 @@ use Rattle.r6501q_cpu.specs.Asking.{turnBy, turned, turnOf, instructionF
 
 module _ (spent : Processed) (s : State) (p : Peripherals) (answers memory : List ℕ) where
   -- the last turn
-  pub turn-over : (n : ℕ) (x : Processed) → 0 < n → turnOf s p answers memory ≡ Over x → instructionFrom spent n s p answers memory ≡ x
+  pub turn-over : (n : ℕ) (x : Processed) → 0 < n → turnOf s p answers memory ≡ Over x
+      → instructionFrom spent n s p answers memory ≡ x
   unfolding instructionFrom
   turn-over zero x h e = absurd (omega arith)
   turn-over (suc n) x h e = rw (e)
 
   -- a turn with a question
   pub turn-answered : (n m : ℕ) (r : Reading) → n ≡ suc m → turnOf s p answers memory ≡ Answered r
-      → instructionFrom spent n s p answers memory ≡ instructionFrom spent m s (r .peripherals) (answers ++ (r .value ∷ [])) memory
+      → instructionFrom spent n s p answers memory
+      ≡ instructionFrom spent m s (r .peripherals) (answers ++ (r .value ∷ [])) memory
   unfolding instructionFrom
   turn-answered n m r h e = rw (h, e)
 
 -- one turn, whatever goes on after it
 module _ (s : State) (p : Peripherals) (answers memory : List ℕ) (goOn goOn' : Reading → Processed) where
-  same-turn : ((q : Ask) (r : Reading) → instructionOf (registersOf (s .cpu)) answers memory ≡ outcome.Asked q → goOn r ≡ goOn' r)
+  same-turn : ((q : Ask) (r : Reading) → instructionOf (registersOf (s .cpu)) answers memory ≡ outcome.Asked q
+      → goOn r ≡ goOn' r)
       → turned goOn (turnOf s p answers memory) ≡ turned goOn' (turnOf s p answers memory)
   unfolding turnOf
   same-turn same = by-outcome (instructionOf (registersOf (s .cpu)) answers memory) refl
@@ -47,18 +50,24 @@ module _ (s : State) (p : Peripherals) (answers memory : List ℕ) (goOn goOn' :
       by-outcome (outcome.Done w) e = refl
 
 -- with five answers a turn is the last, so that neither a larger bound nor what stands for a spent one changes anything
-more-turns : (spent other : Processed) (k n : ℕ) (s : State) (p : Peripherals) (answers memory : List ℕ) → 6 ≤ suc n + length answers
+more-turns : (spent other : Processed) (k n : ℕ) (s : State) (p : Peripherals) (answers memory : List ℕ)
+    → 6 ≤ suc n + length answers
     → instructionFrom spent (suc (n + k)) s p answers memory ≡ instructionFrom other (suc n) s p answers memory
 unfolding instructionFrom
 more-turns spent other k zero s p answers memory h =
-    same-turn s p answers memory _ _ (λ q r e. absurd (asks-end (registersOf (s .cpu)) answers memory (omega arith) q e))
+    same-turn s p answers memory _ _
+    (λ q r e. absurd (asks-end (registersOf (s .cpu)) answers memory (omega arith) q e))
 more-turns spent other k (suc n) s p answers memory h =
     same-turn s p answers memory _ _
-    (λ q r e. (let m : suc n + k ≡ suc (n + k) = omega arith in rw m (more-turns spent other k n s (r .peripherals) (answers ++ (r .value ∷ [])) memory (rw (length-append answers (r .value ∷ [])) (omega arith)))))
+    (λ q r e. (let m : suc n + k ≡ suc (n + k) = omega arith in
+    rw m (more-turns spent other k n s (r .peripherals) (answers ++ (r .value ∷ [])) memory
+    (rw (length-append answers (r .value ∷ [])) (omega arith)))))
 
 -- no instruction asks more than five times: what stands for a sixth question is never met
 pub bound-unmet :
-    (spent : Processed) (k : ℕ) (s : State) (memory : List ℕ) → instructionFrom spent (6 + k) s (s .peripherals) [] memory ≡ answeredInstruction s memory
+    (spent : Processed) (k : ℕ) (s : State) (memory : List ℕ)
+    → instructionFrom spent (6 + k) s (s .peripherals) [] memory ≡ answeredInstruction s memory
 unfolding answeredInstruction
 bound-unmet spent k s memory =
-    let e : 6 + k ≡ suc (5 + k) = omega arith in rw e (more-turns spent (Stopped undefinedStop) k 5 s (s .peripherals) [] memory (omega arith))
+    let e : 6 + k ≡ suc (5 + k) = omega arith in
+    rw e (more-turns spent (Stopped undefinedStop) k 5 s (s .peripherals) [] memory (omega arith))

@@ -43,8 +43,10 @@ use Rattle.r6501q_cpu.specs.declared.Next.{Next}
 use Rattle.r6501q_cpu.specs.declared.Processed.{Processed}
 use Rattle.r6501q_cpu.specs.declared.Processed.the-variants.{Stopped, Done}
 use Rattle.r6501q_cpu.specs.declared.Turn.{Turn}
-use Rattle.r6501q_cpu.specs.Processor.{registersOf, cpuOf, irqDue, startOf, withoutWrites, waitLess, bytePut, waitedBy, processorOf}
-use Rattle.r6501q_cpu.specs.Asking.{putRegister, registersAfter, answerOf, nextOf, turnBy, turned, turnOf, instructionFrom, answeredInstruction}
+use Rattle.r6501q_cpu.specs.Processor.{registersOf, cpuOf, irqDue, startOf, withoutWrites, waitLess, bytePut}
+use Rattle.r6501q_cpu.specs.Processor.{waitedBy, processorOf}
+use Rattle.r6501q_cpu.specs.Asking.{putRegister, registersAfter, answerOf, nextOf, turnBy, turned, turnOf}
+use Rattle.r6501q_cpu.specs.Asking.{instructionFrom, answeredInstruction}
 use Rattle.r6501q_cpu.proofs.Answered.{instruction-answered, reset-answered, nmi-answered, irq-answered}
 
 -- bits 4 and 5 of a packed P are 0
@@ -71,16 +73,19 @@ cpu-of-fits w f =
     })
 
 -- register writes keep the peripherals in their ranges
-put-fits : (there : Bool) (w : Write) (p : Peripherals) → peripheralsFit p ≡ true → peripheralsFit (putRegister there w p) ≡ true
+put-fits : (there : Bool) (w : Write) (p : Peripherals) → peripheralsFit p ≡ true
+    → peripheralsFit (putRegister there w p) ≡ true
 unfolding putRegister
 put-fits there w p e =
-    cond-both (λ (x : Peripherals). peripheralsFit x ≡ true) (there && isRegister (w .address)) (writeOf p (w .address) (w .value)) p
+    cond-both (λ (x : Peripherals). peripheralsFit x ≡ true) (there && isRegister (w .address))
+    (writeOf p (w .address) (w .value)) p
     (λ _. write-fits p (w .address) (w .value) e) (λ _. e)
 
 after-fits : (p : Peripherals) (w : Writes) → peripheralsFit p ≡ true → peripheralsFit (registersAfter p w) ≡ true
 unfolding registersAfter
 after-fits p w e =
-    put-fits (ltb 2 (w .count)) (w .third) _ (put-fits (ltb 1 (w .count)) (w .second) _ (put-fits (ltb 0 (w .count)) (w .first) p e))
+    put-fits (ltb 2 (w .count)) (w .third) _
+    (put-fits (ltb 1 (w .count)) (w .second) _ (put-fits (ltb 0 (w .count)) (w .first) p e))
 
 -- so does a byte that is put
 put-byte-fits : (s : State) (w : Write) → wellFormed s ≡ true → wellFormed (bytePut s w .state) ≡ true
@@ -91,7 +96,8 @@ put-byte-fits s w e =
 
 reset-entry-fits : (memory : List ℕ) (r : CpuRegisters) → Fits (resetEntry memory r)
 unfolding resetEntry pushesOf
-reset-entry-fits memory r = record { writes = omega arith; least = omega arith; most = omega arith; store = λ e. absurd (false≢true e) }
+reset-entry-fits memory r =
+    record { writes = omega arith; least = omega arith; most = omega arith; store = λ e. absurd (false≢true e) }
 
 interrupt-entry-fits : (memory : List ℕ) (vector : ℕ) (r : CpuRegisters) → Fits (interruptEntry memory vector r)
 unfolding interruptEntry interrupted pushInterrupt pushesOf
@@ -108,17 +114,20 @@ Ends P (Done n) = P n
 module _ (s : State) (memory : List ℕ) (Q : Peripherals → Type 0) (P : Next → Type 0)
     (first : Q (s .peripherals)) (reads : (p : Peripherals) (at : ℕ) → Q p → Q (afterRead p at))
     (ends : (due : Due) (p : Peripherals) (w : Worked) → Q p → Fits w → P (nextOf s due p w)) where
-  turn-ends : (p : Peripherals) (answers : List ℕ) (goOn : Reading → Processed) → Q p → ((r : Reading) → Q (r .peripherals) → Ends P (goOn r))
+  turn-ends : (p : Peripherals) (answers : List ℕ) (goOn : Reading → Processed) → Q p
+      → ((r : Reading) → Q (r .peripherals) → Ends P (goOn r))
       → Ends P (turned goOn (turnOf s p answers memory))
   unfolding turnOf answerOf
   turn-ends p answers goOn q on = by-outcome (instructionOf (registersOf (s .cpu)) answers memory) refl
     where
-      by-outcome : (o : Outcome) → instructionOf (registersOf (s .cpu)) answers memory ≡ o → Ends P (turned goOn (turnBy s p o))
+      by-outcome : (o : Outcome) → instructionOf (registersOf (s .cpu)) answers memory ≡ o
+          → Ends P (turned goOn (turnBy s p o))
       by-outcome (outcome.Stopped number) e = tt
       by-outcome (outcome.Asked ask) e = on _ (reads p (ask .address) q)
       by-outcome (outcome.Done w) e = ends (s .due) p w q (done-fits (registersOf (s .cpu)) answers memory w e)
 
-  instruction-ends : (n : ℕ) (p : Peripherals) (answers : List ℕ) → Q p → Ends P (instructionFrom (Stopped undefinedStop) n s p answers memory)
+  instruction-ends : (n : ℕ) (p : Peripherals) (answers : List ℕ) → Q p
+      → Ends P (instructionFrom (Stopped undefinedStop) n s p answers memory)
   unfolding instructionFrom
   instruction-ends zero p answers q = tt
   instruction-ends (suc n) p answers q =
@@ -130,9 +139,11 @@ module _ (s : State) (memory : List ℕ) (Q : Peripherals → Type 0) (P : Next 
       cond-both (Ends P) (s .due .reset) _ _
       (λ _. rw (reset-answered s memory) (ends _ _ _ first (reset-entry-fits memory (registersOf (s .cpu)))))
       (λ _. cond-both (Ends P) (s .due .nmi) _ _
-      (λ _. rw (nmi-answered s memory) (ends _ _ _ first (interrupt-entry-fits memory nmiVector (registersOf (s .cpu)))))
+      (λ _. rw (nmi-answered s memory)
+      (ends _ _ _ first (interrupt-entry-fits memory nmiVector (registersOf (s .cpu)))))
       (λ _. cond-both (Ends P) (irqDue s) _ _
-      (λ _. rw (irq-answered s memory) (ends _ _ _ first (interrupt-entry-fits memory irqVector (registersOf (s .cpu)))))
+      (λ _. rw (irq-answered s memory)
+      (ends _ _ _ first (interrupt-entry-fits memory irqVector (registersOf (s .cpu)))))
       (λ _. rw (instruction-answered s memory) (instruction-ends 6 (s .peripherals) [] first))))
 
   -- a clock after the first: one less to wait, or the last of a store
@@ -149,11 +160,13 @@ module _ (s : State) (memory : List ℕ) (Q : Peripherals → Type 0) (P : Next 
   unfolding processorOf
   processor-ends less puts rests =
       cond-both (Ends P) (s .last .res) _ _
-      (λ _. cond-both (Ends P) (ltb 0 (s .cpu .wait)) _ _ (λ _. waited-ends less puts (s .cpu .waiting) refl) (λ _. start-ends))
+      (λ _. cond-both (Ends P) (ltb 0 (s .cpu .wait)) _ _ (λ _. waited-ends less puts (s .cpu .waiting) refl)
+      (λ _. start-ends))
       (λ _. rests)
 
 -- "wait minus 1" stays in its range, and above 0 where a byte waits that is not put
-pub not-last : (b : Bool) (wait : ℕ) → (b && eqb wait 0) ≡ false → (b && eqb wait 1) ≡ false → (b && eqb (wait - 1) 0) ≡ false
+pub not-last : (b : Bool) (wait : ℕ) → (b && eqb wait 0) ≡ false → (b && eqb wait 1) ≡ false
+    → (b && eqb (wait - 1) 0) ≡ false
 not-last true wait h k =
     let some = eqb-false wait 0 h in
     let more = eqb-false wait 1 k in
@@ -174,9 +187,11 @@ fewer-formed s e h =
     (formed-peripherals s e)
 
 -- every field stays in its range
-pub processor-formed : (s : State) (memory : List ℕ) → wellFormed s ≡ true → Ends (λ n. wellFormed (n .state) ≡ true) (processorOf s memory)
+pub processor-formed : (s : State) (memory : List ℕ) → wellFormed s ≡ true
+    → Ends (λ n. wellFormed (n .state) ≡ true) (processorOf s memory)
 processor-formed s memory e =
-    processor-ends s memory (λ p. peripheralsFit p ≡ true) (λ n. wellFormed (n .state) ≡ true) (formed-peripherals s e) read-fits
+    processor-ends s memory (λ p. peripheralsFit p ≡ true) (λ n. wellFormed (n .state) ≡ true) (formed-peripherals s e)
+    read-fits
     (λ due p w q f. formed _ (cpu-of-fits w f) (after-fits p (pushesOf (w .written)) q))
     (fewer-formed s e) (λ w. put-byte-fits s w e) e
 
@@ -191,10 +206,12 @@ put-count s w = omega arith
 -- the clock is left alone
 pub processor-clock : (s : State) (memory : List ℕ) → Ends (λ n. n .state .clock ≡ s .clock) (processorOf s memory)
 processor-clock s memory =
-    processor-ends s memory (λ p. Unit {0}) (λ n. n .state .clock ≡ s .clock) tt (λ p a q. tt) (λ due p w q f. refl) (λ h. refl) (put-clock s) refl
+    processor-ends s memory (λ p. Unit {0}) (λ n. n .state .clock ≡ s .clock) tt (λ p a q. tt) (λ due p w q f. refl)
+    (λ h. refl) (put-clock s) refl
 
 -- at most three writes
 pub processor-writes : (s : State) (memory : List ℕ) → Ends (λ n. n .writes .count ≤ 3) (processorOf s memory)
 processor-writes s memory =
-    processor-ends s memory (λ p. Unit {0}) (λ n. n .writes .count ≤ 3) tt (λ p a q. tt) (λ due p w q f. f .writes) (λ h. omega arith)
+    processor-ends s memory (λ p. Unit {0}) (λ n. n .writes .count ≤ 3) tt (λ p a q. tt) (λ due p w q f. f .writes)
+    (λ h. omega arith)
     (put-count s) (omega arith)

@@ -1,5 +1,5 @@
--- 02, U6: a store begins on its first clock and writes nothing; its byte waits, and is put on its last clock alone. What
--- an instruction begins with, of its direct definition.
+-- 02, U6: a store begins on its first clock and writes nothing; its byte waits, and is put on its last clock alone.
+-- What an instruction begins with, of its direct definition.
 use mathlib.Core.Path.{_≡_, refl, sym, ap, _∙_}
 use mathlib.Core.Bool.{Bool, true, false, _&&_, cond}
 use mathlib.Core.List.{List, []}
@@ -31,7 +31,9 @@ use Rattle.r6501q_state.specs.declared.state.State.{State}
 use Rattle.r6501q_cpu.specs.declared.Next.{Next}
 use Rattle.r6501q_cpu.specs.declared.Processed.{Processed}
 use Rattle.r6501q_cpu.specs.declared.Processed.the-variants.{Done}
-use Rattle.r6501q_cpu.specs.Processor.{registersOf, cpuOf, registerFile, performedIn, nextAfter, processedBy, wholeInstruction, opcodeAt, irqDue, startOf, withoutWrites, waitLess, bytePut, waitedBy, processorOf}
+use Rattle.r6501q_cpu.specs.Processor.{registersOf, cpuOf, registerFile, performedIn, nextAfter, processedBy}
+use Rattle.r6501q_cpu.specs.Processor.{wholeInstruction, opcodeAt, irqDue, startOf, withoutWrites, waitLess}
+use Rattle.r6501q_cpu.specs.Processor.{bytePut, waitedBy, processorOf}
 use Rattle.r6501q_cpu.proofs.Undefined.{decodedBy, by-opcode}
 
 -- ---- the first clock
@@ -60,12 +62,14 @@ pub record Begun (s : State) (memory : List ℕ) (e : Entry) (x : Processed) : T
 -- the accesses after the opcode's
 accesses-after : (s : State) (memory : List ℕ)
     → performedIn s memory (instructionAccesses (registersOf (s .cpu)))
-    ≡ performed (registerFile (s .last .ports)) memory (peripheralsRead (registerFile (s .last .ports)) (s .peripherals) (s .cpu .pc)) []
+    ≡ performed (registerFile (s .last .ports)) memory
+    (peripheralsRead (registerFile (s .last .ports)) (s .peripherals) (s .cpu .pc)) []
     (opcodeAccesses (withPc (nextAddress (s .cpu .pc)) (registersOf (s .cpu))) (decodeOf (opcodeAt s memory)))
 unfolding instructionAccesses performed valueRead byteAfter opcodeAt
 accesses-after s memory = refl
 
-pub instruction-begun : (s : State) (memory : List ℕ) (e : Entry) → decodeOf (opcodeAt s memory) ≡ decoded.Defined e → Begun s memory e (wholeInstruction s memory)
+pub instruction-begun : (s : State) (memory : List ℕ) (e : Entry) → decodeOf (opcodeAt s memory) ≡ decoded.Defined e
+    → Begun s memory e (wholeInstruction s memory)
 unfolding inOrder
 instruction-begun s memory e d =
     let file = registerFile (s .last .ports) in
@@ -76,18 +80,22 @@ instruction-begun s memory e d =
     let x : Performed Peripherals Ending = performed file memory p [] whole in
     let left : Left e (r .status) (x .writes) (x .end) =
     performed-ends file memory (Left e (r .status)) p [] whole
-    (ends-then (Concludes (e .operation) (e .mode) (e .length) (r .status)) (Left e (r .status)) t (λ l. ends (leaves l)) []
-    (operation-concludes (e .mode) (e .length) r (e .operation)) (λ ws l so. record { conclusion = l; is = refl; so = so })) in
+    (ends-then (Concludes (e .operation) (e .mode) (e .length) (r .status)) (Left e (r .status)) t
+    (λ l. ends (leaves l)) []
+    (operation-concludes (e .mode) (e .length) r (e .operation))
+    (λ ws l so. record { conclusion = l; is = refl; so = so })) in
     let l = left .conclusion in
     let c = left .so in
     let fits = entry-fits (opcodeAt s memory) e d in
     record {
       next = nextAfter s (s .due) (record { end = l; peripherals = x .peripherals; writes = x .writes });
-      done = by-opcode s memory ∙ ap (decodedBy s memory) d ∙ ap (processedBy s (x .peripherals) (x .writes)) (left .is);
+      done =
+          by-opcode s memory ∙ ap (decodedBy s memory) d ∙ ap (processedBy s (x .peripherals) (x .writes)) (left .is);
       conclusion = l;
       ended =
           ap (λ (y : Performed Peripherals Ending). y .end)
-          (accesses-after s memory ∙ ap (λ (y : Decoded). performed file memory p [] (opcodeAccesses r y)) d) ∙ left .is;
+          (accesses-after s memory ∙ ap (λ (y : Decoded). performed file memory p [] (opcodeAccesses r y)) d)
+          ∙ left .is;
       cpu = refl;
       flags = c .flags;
       waits = c .waits;
@@ -97,7 +105,8 @@ instruction-begun s memory e d =
     }
 
 -- the CPU starts, with nothing due: it is an instruction
-pub instruction-starts : (t : State) (memory : List ℕ) → t .last .res ≡ true → t .cpu .wait ≡ 0 → t .due .reset ≡ false → t .due .nmi ≡ false
+pub instruction-starts : (t : State) (memory : List ℕ) → t .last .res ≡ true → t .cpu .wait ≡ 0 → t .due .reset ≡ false
+    → t .due .nmi ≡ false
     → irqDue t ≡ false → processorOf t memory ≡ wholeInstruction t memory
 unfolding processorOf startOf
 instruction-starts t memory high over reset nmi irq =
@@ -116,7 +125,8 @@ module _ (s : State) (memory : List ℕ) (high : s .last .res ≡ true) (some : 
   clock-waits = cond-yes (s .last .res) _ _ high ∙ cond-yes (ltb 0 (s .cpu .wait)) _ _ (lt-ltb 0 (s .cpu .wait) some)
 
 -- where no byte is put, it is one less to wait, and nothing is written
-pub waited-less : (s : State) → (byteWaits (s .cpu .waiting) && eqb (s .cpu .wait) 1) ≡ false → waitedBy s (s .cpu .waiting) ≡ waitLess s
+pub waited-less : (s : State) → (byteWaits (s .cpu .waiting) && eqb (s .cpu .wait) 1) ≡ false
+    → waitedBy s (s .cpu .waiting) ≡ waitLess s
 unfolding byteWaits
 waited-less s h = by-waiting (s .cpu .waiting) h
   where
@@ -125,10 +135,12 @@ waited-less s h = by-waiting (s .cpu .waiting) h
     by-waiting (Byte w) e = cond-no (eqb (s .cpu .wait) 1) _ _ e
 
 -- the last clock: the byte is put, on the state that steps 1 to 3 leave, and it is all that is written
-pub byte-put : (s : State) (memory : List ℕ) (w : Write) → s .last .res ≡ true → s .cpu .wait ≡ 1 → s .cpu .waiting ≡ Byte w
+pub byte-put : (s : State) (memory : List ℕ) (w : Write) → s .last .res ≡ true → s .cpu .wait ≡ 1
+    → s .cpu .waiting ≡ Byte w
     → processorOf s memory ≡ Done (bytePut s w)
 byte-put s memory w high last waits =
-    clock-waits s memory high (omega arith) ∙ ap (waitedBy s) waits ∙ cond-yes (eqb (s .cpu .wait) 1) _ _ (eq-eqb (s .cpu .wait) 1 last)
+    clock-waits s memory high (omega arith) ∙ ap (waitedBy s) waits
+    ∙ cond-yes (eqb (s .cpu .wait) 1) _ _ (eq-eqb (s .cpu .wait) 1 last)
 
 -- with RES low nothing is written
 pub held-writes : (s : State) (memory : List ℕ) → s .last .res ≡ false → processorOf s memory ≡ withoutWrites s

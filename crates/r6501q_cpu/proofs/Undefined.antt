@@ -14,22 +14,27 @@ use Rattle.r6501q_state.specs.declared.state.State.{State}
 use Rattle.cpu_access.specs.declared.stack.Write.{Write}
 use Rattle.cpu_access.specs.declared.waiting.Waiting.{Waiting}
 use Rattle.cpu_access.specs.declared.waiting.Waiting.the-variants.{Nothing, Byte}
-use Rattle.cpu_access.specs.Accesses.{Accesses, ends, reads, writes, _>>=_, RegisterFile, byteAfter, peripheralsRead, valueRead, performed}
+use Rattle.cpu_access.specs.Accesses.{Accesses, ends, reads, writes, _>>=_, RegisterFile, byteAfter, peripheralsRead}
+use Rattle.cpu_access.specs.Accesses.{valueRead, performed}
 use Rattle.cpu_access.specs.Bus.{nextAddress}
 use Rattle.cpu_operations.specs.Effects.{withPc}
-use Rattle.cpu.specs.Sequence.{Conclusion, Ending, undefined, leaves, undefinedStop, operationAccesses, opcodeAccesses, instructionAccesses}
+use Rattle.cpu.specs.Sequence.{Conclusion, Ending, undefined, leaves, undefinedStop, operationAccesses, opcodeAccesses}
+use Rattle.cpu.specs.Sequence.{instructionAccesses}
 use Rattle.r6501q_cpu.specs.declared.Processed.{Processed}
 use Rattle.r6501q_cpu.specs.declared.Processed.the-variants.{Stopped, Done}
-use Rattle.r6501q_cpu.specs.Processor.{registersOf, registerFile, performedIn, processedBy, processedAfter, wholeInstruction, opcodeAt, irqDue, startOf, waitedBy, processorOf}
+use Rattle.r6501q_cpu.specs.Processor.{registersOf, registerFile, performedIn, processedBy, processedAfter}
+use Rattle.r6501q_cpu.specs.Processor.{wholeInstruction, opcodeAt, irqDue, startOf, waitedBy, processorOf}
 
 -- an instruction after its opcode
 abbrev pub decodedBy : State → List ℕ → Decoded → Processed
 decodedBy s memory d =
-    processedAfter s (performed (registerFile (s .last .ports)) memory (peripheralsRead (registerFile (s .last .ports)) (s .peripherals) (s .cpu .pc)) []
+    processedAfter s (performed (registerFile (s .last .ports)) memory
+    (peripheralsRead (registerFile (s .last .ports)) (s .peripherals) (s .cpu .pc)) []
     (opcodeAccesses (withPc (nextAddress (s .cpu .pc)) (registersOf (s .cpu))) d))
 
 -- it goes by the opcode at PC
-pub by-opcode : (s : State) (memory : List ℕ) → wholeInstruction s memory ≡ decodedBy s memory (decodeOf (opcodeAt s memory))
+pub by-opcode : (s : State) (memory : List ℕ)
+    → wholeInstruction s memory ≡ decodedBy s memory (decodeOf (opcodeAt s memory))
 unfolding wholeInstruction instructionAccesses performed valueRead byteAfter opcodeAt
 by-opcode s memory = refl
 
@@ -42,7 +47,8 @@ undefined-opcode s memory e = by-opcode s memory ∙ ap (decodedBy s memory) e
 -- what leaves something, performed, ends with what it leaves
 module _ {P : Type 0} (file : RegisterFile P) (memory : List ℕ) where
   ends-left : (t : Accesses Conclusion) (p : P) (before : List Write)
-      → performed file memory p before (t >>= (λ l. ends (leaves l))) .end ≡ leaves (performed file memory p before t .end)
+      → performed file memory p before (t >>= (λ l. ends (leaves l))) .end
+      ≡ leaves (performed file memory p before t .end)
   unfolding performed
   ends-left (ends l) p before = refl
   ends-left (reads latch a go) p before = ends-left (go _) _ before
@@ -53,7 +59,8 @@ abbrev Concluded : Processed → Type 0
 Concluded (Stopped number) = ⊥
 Concluded (Done n) = Unit {0}
 
-concluded : (s : State) (p : Peripherals) (pushes : List Write) (x : Ending) (l : Conclusion) → x ≡ leaves l → Concluded (processedBy s p pushes x)
+concluded : (s : State) (p : Peripherals) (pushes : List Write) (x : Ending) (l : Conclusion) → x ≡ leaves l
+    → Concluded (processedBy s p pushes x)
 concluded s p pushes x l e = rw e tt
 
 -- an instruction whose opcode is defined is not undefined
@@ -62,8 +69,10 @@ pub defined-opcode :
     → wholeInstruction s memory ≡ Stopped number → ⊥
 defined-opcode s memory e number defined same =
     let file = registerFile (s .last .ports) in
-    let t = operationAccesses (e .operation) (e .mode) (e .length) (withPc (nextAddress (s .cpu .pc)) (registersOf (s .cpu))) in
-    let done : Concluded (decodedBy s memory (decoded.Defined e)) = concluded s _ _ _ _ (ends-left file memory t (peripheralsRead file (s .peripherals) (s .cpu .pc)) []) in
+    let t =
+    operationAccesses (e .operation) (e .mode) (e .length) (withPc (nextAddress (s .cpu .pc)) (registersOf (s .cpu))) in
+    let done : Concluded (decodedBy s memory (decoded.Defined e)) =
+    concluded s _ _ _ _ (ends-left file memory t (peripheralsRead file (s .peripherals) (s .cpu .pc)) []) in
     subst Concluded (sym (ap (decodedBy s memory) defined) ∙ sym (by-opcode s memory) ∙ same) done
 
 -- a stop is that of an undefined opcode

@@ -21,7 +21,8 @@ use Rattle.cpu_access.specs.Stack.{noWrites, oneWrite}
 use Rattle.cpu_access.specs.declared.waiting.Waiting.{Waiting}
 use Rattle.cpu_access.specs.declared.waiting.Waiting.the-variants.{Nothing, Byte}
 use Rattle.cpu_access.specs.Accesses.{Accesses, RegisterFile, Performed, peripheralsWritten, performed, inOrder}
-use Rattle.cpu.specs.Sequence.{Conclusion, Ending, undefined, leaves, undefinedStop, instructionAccesses, resetAccesses, interruptAccesses}
+use Rattle.cpu.specs.Sequence.{Conclusion, Ending, undefined, leaves, undefinedStop, instructionAccesses, resetAccesses}
+use Rattle.cpu.specs.Sequence.{interruptAccesses}
 use Rattle.r6501q_cpu.specs.declared.Next.{Next}
 use Rattle.r6501q_cpu.specs.declared.Processed.{Processed}
 use Rattle.r6501q_cpu.specs.declared.Processed.the-variants.{Stopped, Done}

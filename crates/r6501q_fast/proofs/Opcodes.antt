@@ -5,17 +5,22 @@ use Rattle.cpu_opcodes.specs.Decode.{decodeOf}
 use Rattle.cpu_opcodes.specs.declared.Entry.{Entry}
 use Rattle.cpu_opcodes.specs.declared.Decoded.the-variants.{Defined}
 use Rattle.cpu_opcodes.specs.declared.Mode.{Mode}
-use Rattle.cpu_opcodes.specs.declared.Mode.the-variants.{Implied, Accumulator, Immediate, ZeroPage, ZeroPageX, ZeroPageY, Absolute, AbsoluteX, AbsoluteY, IndexedIndirect, IndirectIndexed, Indirect, Relative, ZeroPageRelative}
+use Rattle.cpu_opcodes.specs.declared.Mode.the-variants.{Implied, Accumulator, Immediate, ZeroPage, ZeroPageX}
+use Rattle.cpu_opcodes.specs.declared.Mode.the-variants.{ZeroPageY, Absolute, AbsoluteX, AbsoluteY, IndexedIndirect}
+use Rattle.cpu_opcodes.specs.declared.Mode.the-variants.{IndirectIndexed, Indirect, Relative, ZeroPageRelative}
 use Rattle.cpu_opcodes.specs.declared.operation.Operation.{Operation}
-use Rattle.cpu_opcodes.specs.declared.operation.Operation.the-variants.{Read, Modify, Store, Branch, BitBranch, Push, Pull, Register, Flag, Jmp, Jsr, Nop, Rti, Rts}
+use Rattle.cpu_opcodes.specs.declared.operation.Operation.the-variants.{Read, Modify, Store, Branch, BitBranch, Push}
+use Rattle.cpu_opcodes.specs.declared.operation.Operation.the-variants.{Pull, Register, Flag, Jmp, Jsr, Nop, Rti, Rts}
 use Rattle.cpu_opcodes.specs.declared.operation.BitBranchOperation.the-variants.{Bbr, Bbs}
 use Rattle.cpu_opcodes.specs.declared.operation.BranchOperation.the-variants.{Bcc, Bcs, Beq, Bmi, Bne, Bpl, Bvc, Bvs}
 use Rattle.cpu_opcodes.specs.declared.operation.FlagOperation.the-variants.{Clc, Cld, Cli, Clv, Sec, Sed, Sei}
 use Rattle.cpu_opcodes.specs.declared.operation.ModifyOperation.the-variants.{Asl, Dec, Inc, Lsr, Rmb, Rol, Ror, Smb}
 use Rattle.cpu_opcodes.specs.declared.operation.PullOperation.the-variants.{Pla, Plp}
 use Rattle.cpu_opcodes.specs.declared.operation.PushOperation.the-variants.{Pha, Php}
-use Rattle.cpu_opcodes.specs.declared.operation.ReadOperation.the-variants.{Adc, And, Bit, Cmp, Cpx, Cpy, Eor, Lda, Ldx, Ldy, Ora, Sbc}
-use Rattle.cpu_opcodes.specs.declared.operation.RegisterOperation.the-variants.{Dex, Dey, Inx, Iny, Tax, Tay, Tsx, Txa, Txs, Tya}
+use Rattle.cpu_opcodes.specs.declared.operation.ReadOperation.the-variants.{Adc, And, Bit, Cmp, Cpx, Cpy, Eor, Lda, Ldx}
+use Rattle.cpu_opcodes.specs.declared.operation.ReadOperation.the-variants.{Ldy, Ora, Sbc}
+use Rattle.cpu_opcodes.specs.declared.operation.RegisterOperation.the-variants.{Dex, Dey, Inx, Iny, Tax, Tay, Tsx, Txa}
+use Rattle.cpu_opcodes.specs.declared.operation.RegisterOperation.the-variants.{Txs, Tya}
 use Rattle.cpu_opcodes.specs.declared.operation.StoreOperation.the-variants.{Sta, Stx, Sty}
 
 abbrev pub entry : Operation → Mode → ℕ → Entry

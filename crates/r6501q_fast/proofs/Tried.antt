@@ -43,19 +43,27 @@ use Rattle.cpu_access.specs.Stack.{writeAt, oneWrite, pushAt, down, noWrites, p
 use Rattle.cpu_operations.specs.declared.Worked.{Worked}
 use Rattle.cpu_operations.specs.declared.Written.{Written}
 use Rattle.cpu_operations.specs.declared.Written.the-variants.{Nothing, Pushed, Stored}
-use Rattle.cpu_operations.specs.Effects.{pushesOf, waitingOf, completed, stored, modified, branched, bitBranched, jumped, pushedByte, pulledByte, returned, returnedFromInterrupt}
-use Rattle.cpu_operations.specs.Kinds.{withRead, changedBy, byteToStore, branchTaken, bitBranchTaken, byteToPush, withPulled, withRegister, withFlag}
+use Rattle.cpu_operations.specs.Effects.{pushesOf, waitingOf, completed, stored, modified, branched, bitBranched}
+use Rattle.cpu_operations.specs.Effects.{jumped, pushedByte, pulledByte, returned, returnedFromInterrupt}
+use Rattle.cpu_operations.specs.Kinds.{withRead, changedBy, byteToStore, branchTaken, bitBranchTaken, byteToPush}
+use Rattle.cpu_operations.specs.Kinds.{withPulled, withRegister, withFlag}
 use Rattle.cpu_operations.specs.Operations.{workOf}
 use Rattle.cpu_operations.specs.Updates.{withPc, withSp, withStatus, intoA}
 use Rattle.cpu.specs.declared.Outcome.{Outcome}
 use Rattle.cpu.specs.declared.Outcome.the-variants.{Done}
 use Rattle.cpu.specs.declared.quiet.Work.{Work}
-use Rattle.cpu.specs.Instruction.{instructionOf, executeOf, outcomeOf, carriedOut, operandByte, subroutineCall, writesAsked}
+use Rattle.cpu.specs.Instruction.{instructionOf, executeOf, outcomeOf, carriedOut, operandByte, subroutineCall}
+use Rattle.cpu.specs.Instruction.{writesAsked}
 use Rattle.cpu.specs.Quiet.{nextWork}
 use Rattle.r6501q_clock.specs.Commit.{putWrite, committed}
 use Rattle.r6501q_spans.specs.Spans.{endsSpan, writesRegister, putWork}
 use Rattle.r6501q_spans.proofs.Ends.{either-false, ends-not}
-use Rattle.r6501q_fast.specs.Attempts.{Instructed, pushing, storing, Tries, unchanged, whole, leftAsItWas, workedOut, startedNext, storedWhole, asksFor, storeLeft, readTried, storeTried, storeMemory, saveTried, saveMemory, changedAt, changeTried, changeMemory, accumulatorTried, branchTried, bitBranchTried, jumpTried, pushTried, pushMemory, pullTried, callPushes, callUpper, callTried, callMemory, returnTried, interruptReturnTried, registerTried, flagTried}
+use Rattle.r6501q_fast.specs.Attempts.{Instructed, pushing, storing, Tries, unchanged, whole, leftAsItWas}
+use Rattle.r6501q_fast.specs.Attempts.{workedOut, startedNext, storedWhole, asksFor, storeLeft, readTried}
+use Rattle.r6501q_fast.specs.Attempts.{storeTried, storeMemory, saveTried, saveMemory, changedAt, changeTried}
+use Rattle.r6501q_fast.specs.Attempts.{changeMemory, accumulatorTried, branchTried, bitBranchTried, jumpTried}
+use Rattle.r6501q_fast.specs.Attempts.{pushTried, pushMemory, pullTried, callPushes, callUpper, callTried}
+use Rattle.r6501q_fast.specs.Attempts.{callMemory, returnTried, interruptReturnTried, registerTried, flagTried}
 
 abbrev entry : Operation → Mode → ℕ → Entry
 entry o m n = record { operation = o; mode = m; length = n }
@@ -117,9 +125,11 @@ module _ (halt : Halt) (span : ℕ) (w : Work) (memory : List ℕ) (inside : w .
       → Executes o m n (workedOut r Nothing length) → Tries halt span w memory (startedNext w r length) memory
   unfolding waitingOf
   quiet o m n d r length e =
-      whole (subst (λ (memory' : List ℕ). Instructed halt span w memory (nextWork w (workedOut r Nothing length)) memory')
+      whole (subst (λ (memory' : List ℕ). Instructed halt span w memory (nextWork w (workedOut r Nothing length))
+      memory')
       (nothing-committed memory)
-      (pushing (workedOut r Nothing length) inside (opcode-executes (w .registers) memory (entry o m n) free d ∙ e) refl (nothing-ends halt)))
+      (pushing (workedOut r Nothing length) inside (opcode-executes (w .registers) memory (entry o m n) free d ∙ e)
+      refl (nothing-ends halt)))
 
   -- pushes
   pushes : (o : Operation) (m : Mode) (n : ℕ) → Decodes o m n → (r : CpuRegisters) (x : Writes) (length : ℕ)
@@ -127,7 +137,8 @@ module _ (halt : Halt) (span : ℕ) (w : Work) (memory : List ℕ) (inside : w .
       → Tries halt span w memory (startedNext w r length) (committed memory x)
   unfolding waitingOf pushesOf
   pushes o m n d r x length e q =
-      whole (pushing (workedOut r (Pushed x) length) inside (opcode-executes (w .registers) memory (entry o m n) free d ∙ e) refl q)
+      whole (pushing (workedOut r (Pushed x) length) inside
+      (opcode-executes (w .registers) memory (entry o m n) free d ∙ e) refl q)
 
   -- a store
   stores : (o : Operation) (m : Mode) (n : ℕ) → Decodes o m n → (r : CpuRegisters) (x : Write) → 1 < n
@@ -143,9 +154,11 @@ module _ (halt : Halt) (span : ℕ) (w : Work) (memory : List ℕ) (inside : w .
       (opcode-executes (w .registers) memory (entry o m n) free d ∙ e) refl (both .0)))
 
   -- a read
-  read-done : (o : ReadOperation) (m : Mode) (n : ℕ) → placeOf m .bus .missing ≡ false → isRegister (placeOf m .address) ≡ false
+  read-done : (o : ReadOperation) (m : Mode) (n : ℕ) → placeOf m .bus .missing ≡ false
+      → isRegister (placeOf m .address) ≡ false
       → Executes (operation.Read o) m n
-      (workedOut (withRead o (withPc (placeOf m .pc) (w .registers)) (memoryByte memory (placeOf m .address))) Nothing (n + digit (placeOf m .crossed)))
+      (workedOut (withRead o (withPc (placeOf m .pc) (w .registers)) (memoryByte memory (placeOf m .address))) Nothing
+      (n + digit (placeOf m .crossed)))
   unfolding executeOf carriedOut operandByte readOf outcomeOf workOf completed
   read-done o m n b a = rw (a, b) refl
 
@@ -160,7 +173,8 @@ module _ (halt : Halt) (span : ℕ) (w : Work) (memory : List ℕ) (inside : w .
   -- STA, STX and STY
   save-done : (o : StoreOperation) (m : Mode) (n : ℕ) → placeOf m .bus .missing ≡ false
       → Executes (operation.Store o) m n
-      (workedOut (withPc (placeOf m .pc) (w .registers)) (Stored (writeAt (placeOf m .address) (byteToStore o (w .registers)))) n)
+      (workedOut (withPc (placeOf m .pc) (w .registers))
+      (Stored (writeAt (placeOf m .address) (byteToStore o (w .registers)))) n)
   unfolding executeOf carriedOut operandByte outcomeOf workOf stored
   save-done o m n b = rw (byte-stored o (placeOf m .pc) (w .registers), b) refl
 
@@ -173,7 +187,8 @@ module _ (halt : Halt) (span : ℕ) (w : Work) (memory : List ℕ) (inside : w .
       stores (operation.Store o) m n d _ _ long (save-done o m n (both .0)))
 
   -- a byte changed in memory
-  change-done : (o : ModifyOperation) (m : Mode) (n : ℕ) → placeOf m .accumulator ≡ false → placeOf m .bus .missing ≡ false
+  change-done : (o : ModifyOperation) (m : Mode) (n : ℕ) → placeOf m .accumulator ≡ false
+      → placeOf m .bus .missing ≡ false
       → isRegister (placeOf m .address) ≡ false
       → Executes (operation.Modify o) m n
       (workedOut (withStatus (changedAt o w memory (placeOf m) .status) (withPc (placeOf m .pc) (w .registers)))
@@ -181,8 +196,10 @@ module _ (halt : Halt) (span : ℕ) (w : Work) (memory : List ℕ) (inside : w .
   unfolding executeOf carriedOut operandByte readOf outcomeOf workOf modified stored
   change-done o m n c b a = rw (c, a, b) refl
 
-  pub change-tries : (o : ModifyOperation) (m : Mode) (n : ℕ) → Decodes (operation.Modify o) m n → placeOf m .accumulator ≡ false → 1 < n
-      → Tries halt span w memory (changeTried halt span o w memory (placeOf m) n) (changeMemory halt span o w memory (placeOf m) n)
+  pub change-tries : (o : ModifyOperation) (m : Mode) (n : ℕ) → Decodes (operation.Modify o) m n
+      → placeOf m .accumulator ≡ false → 1 < n
+      → Tries halt span w memory (changeTried halt span o w memory (placeOf m) n)
+      (changeMemory halt span o w memory (placeOf m) n)
   unfolding changeTried changeMemory
   change-tries o m n d c long =
       left-or (asksFor (placeOf m)) _ _
@@ -196,29 +213,35 @@ module _ (halt : Halt) (span : ℕ) (w : Work) (memory : List ℕ) (inside : w .
   accumulator-tries o n d = quiet (operation.Modify o) Accumulator n d _ _ refl
 
   -- branches
-  branch-done : (o : Operation) (m : Mode) (n : ℕ) → Decodes o m n → (taken : Bool) (p : Place) → p .bus .missing ≡ false
-      → ((t : Bool) → t ≡ taken → Executes o m n (cond t (workedOut (withPc (p .address) (w .registers)) Nothing (n + 1 + digit (p .crossed)))
+  branch-done : (o : Operation) (m : Mode) (n : ℕ) → Decodes o m n → (taken : Bool) (p : Place)
+      → p .bus .missing ≡ false
+      → ((t : Bool) → t ≡ taken
+      → Executes o m n (cond t (workedOut (withPc (p .address) (w .registers)) Nothing (n + 1 + digit (p .crossed)))
       (workedOut (withPc (p .pc) (w .registers)) Nothing n)))
       → Tries halt span w memory (branchTried taken w p n) memory
   unfolding branchTried
   branch-done o m n d taken p b e = rw b (by-taken taken refl)
     where
       by-taken : (t : Bool) → t ≡ taken
-          → Tries halt span w memory (cond t (startedNext w (withPc (p .address) (w .registers)) (n + 1 + digit (p .crossed)))
+          → Tries halt span w memory
+          (cond t (startedNext w (withPc (p .address) (w .registers)) (n + 1 + digit (p .crossed)))
           (startedNext w (withPc (p .pc) (w .registers)) n)) memory
       by-taken true z = quiet o m n d _ _ (e true z)
       by-taken false z = quiet o m n d _ _ (e false z)
 
   -- what a branch executes to, taken or not
-  branch-executes : (o : BranchOperation) (n : ℕ) → placeOf Relative .bus .missing ≡ false → (t : Bool) → t ≡ branchTaken o (w .registers .status)
+  branch-executes : (o : BranchOperation) (n : ℕ) → placeOf Relative .bus .missing ≡ false → (t : Bool)
+      → t ≡ branchTaken o (w .registers .status)
       → Executes (operation.Branch o) Relative n
-      (cond t (workedOut (withPc (placeOf Relative .address) (w .registers)) Nothing (n + 1 + digit (placeOf Relative .crossed)))
+      (cond t (workedOut (withPc (placeOf Relative .address) (w .registers)) Nothing
+      (n + 1 + digit (placeOf Relative .crossed)))
       (workedOut (withPc (placeOf Relative .pc) (w .registers)) Nothing n))
   unfolding executeOf carriedOut operandByte outcomeOf workOf branched
   branch-executes o n b true z = rw (sym z, b) refl
   branch-executes o n b false z = rw (sym z, b) refl
 
-  missing-unchanged : (taken : Bool) (p : Place) (n : ℕ) → p .bus .missing ≡ true → Tries halt span w memory (branchTried taken w p n) memory
+  missing-unchanged : (taken : Bool) (p : Place) (n : ℕ) → p .bus .missing ≡ true
+      → Tries halt span w memory (branchTried taken w p n) memory
   unfolding branchTried
   missing-unchanged taken p n b = rw b unchanged
 
@@ -230,13 +253,15 @@ module _ (halt : Halt) (span : ℕ) (w : Work) (memory : List ℕ) (inside : w .
           → Tries halt span w memory (branchTried (branchTaken o (w .registers .status)) w (placeOf Relative) n) memory
       by-missing true b = missing-unchanged _ (placeOf Relative) n b
       by-missing false b =
-          branch-done (operation.Branch o) Relative n d (branchTaken o (w .registers .status)) (placeOf Relative) b (branch-executes o n b)
+          branch-done (operation.Branch o) Relative n d (branchTaken o (w .registers .status)) (placeOf Relative) b
+          (branch-executes o n b)
 
   -- BBR and BBS
   abbrev target : Place
   target = relativeTo (fetchOf [] memory (placeOf ZeroPageRelative .pc) (placeOf ZeroPageRelative .bus))
 
-  bit-branch-executes : (o : BitBranchOperation) (n : ℕ) → isRegister (placeOf ZeroPageRelative .address) ≡ false → target .bus .missing ≡ false
+  bit-branch-executes : (o : BitBranchOperation) (n : ℕ) → isRegister (placeOf ZeroPageRelative .address) ≡ false
+      → target .bus .missing ≡ false
       → (t : Bool) → t ≡ bitBranchTaken o (memoryByte memory (placeOf ZeroPageRelative .address))
       → Executes (operation.BitBranch o) ZeroPageRelative n
       (cond t (workedOut (withPc (target .address) (w .registers)) Nothing (n + 1 + digit (target .crossed)))
@@ -250,14 +275,17 @@ module _ (halt : Halt) (span : ℕ) (w : Work) (memory : List ℕ) (inside : w .
   unfolding bitBranchTried
   bit-branch-tries o n d =
       left-or-same (asksFor (placeOf ZeroPageRelative)) _
-      (λ t. let both = either-false (placeOf ZeroPageRelative .bus .missing) (isRegister (placeOf ZeroPageRelative .address)) t in
+      (λ t. let both = either-false (placeOf ZeroPageRelative .bus .missing)
+      (isRegister (placeOf ZeroPageRelative .address)) t in
       by-missing (both .1) (target .bus .missing) refl)
     where
       by-missing : isRegister (placeOf ZeroPageRelative .address) ≡ false → (t : Bool) → target .bus .missing ≡ t
-          → Tries halt span w memory (branchTried (bitBranchTaken o (memoryByte memory (placeOf ZeroPageRelative .address))) w target n) memory
+          → Tries halt span w memory
+          (branchTried (bitBranchTaken o (memoryByte memory (placeOf ZeroPageRelative .address))) w target n) memory
       by-missing a true b = missing-unchanged _ target n b
       by-missing a false b =
-          branch-done (operation.BitBranch o) ZeroPageRelative n d (bitBranchTaken o (memoryByte memory (placeOf ZeroPageRelative .address))) target b
+          branch-done (operation.BitBranch o) ZeroPageRelative n d
+          (bitBranchTaken o (memoryByte memory (placeOf ZeroPageRelative .address))) target b
           (bit-branch-executes o n a b)
 
   jump-done : (m : Mode) (n : ℕ) → placeOf m .bus .missing ≡ false
@@ -265,14 +293,16 @@ module _ (halt : Halt) (span : ℕ) (w : Work) (memory : List ℕ) (inside : w .
   unfolding executeOf carriedOut operandByte outcomeOf workOf jumped
   jump-done m n b = rw b refl
 
-  pub jump-tries : (m : Mode) (n : ℕ) → Decodes operation.Jmp m n → Tries halt span w memory (jumpTried w (placeOf m) n) memory
+  pub jump-tries : (m : Mode) (n : ℕ) → Decodes operation.Jmp m n
+      → Tries halt span w memory (jumpTried w (placeOf m) n) memory
   unfolding jumpTried
   jump-tries m n d = left-or-same (placeOf m .bus .missing) _ (λ b. quiet operation.Jmp m n d _ _ (jump-done m n b))
 
   -- PHA and PHP
   push-done : (o : PushOperation) (n : ℕ)
       → Executes (operation.Push o) Implied n
-      (workedOut (withSp (down (w .registers .sp)) behind) (Pushed (oneWrite (pushAt (w .registers .sp) (byteToPush o (w .registers))))) n)
+      (workedOut (withSp (down (w .registers .sp)) behind)
+      (Pushed (oneWrite (pushAt (w .registers .sp) (byteToPush o (w .registers))))) n)
   unfolding executeOf carriedOut operandByte outcomeOf workOf pushedByte locateOf
   push-done o n = rw (byte-pushed o (nextAddress (w .registers .pc)) (w .registers)) refl
 
@@ -285,7 +315,8 @@ module _ (halt : Halt) (span : ℕ) (w : Work) (memory : List ℕ) (inside : w .
   -- PLA and PLP
   pull-done : (o : PullOperation) (n : ℕ) → pullOf [] memory (w .registers .sp) idle .bus .missing ≡ false
       → Executes (operation.Pull o) Implied n
-      (workedOut (withPulled o (withSp (pullOf [] memory (w .registers .sp) idle .sp) behind) (pullOf [] memory (w .registers .sp) idle .value)) Nothing n)
+      (workedOut (withPulled o (withSp (pullOf [] memory (w .registers .sp) idle .sp) behind)
+      (pullOf [] memory (w .registers .sp) idle .value)) Nothing n)
   unfolding executeOf carriedOut operandByte outcomeOf workOf pulledByte locateOf
   pull-done o n b = rw b refl
 
@@ -293,12 +324,15 @@ module _ (halt : Halt) (span : ℕ) (w : Work) (memory : List ℕ) (inside : w .
       → Tries halt span w memory (pullTried o w memory (nextAddress (w .registers .pc)) n) memory
   unfolding pullTried
   pull-tries o n d =
-      left-or-same (pullOf [] memory (w .registers .sp) idle .bus .missing) _ (λ b. quiet (operation.Pull o) Implied n d _ _ (pull-done o n b))
+      left-or-same (pullOf [] memory (w .registers .sp) idle .bus .missing) _
+      (λ b. quiet (operation.Pull o) Implied n d _ _ (pull-done o n b))
 
   pub register-tries : (o : RegisterOperation) (n : ℕ) → Decodes (operation.Register o) Implied n
       → Tries halt span w memory (registerTried o w (nextAddress (w .registers .pc)) n) memory
   unfolding registerTried executeOf carriedOut operandByte outcomeOf workOf completed locateOf
-  register-tries o n d = quiet (operation.Register o) Implied n d _ _ (ap (λ (k : ℕ). Done (workedOut (withRegister o behind) Nothing k)) (add-zero n))
+  register-tries o n d =
+      quiet (operation.Register o) Implied n d _ _
+      (ap (λ (k : ℕ). Done (workedOut (withRegister o behind) Nothing k)) (add-zero n))
 
   pub flag-tries : (o : FlagOperation) (n : ℕ) → Decodes (operation.Flag o) Implied n
       → Tries halt span w memory (flagTried o w (nextAddress (w .registers .pc)) n) memory
@@ -307,9 +341,11 @@ module _ (halt : Halt) (span : ℕ) (w : Work) (memory : List ℕ) (inside : w .
       quiet (operation.Flag o) Implied n d _ _
       (ap (λ (k : ℕ). Done (workedOut (withStatus (withFlag o (w .registers .status)) behind) Nothing k)) (add-zero n))
 
-  pub no-operation-tries : (n : ℕ) → Decodes operation.Nop Implied n → Tries halt span w memory (startedNext w behind n) memory
+  pub no-operation-tries : (n : ℕ) → Decodes operation.Nop Implied n
+      → Tries halt span w memory (startedNext w behind n) memory
   unfolding executeOf carriedOut operandByte outcomeOf workOf completed locateOf
-  no-operation-tries n d = quiet operation.Nop Implied n d _ _ (ap (λ (k : ℕ). Done (workedOut behind Nothing k)) (add-zero n))
+  no-operation-tries n d =
+      quiet operation.Nop Implied n d _ _ (ap (λ (k : ℕ). Done (workedOut behind Nothing k)) (add-zero n))
 
   -- JSR
   abbrev lower : Fetched
@@ -317,13 +353,15 @@ module _ (halt : Halt) (span : ℕ) (w : Work) (memory : List ℕ) (inside : w .
 
   call-done : (n : ℕ) → callUpper memory w lower .bus .missing ≡ false
       → Executes operation.Jsr Absolute n
-      (workedOut (withPc (word (callUpper memory w lower .value) (lower .value)) (withSp (down (down (w .registers .sp))) (w .registers)))
+      (workedOut (withPc (word (callUpper memory w lower .value) (lower .value))
+      (withSp (down (down (w .registers .sp))) (w .registers)))
       (Pushed (callPushes w lower)) n)
   unfolding executeOf subroutineCall outcomeOf
   call-done n b = rw b refl
 
   pub call-tries : (n : ℕ) → Decodes operation.Jsr Absolute n
-      → Tries halt span w memory (callTried halt w memory (nextAddress (w .registers .pc)) n) (callMemory halt w memory (nextAddress (w .registers .pc)))
+      → Tries halt span w memory (callTried halt w memory (nextAddress (w .registers .pc)) n)
+      (callMemory halt w memory (nextAddress (w .registers .pc)))
   unfolding callTried callMemory
   call-tries n d =
       left-or (callUpper memory w lower .bus .missing || endsSpan halt (callPushes w lower)) _ _
@@ -333,15 +371,18 @@ module _ (halt : Halt) (span : ℕ) (w : Work) (memory : List ℕ) (inside : w .
   -- RTS and RTI
   return-done : (n : ℕ) → pullWord [] memory (w .registers .sp) idle .bus .missing ≡ false
       → Executes operation.Rts Implied n
-      (workedOut (withPc (nextAddress (pullWord [] memory (w .registers .sp) idle .value)) (withSp (pullWord [] memory (w .registers .sp) idle .sp) (w .registers)))
+      (workedOut (withPc (nextAddress (pullWord [] memory (w .registers .sp) idle .value))
+      (withSp (pullWord [] memory (w .registers .sp) idle .sp) (w .registers)))
       Nothing n)
   unfolding executeOf carriedOut operandByte outcomeOf workOf returned locateOf
   return-done n b = rw b refl
 
-  pub return-tries : (n : ℕ) → Decodes operation.Rts Implied n → Tries halt span w memory (returnTried w memory n) memory
+  pub return-tries : (n : ℕ) → Decodes operation.Rts Implied n
+      → Tries halt span w memory (returnTried w memory n) memory
   unfolding returnTried
   return-tries n d =
-      left-or-same (pullWord [] memory (w .registers .sp) idle .bus .missing) _ (λ b. quiet operation.Rts Implied n d _ _ (return-done n b))
+      left-or-same (pullWord [] memory (w .registers .sp) idle .bus .missing) _
+      (λ b. quiet operation.Rts Implied n d _ _ (return-done n b))
 
   abbrev status : Pulled
   status = pullOf [] memory (w .registers .sp) idle
@@ -349,11 +390,14 @@ module _ (halt : Halt) (span : ℕ) (w : Work) (memory : List ℕ) (inside : w .
   resume-done : (n : ℕ) → pullWord [] memory (status .sp) (status .bus) .bus .missing ≡ false
       → Executes operation.Rti Implied n
       (workedOut (withPc (pullWord [] memory (status .sp) (status .bus) .value)
-      (withStatus (unpacked (status .value)) (withSp (pullWord [] memory (status .sp) (status .bus) .sp) (w .registers)))) Nothing n)
+      (withStatus (unpacked (status .value))
+      (withSp (pullWord [] memory (status .sp) (status .bus) .sp) (w .registers)))) Nothing n)
   unfolding executeOf carriedOut operandByte outcomeOf workOf returnedFromInterrupt locateOf
   resume-done n b = rw b refl
 
-  pub interrupt-return-tries : (n : ℕ) → Decodes operation.Rti Implied n → Tries halt span w memory (interruptReturnTried w memory n) memory
+  pub interrupt-return-tries : (n : ℕ) → Decodes operation.Rti Implied n
+      → Tries halt span w memory (interruptReturnTried w memory n) memory
   unfolding interruptReturnTried
   interrupt-return-tries n d =
-      left-or-same (pullWord [] memory (status .sp) (status .bus) .bus .missing) _ (λ b. quiet operation.Rti Implied n d _ _ (resume-done n b))
+      left-or-same (pullWord [] memory (status .sp) (status .bus) .bus .missing) _
+      (λ b. quiet operation.Rti Implied n d _ _ (resume-done n b))

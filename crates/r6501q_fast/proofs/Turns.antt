@@ -14,32 +14,42 @@ use Rattle.cpu_access.specs.declared.halt.Halt.{Halt}
 use Rattle.cpu.specs.declared.quiet.Work.{Work}
 use Rattle.cpu.specs.Quiet.{WithinSpan}
 use Rattle.r6501q_fast.specs.declared.Attempt.{Attempt}
-use Rattle.r6501q_fast.specs.Attempts.{Instructed, pushing, storing, Tries, unchanged, whole, InTurn, none, more, sharedBy}
+use Rattle.r6501q_fast.specs.Attempts.{Instructed, pushing, storing, Tries, unchanged, whole, InTurn, none, more}
+use Rattle.r6501q_fast.specs.Attempts.{sharedBy}
 
-pub starts-within : (on : Bool) (w : Work) (span : ℕ) → (on && ltb (w .wait) (span - w .gone .0)) ≡ true → w .gone .0 + w .wait < span
+pub starts-within : (on : Bool) (w : Work) (span : ℕ) → (on && ltb (w .wait) (span - w .gone .0)) ≡ true
+    → w .gone .0 + w .wait < span
 starts-within on w span e =
-    let less = ltb-true (w .wait) (span - w .gone .0) (and-right on (ltb (w .wait) (span - w .gone .0)) e) in omega (arith, less)
+    let less = ltb-true (w .wait) (span - w .gone .0) (and-right on (ltb (w .wait) (span - w .gone .0)) e) in
+    omega (arith, less)
 
 at-most : (b : Bool) (k : ℕ) → k ≤ 1 → cond b 0 k ≤ 1
 at-most true k h = omega arith
 at-most false k h = h
 
-pub start-fits : (w : Work) (span : ℕ) → w .gone .0 + w .wait < span → span ≤ 2147483647 → w .gone .0 + w .wait + 1 ≤ 4294967295
+pub start-fits : (w : Work) (span : ℕ) → w .gone .0 + w .wait < span → span ≤ 2147483647
+    → w .gone .0 + w .wait + 1 ≤ 4294967295
 start-fits w span h k = omega (arith, h, k)
 
-pub two-fit : (shared start gone span : ℕ) → shared + start ≤ gone → gone ≤ span → span ≤ 2147483647 → shared + 2 ≤ 4294967295
+pub two-fit : (shared start gone span : ℕ) → shared + start ≤ gone → gone ≤ span → span ≤ 2147483647
+    → shared + 2 ≤ 4294967295
 two-fit shared start gone span h k l = omega (arith, h, k, l)
 
 pub shared-two : (t : Ticking) (start gone : ℕ) → sharedBy t start gone ≤ 2
 unfolding sharedBy
 shared-two t start gone =
-    omega (arith, digit-le (onTick t start), at-most (eqb gone start) (digit (onTick t gone)) (digit-le (onTick t gone)))
+    omega (
+      arith,
+      digit-le (onTick t start),
+      at-most (eqb gone start) (digit (onTick t gone)) (digit-le (onTick t gone)),
+    )
 
 module _ (halt : Halt) (span : ℕ) (ticking : Ticking) (start : Work) (memory₀ : List ℕ) where
   pub try-within : (w : Work) (memory : List ℕ) (t : Attempt) (memory' : List ℕ) → WithinSpan w span
       → Tries halt span w memory t memory' → WithinSpan (t .work) span
   try-within w memory t memory' room unchanged = room
-  try-within w memory t memory' room (whole (pushing worked inside e z q)) = record { gone = omega (arith, inside); leaps = omega (arith, room .leaps) }
+  try-within w memory t memory' room (whole (pushing worked inside e z q)) =
+      record { gone = omega (arith, inside); leaps = omega (arith, room .leaps) }
   try-within w memory t memory' room (whole (storing worked x fits long e z q)) =
       record { gone = omega (arith, fits, long); leaps = omega (arith, room .leaps, long) }
 

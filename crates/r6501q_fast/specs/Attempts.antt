@@ -35,7 +35,8 @@ use Rattle.cpu_operations.specs.declared.Worked.{Worked}
 use Rattle.cpu_operations.specs.declared.Written.{Written}
 use Rattle.cpu_operations.specs.declared.Written.the-variants.{Nothing, Pushed, Stored}
 use Rattle.cpu_operations.specs.Effects.{pushesOf, waitingOf}
-use Rattle.cpu_operations.specs.Kinds.{withRead, changedBy, byteToStore, bitBranchTaken, withPulled, withRegister, withFlag}
+use Rattle.cpu_operations.specs.Kinds.{withRead, changedBy, byteToStore, bitBranchTaken, withPulled, withRegister}
+use Rattle.cpu_operations.specs.Kinds.{withFlag}
 use Rattle.cpu_operations.specs.Updates.{withPc, withSp, withStatus, intoA}
 use Rattle.cpu.specs.declared.Outcome.the-variants.{Done}
 use Rattle.cpu.specs.declared.quiet.Work.{Work}
@@ -60,7 +61,8 @@ pub data Instructed (halt : Halt) (span : ℕ) (w : Work) (memory : List ℕ) : 
       → waitingOf (worked .written) ≡ waiting.Nothing → endsSpan halt (pushesOf (worked .written)) ≡ false
       → Instructed halt span w memory (nextWork w worked) (committed memory (pushesOf (worked .written)))
   storing : (worked : Worked) (x : Write) → w .gone .0 + w .wait + worked .length ≤ span → 1 < worked .length
-      → instructionOf (w .registers) [] memory ≡ Done worked → worked .written ≡ Stored x → endsSpan halt (oneWrite x) ≡ false
+      → instructionOf (w .registers) [] memory ≡ Done worked → worked .written ≡ Stored x
+      → endsSpan halt (oneWrite x) ≡ false
       → Instructed halt span w memory (putWork (nextWork w worked) .work) (committed memory (oneWrite x))
 
 -- what is tried leaves all as it was, or is one instruction whole
@@ -115,7 +117,8 @@ storeLeft halt span w x n = endsSpan halt (oneWrite x) || ltb (span - w .gone .0
 unfoldable pub readTried : ReadOperation → Work → List ℕ → Place → ℕ → Attempt
 readTried o w memory p n =
     cond (asksFor p) (leftAsItWas w)
-    (startedNext w (withRead o (withPc (p .pc) (w .registers)) (memoryByte memory (p .address))) (n + digit (p .crossed)))
+    (startedNext w (withRead o (withPc (p .pc) (w .registers)) (memoryByte memory (p .address)))
+    (n + digit (p .crossed)))
 
 -- a byte is stored by an instruction that leaves the registers r
 unfoldable pub storeTried : Halt → ℕ → Work → CpuRegisters → Write → ℕ → Attempt

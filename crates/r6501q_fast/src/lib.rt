@@ -4,7 +4,8 @@ ghost use mathlib.Core.Path.{_≡_};
 ghost use Prim.Native.Nat.{_+_, _≤_, _<_};
 ghost use Rattle.page_sums.specs.PageSums.{sumsAfter};
 ghost use Rattle.cpu.specs.Quiet.{WithinSpan};
-ghost use Rattle.r6501q_fast.specs.Attempts.{InTurn, RunsOn, sharedBy, leftAsItWas, startedNext, storedWhole, asksFor};
+ghost use Rattle.r6501q_fast.specs.Attempts.{InTurn, RunsOn, sharedBy, leftAsItWas, startedNext, storedWhole};
+ghost use Rattle.r6501q_fast.specs.Attempts.{asksFor};
 use bits::digit8;
 use counters::time::Clocks;
 use cpu::quiet::Work;
@@ -218,7 +219,8 @@ pub fn run_working(
 ) -> RanOn
     requires { ⌜ WithinSpan (v .work) (span .0) ⌝ }
     requires { ⌜ (span .0 ≤ 2147483647) × (0 < ticking .period) ⌝ }
-    ensures { λ r. ⌜ RunsOn halt (span .0) ticking (v .work) (v .waiting) (now (memory .entry)) r (now (memory .exit)) ⌝ }
+    ensures { λ r. ⌜ RunsOn halt (span .0) ticking (v .work) (v .waiting) (now (memory .entry)) r
+        (now (memory .exit)) ⌝ }
     ensures { λ r. ⌜ WithinSpan (r .working .work) (span .0) × (r .shared ≤ r .working .work .gone .0) ⌝ }
     ensures { λ _. ⌜ now (sums .exit) ≡ sumsAfter (now (sums .entry)) (now (memory .entry)) (now (memory .exit)) ⌝ }
 {

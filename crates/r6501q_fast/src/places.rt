@@ -2,7 +2,8 @@
 ghost use mathlib.Core.Path.{_≡_};
 ghost use mathlib.Core.List.{[]};
 ghost use Rattle.cpu_access.specs.Bus.{nextAddress, idle, fetchOf, fetchWord};
-ghost use Rattle.cpu_access.specs.Modes.{placeAt, atZeroPage, atZeroPageIndexed, atAbsolute, atIndexed, atIndexedIndirect, atIndirectIndexed, atIndirect, relativeTo};
+ghost use Rattle.cpu_access.specs.Modes.{placeAt, atZeroPage, atZeroPageIndexed, atAbsolute, atIndexed};
+ghost use Rattle.cpu_access.specs.Modes.{atIndexedIndirect, atIndirectIndexed, atIndirect, relativeTo};
 use cpu_access::Bus;
 use cpu_access::modes;
 use cpu_access::modes::Place;

@@ -1,7 +1,8 @@
 // Operations that read a byte, each tried at its place.
 ghost use mathlib.Core.Path.{_≡_};
 ghost use Prim.Native.Nat.{_+_, _≤_};
-ghost use Rattle.cpu_opcodes.specs.declared.operation.ReadOperation.the-variants.{Adc, And, Bit, Cmp, Cpx, Cpy, Eor, Lda, Ldx, Ldy, Ora, Sbc};
+ghost use Rattle.cpu_opcodes.specs.declared.operation.ReadOperation.the-variants.{Adc, And, Bit, Cmp, Cpx, Cpy, Eor};
+ghost use Rattle.cpu_opcodes.specs.declared.operation.ReadOperation.the-variants.{Lda, Ldx, Ldy, Ora, Sbc};
 ghost use Rattle.r6501q_fast.specs.Attempts.{readTried};
 use crate::Attempt;
 use crate::asks_for;

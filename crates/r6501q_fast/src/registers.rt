@@ -2,7 +2,8 @@
 ghost use mathlib.Core.Path.{_≡_};
 ghost use Prim.Native.Nat.{_+_, _≤_};
 ghost use Rattle.cpu_opcodes.specs.declared.operation.FlagOperation.the-variants.{Clc, Cld, Cli, Clv, Sec, Sed, Sei};
-ghost use Rattle.cpu_opcodes.specs.declared.operation.RegisterOperation.the-variants.{Dex, Dey, Inx, Iny, Tax, Tay, Tsx, Txa, Txs, Tya};
+ghost use Rattle.cpu_opcodes.specs.declared.operation.RegisterOperation.the-variants.{Dex, Dey, Inx, Iny, Tax, Tay};
+ghost use Rattle.cpu_opcodes.specs.declared.operation.RegisterOperation.the-variants.{Tsx, Txa, Txs, Tya};
 ghost use Rattle.cpu_operations.specs.Updates.{withPc};
 ghost use Rattle.r6501q_fast.specs.Attempts.{startedNext, registerTried, flagTried};
 use crate::Attempt;

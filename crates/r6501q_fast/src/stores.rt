@@ -2,10 +2,12 @@
 ghost use mathlib.Core.Path.{_≡_};
 ghost use Prim.Native.Nat.{_+_, _≤_, _<_};
 ghost use Rattle.page_sums.specs.PageSums.{sumsAfter};
-ghost use Rattle.cpu_opcodes.specs.declared.operation.ModifyOperation.the-variants.{Asl, Dec, Inc, Lsr, Rmb, Rol, Ror, Smb};
+ghost use Rattle.cpu_opcodes.specs.declared.operation.ModifyOperation.the-variants.{Asl, Dec, Inc, Lsr, Rmb, Rol, Ror};
+ghost use Rattle.cpu_opcodes.specs.declared.operation.ModifyOperation.the-variants.{Smb};
 ghost use Rattle.cpu_opcodes.specs.declared.operation.StoreOperation.the-variants.{Sta, Stx, Sty};
 ghost use Rattle.cpu_access.specs.Stack.{writeAt};
-ghost use Rattle.r6501q_fast.specs.Attempts.{storeTried, storeMemory, changeTried, changeMemory, saveTried, saveMemory, accumulatorTried};
+ghost use Rattle.r6501q_fast.specs.Attempts.{storeTried, storeMemory, changeTried, changeMemory, saveTried};
+ghost use Rattle.r6501q_fast.specs.Attempts.{saveMemory, accumulatorTried};
 use crate::Attempt;
 use crate::asks_for;
 use crate::left_as_it_was;

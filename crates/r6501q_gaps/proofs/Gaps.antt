@@ -21,7 +21,8 @@ use Rattle.r6501q_state.specs.Inputs.{lastPin}
 use Rattle.pin_lists.specs.PinLists.{pinsRight, dueCount}
 use Rattle.pin_lists.proofs.PinLists.{right-above}
 use Rattle.r6501q_gaps.specs.Events.{hasInput, sameLevels, levelsChange, isReset, resetChanges, eventOf}
-use Rattle.r6501q_gaps.specs.Gaps.{clocksOf, runningA, runningB, toInput, toChange, toUnderflowA, toUnderflowB, toReset, untilCpu, toCpu, gapOf, waitAfter, passOf}
+use Rattle.r6501q_gaps.specs.Gaps.{clocksOf, runningA, runningB, toInput, toChange, toUnderflowA, toUnderflowB}
+use Rattle.r6501q_gaps.specs.Gaps.{toReset, untilCpu, toCpu, gapOf, waitAfter, passOf}
 use Rattle.r6501q_gaps.proofs.Same.{same-levels, levels-same}
 use Rattle.r6501q_gaps.proofs.Quiet.{Quiet, no-both, both-no, clock-quiet, quiet-event, event-quiet}
 use Rattle.r6501q_gaps.proofs.Passing.{pass-change, pass-reset}
@@ -32,7 +33,8 @@ unfolding gapOf
 gap-le n s clocks = omega arith
 
 -- the lesser of two distances that are known
-pub nearer-of : {a b r : Clocks} {x y : ℕ} → a ≡ clocksOf x → b ≡ clocksOf y → r ≡ clocksOf (min (a .0) (b .0)) → r ≡ clocksOf (min x y)
+pub nearer-of : {a b r : Clocks} {x y : ℕ} → a ≡ clocksOf x → b ≡ clocksOf y → r ≡ clocksOf (min (a .0) (b .0))
+    → r ≡ clocksOf (min x y)
 nearer-of p q e = e ∙ rw (p, q)
 
 -- 02, U3, "a gap of 0 is then shown to be the least": where no clock comes before the CPU acts, whatever the other
@@ -43,15 +45,18 @@ none-before-cpu n s clocks e = ap clocksOf (omega arith)
 
 -- so where the next clock is the CPU's start, or its byte is put: RES was high and no wait is left, or 1 and a byte
 -- waits
-pub cpu-next : (n : ℕ) (s : State) (clocks : List ℕ) → s .last .res ≡ true → untilCpu (s .cpu) ≡ 0 → gapOf n s clocks ≡ clocksOf 0
+pub cpu-next : (n : ℕ) (s : State) (clocks : List ℕ) → s .last .res ≡ true → untilCpu (s .cpu) ≡ 0
+    → gapOf n s clocks ≡ clocksOf 0
 unfolding toCpu
 cpu-next n s clocks high over = none-before-cpu n s clocks (rw (high, over))
 
-pub start-next : (n : ℕ) (s : State) (clocks : List ℕ) → s .last .res ≡ true → s .cpu .wait ≡ 0 → gapOf n s clocks ≡ clocksOf 0
+pub start-next : (n : ℕ) (s : State) (clocks : List ℕ) → s .last .res ≡ true → s .cpu .wait ≡ 0
+    → gapOf n s clocks ≡ clocksOf 0
 unfolding untilCpu
 start-next n s clocks high over = cpu-next n s clocks high (omega arith)
 
-pub put-next : (n : ℕ) (s : State) (clocks : List ℕ) → s .last .res ≡ true → s .cpu .wait ≡ 1 → byteWaits (s .cpu .waiting) ≡ true
+pub put-next : (n : ℕ) (s : State) (clocks : List ℕ) → s .last .res ≡ true → s .cpu .wait ≡ 1
+    → byteWaits (s .cpu .waiting) ≡ true
     → gapOf n s clocks ≡ clocksOf 0
 unfolding untilCpu
 put-next n s clocks high last waits = cpu-next n s clocks high (rw (last, waits))
@@ -73,7 +78,9 @@ unfolding gapOf toChange toUnderflowA toUnderflowB toReset toCpu levelsChange re
 gap-quiet n s clocks h = record {
   still = record {
     levels = same-levels (levelsOf s) (s .last) (not-false _ (no-event (levelsChange s) n (omega arith)));
-    above-a = count-above (runningA (s .peripherals .control) (s .last .ports)) (s .peripherals .countera .count) n (omega arith);
+    above-a =
+        count-above (runningA (s .peripherals .control) (s .last .ports)) (s .peripherals .countera .count) n
+        (omega arith);
     above-b = count-above (runningB (s .peripherals .control)) (s .peripherals .counterb .count) n (omega arith);
     reset = both-no (s .last .res) (isReset s) (no-event (resetChanges s) n (omega arith));
   };
@@ -107,13 +114,18 @@ above-event t n e h = rw e h
 above-count : (t : Bool) (k n : ℕ) → (t ≡ true → 0 < k) → 0 < n → 0 < cond t k n
 above-count t k n a h = cond-both (λ (d : ℕ). 0 < d) t k n a (λ _. h)
 
-quiet-gap : (n : ℕ) (s : State) (clocks : List ℕ) → 0 < n → Quiet s → 0 < toInput n (s .clock) clocks → 0 < gapOf n s clocks .0
+quiet-gap : (n : ℕ) (s : State) (clocks : List ℕ) → 0 < n → Quiet s → 0 < toInput n (s .clock) clocks
+    → 0 < gapOf n s clocks .0
 unfolding gapOf toChange toUnderflowA toUnderflowB toReset toCpu levelsChange resetChanges
 quiet-gap n s clocks h q i =
-    let change = above-event (not (sameLevels (levelsOf s) (s .last))) n (ap not (levels-same (levelsOf s) (s .last) (q .still .levels))) h in
-    let a = above-count (runningA (s .peripherals .control) (s .last .ports)) (s .peripherals .countera .count) n (q .still .above-a) h in
-    let b = above-count (runningB (s .peripherals .control)) (s .peripherals .counterb .count) n (q .still .above-b) h in
-    let reset = above-event (not (s .last .res) && not (isReset s)) n (no-both (s .last .res) (isReset s) (q .still .reset)) h in
+    let change = above-event (not (sameLevels (levelsOf s) (s .last))) n
+    (ap not (levels-same (levelsOf s) (s .last) (q .still .levels))) h in
+    let a = above-count (runningA (s .peripherals .control) (s .last .ports)) (s .peripherals .countera .count) n
+    (q .still .above-a) h in
+    let b =
+    above-count (runningB (s .peripherals .control)) (s .peripherals .counterb .count) n (q .still .above-b) h in
+    let reset =
+    above-event (not (s .last .res) && not (isReset s)) n (no-both (s .last .res) (isReset s) (q .still .reset)) h in
     let cpu = above-count (s .last .res) (untilCpu (s .cpu)) n (q .waits) h in
     omega arith
 
@@ -125,7 +137,8 @@ input-later n clock [] codes right none h = h
 input-later n clock (t ∷ ts) [] right none h = absurd (false≢true right)
 input-later n clock (t ∷ ts) (code ∷ codes) right none h = by-clock (eqb t (clock + 1)) refl none
   where
-    by-clock : (b : Bool) → eqb t (clock + 1) ≡ b → hasInput (take (cond b (suc (dueCount (clock + 1) ts)) 0) (code ∷ codes)) ≡ false
+    by-clock : (b : Bool) → eqb t (clock + 1) ≡ b
+        → hasInput (take (cond b (suc (dueCount (clock + 1) ts)) 0) (code ∷ codes)) ≡ false
         → 0 < t - clock - 1
     by-clock true e z = absurd (false≢true (sym z))
     by-clock false e z =
@@ -148,7 +161,8 @@ no-codes [] e = refl
 no-codes (code ∷ codes) e = absurd (false≢true (sym e))
 
 -- with a clock left and no gap, the next clock is an event clock: of inputs that are right for the state's clock
-pub gap-event : (n : ℕ) (s : State) (clocks codes : List ℕ) → pinsRight lastPin (s .clock) clocks codes ≡ true → 0 < n → gapOf n s clocks .0 ≡ 0
+pub gap-event : (n : ℕ) (s : State) (clocks codes : List ℕ) → pinsRight lastPin (s .clock) clocks codes ≡ true → 0 < n
+    → gapOf n s clocks .0 ≡ 0
     → eventOf s (take (dueCount (s .clock + 1) clocks) codes) ≡ true
 gap-event n s clocks codes right h none = by-event (eventOf s due) refl
   where
@@ -177,7 +191,8 @@ less-until : (t : Bool) (wait d n g : ℕ) → cond t (cond t (wait - g) wait - 
 less-until true wait d n g = omega arith
 less-until false wait d n g = refl
 
-less-input : (n : ℕ) (s : State) (g : ℕ) (clocks : List ℕ) → toInput (n - g) (passOf s (clocksOf g) .clock) clocks ≡ toInput n (s .clock) clocks - g
+less-input : (n : ℕ) (s : State) (g : ℕ) (clocks : List ℕ)
+    → toInput (n - g) (passOf s (clocksOf g) .clock) clocks ≡ toInput n (s .clock) clocks - g
 unfolding toInput passOf
 less-input n s g [] = refl
 less-input n s g (t ∷ ts) = omega arith
@@ -192,7 +207,8 @@ module _ (n : ℕ) (s : State) (g : ℕ) where
 
   less-underflow-a : toUnderflowA (n - g) (passOf s (clocksOf g)) ≡ toUnderflowA n s - g
   unfolding toUnderflowA passOf passA
-  less-underflow-a = less-count (runningA (s .peripherals .control) (s .last .ports)) (s .peripherals .countera .count) n g
+  less-underflow-a =
+      less-count (runningA (s .peripherals .control) (s .last .ports)) (s .peripherals .countera .count) n g
 
   less-underflow-b : toUnderflowB (n - g) (passOf s (clocksOf g)) ≡ toUnderflowB n s - g
   unfolding toUnderflowB passOf passB
@@ -210,4 +226,5 @@ module _ (n : ℕ) (s : State) (g : ℕ) where
   pub gap-passed : (clocks : List ℕ) → gapOf (n - g) (passOf s (clocksOf g)) clocks .0 ≡ gapOf n s clocks .0 - g
   unfolding gapOf
   gap-passed clocks =
-      rw (less-input n s g clocks, less-change, less-underflow-a, less-underflow-b, less-reset, less-cpu) (simp less-min)
+      rw (less-input n s g clocks, less-change, less-underflow-a, less-underflow-b, less-reset, less-cpu)
+      (simp less-min)

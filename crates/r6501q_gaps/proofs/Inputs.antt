@@ -13,11 +13,13 @@ no-input n clock [] e = refl
 no-input n clock (t ∷ ts) e = absurd (let z : _≡_ {A = ℕ} 0 1 = cc in omega arith)
 
 -- the first input
-pub first-input : (n clock : ℕ) (clocks : List ℕ) → (length clocks ≡ 0 → ⊥) → toInput n clock clocks ≡ getD clocks 0 0 - clock - 1
+pub first-input : (n clock : ℕ) (clocks : List ℕ) → (length clocks ≡ 0 → ⊥)
+    → toInput n clock clocks ≡ getD clocks 0 0 - clock - 1
 unfolding toInput
 first-input n clock [] h = absurd (h refl)
 first-input n clock (t ∷ ts) h = refl
 
 -- a first input that is not above the clock
-pub first-due : (n clock : ℕ) (clocks : List ℕ) → (length clocks ≡ 0 → ⊥) → getD clocks 0 0 ≤ clock → toInput n clock clocks ≡ 0
+pub first-due : (n clock : ℕ) (clocks : List ℕ) → (length clocks ≡ 0 → ⊥) → getD clocks 0 0 ≤ clock
+    → toInput n clock clocks ≡ 0
 first-due n clock clocks h l = first-input n clock clocks h ∙ omega arith

@@ -49,7 +49,8 @@ unfolding waitAfter
 wait-zero wait true = omega arith
 wait-zero wait false = refl
 
-wait-add : (wait : ℕ) (high : Bool) (g h : ℕ) → waitAfter (waitAfter wait high (clocksOf g)) high (clocksOf h) ≡ waitAfter wait high (clocksOf (g + h))
+wait-add : (wait : ℕ) (high : Bool) (g h : ℕ)
+    → waitAfter (waitAfter wait high (clocksOf g)) high (clocksOf h) ≡ waitAfter wait high (clocksOf (g + h))
 unfolding waitAfter
 wait-add wait true g h = omega arith
 wait-add wait false g h = refl
@@ -82,7 +83,8 @@ wait-fits wait false g e = e
 still-waits : (b high : Bool) (wait g : ℕ) → (high ≡ true → g ≤ wait - digit b) → (b && eqb wait 0) ≡ false
     → (b && eqb (waitAfter wait high (clocksOf g)) 0) ≡ false
 unfolding waitAfter
-still-waits true true wait g h e = let k = h refl in let some = eqb-false wait 0 e in ne-eqb (wait - g) 0 (λ z. omega arith)
+still-waits true true wait g h e =
+    let k = h refl in let some = eqb-false wait 0 e in ne-eqb (wait - g) 0 (λ z. omega arith)
 still-waits true false wait g h e = e
 still-waits false high wait g h e = refl
 

@@ -24,7 +24,8 @@ use Rattle.r6501q_state.specs.Control.{modeA, modeB}
 use Rattle.r6501q_clock.specs.Clock.{withInputs, inputsSet, countA, countB, sentBy, heardBy, worked, readyOf}
 use Rattle.r6501q_cpu.specs.Processor.{processorOf, withoutWrites}
 use Rattle.r6501q_cpu.proofs.Stores.{clock-waits, waited-less}
-use Rattle.r6501q_gaps.specs.Events.{hasInput, levelsChange, underflowsA, underflowsB, isReset, resetChanges, cpuStarts, putsByte, eventTests, eventOf}
+use Rattle.r6501q_gaps.specs.Events.{hasInput, levelsChange, underflowsA, underflowsB, isReset, resetChanges}
+use Rattle.r6501q_gaps.specs.Events.{cpuStarts, putsByte, eventTests, eventOf}
 use Rattle.r6501q_gaps.specs.Gaps.{clocksOf, runningA, runningB, untilCpu, waitAfter, passCounters, passOf}
 use Rattle.r6501q_gaps.proofs.Same.{same-levels, levels-same, reset-same}
 
@@ -58,7 +59,8 @@ no-nmi false false = refl
 -- ---- underflows without a rise
 
 -- counter A underflows where it runs and stands at 0000h
-underflow-a : (c : CounterA) (mode : ℕ) (low : Bool) → clockA c mode false low .underflow ≡ (runsA mode low && eqb (c .count) 0)
+underflow-a : (c : CounterA) (mode : ℕ) (low : Bool)
+    → clockA c mode false low .underflow ≡ (runsA mode low && eqb (c .count) 0)
 unfolding clockA runsA downA
 underflow-a c mode low = by-tests (countsA mode false low) (eqb (c .count) 0) refl refl
   where
@@ -86,7 +88,8 @@ underflow-b c mode = by-tests (ltb mode 2) (eqb mode 2) (eqb (c .count) 0) refl 
 
 -- the same of a state whose levels are the last ones
 still-a : (s : State)
-    → underflowsA (s .last .ports) s ≡ (runningA (s .peripherals .control) (s .last .ports) && eqb (s .peripherals .countera .count) 0)
+    → underflowsA (s .last .ports) s
+    ≡ (runningA (s .peripherals .control) (s .last .ports) && eqb (s .peripherals .countera .count) 0)
 unfolding underflowsA runningA
 still-a s =
     let c = s .peripherals .countera in
@@ -94,7 +97,8 @@ still-a s =
     let low = not (bit 4 (s .last .ports)) in
     ap (λ (r : Bool). clockA c mode r low .underflow) (no-rise 4 (s .last .ports)) ∙ underflow-a c mode low
 
-still-b : (s : State) → underflowsB (s .last .ports) s ≡ (runningB (s .peripherals .control) && eqb (s .peripherals .counterb .count) 0)
+still-b : (s : State)
+    → underflowsB (s .last .ports) s ≡ (runningB (s .peripherals .control) && eqb (s .peripherals .counterb .count) 0)
 unfolding underflowsB runningB
 still-b s =
     let c = s .peripherals .counterb in
@@ -137,7 +141,15 @@ pub record Quiet (s : State) : Type 0 where
 
 -- the state whose clock is counted and has no inputs
 abbrev pub ahead : State → State
-ahead s = record { cpu = s .cpu; due = s .due; peripherals = s .peripherals; external = s .external; last = s .last; clock = s .clock + 1 }
+ahead s =
+    record {
+      cpu = s .cpu;
+      due = s .due;
+      peripherals = s .peripherals;
+      external = s .external;
+      last = s .last;
+      clock = s .clock + 1;
+    }
 
 inputsSet-ahead : (s : State) → inputsSet s [] ≡ ahead s
 unfolding withInputs
@@ -169,7 +181,8 @@ sensedAt-same s h = rw (not-withEdges s) (by-res (s .last .res) h)
     by-res false k = reset-same s (k refl)
 
 -- step 1 counts the clock and changes nothing else
-sensed-ahead : (s : State) → levelsOf s ≡ s .last → (s .last .res ≡ false → isReset s ≡ true) → sensed (ahead s) ≡ ahead s
+sensed-ahead : (s : State) → levelsOf s ≡ s .last → (s .last .res ≡ false → isReset s ≡ true)
+    → sensed (ahead s) ≡ ahead s
 unfolding sensed
 sensed-ahead s e h = rw (levels-ahead, e) (sensedAt-same (ahead s) (λ k. reset-ahead s ∙ h k))
 
@@ -177,7 +190,8 @@ sensed-ahead s e h = rw (levels-ahead, e) (sensedAt-same (ahead s) (λ k. reset-
 
 counted-a-quiet : (p : Peripherals) (x : ℕ) → (runningA (p .control) x ≡ true → 0 < p .countera .count)
     → countA p x x
-    ≡ record { peripherals = withCounterA p (passA (p .countera) (runningA (p .control) x) (clocksOf 1)); ticks = ticksOf false }
+    ≡ record
+    { peripherals = withCounterA p (passA (p .countera) (runningA (p .control) x) (clocksOf 1)); ticks = ticksOf false }
 unfolding countA runningA setWhere flipWhere
 counted-a-quiet p x h =
     rw (no-rise 4 x, clock-passes-a (p .countera) (modeA (p .control .mcr) (p .control .sccr)) (not (bit 4 x)) h)
@@ -200,12 +214,18 @@ pub worked-quiet : (p : Peripherals) (x : ℕ) → (runningA (p .control) x ≡ 
     → (runningB (p .control) ≡ true → 0 < p .counterb .count) → worked p x x ≡ passCounters p x (clocksOf 1)
 unfolding worked
 worked-quiet p x a b =
-    rw (counted-a-quiet p x a, counted-b-quiet (withCounterA p (passA (p .countera) (runningA (p .control) x) (clocksOf 1))) x b, sent-none, heard-none)
+    rw (
+      counted-a-quiet p x a,
+      counted-b-quiet (withCounterA p (passA (p .countera) (runningA (p .control) x) (clocksOf 1))) x b,
+      sent-none,
+      heard-none,
+    )
 
 -- ---- the whole clock
 
 abbrev pub workedTo : State → Peripherals → State
-workedTo s p = record { cpu = s .cpu; due = s .due; peripherals = p; external = s .external; last = s .last; clock = s .clock }
+workedTo s p =
+    record { cpu = s .cpu; due = s .due; peripherals = p; external = s .external; last = s .last; clock = s .clock }
 
 -- steps 1 to 3, where the levels are the last ones
 pub ready-worked : (s : State) → levelsOf s ≡ s .last → (s .last .res ≡ false → isReset s ≡ true)
@@ -213,11 +233,14 @@ pub ready-worked : (s : State) → levelsOf s ≡ s .last → (s .last .res ≡ 
 unfolding readyOf
 ready-worked s levels reset = rw (inputsSet-ahead s, sensed-ahead s levels reset)
 
-pub ready-still : (s : State) → Still s → readyOf s [] ≡ workedTo (ahead s) (passCounters (s .peripherals) (s .last .ports) (clocksOf 1))
+pub ready-still : (s : State) → Still s
+    → readyOf s [] ≡ workedTo (ahead s) (passCounters (s .peripherals) (s .last .ports) (clocksOf 1))
 ready-still s q =
-    ready-worked s (q .levels) (q .reset) ∙ rw (worked-quiet (s .peripherals) (s .last .ports) (q .above-a) (q .above-b))
+    ready-worked s (q .levels) (q .reset)
+    ∙ rw (worked-quiet (s .peripherals) (s .last .ports) (q .above-a) (q .above-b))
 
-ready-quiet : (s : State) → Quiet s → readyOf s [] ≡ workedTo (ahead s) (passCounters (s .peripherals) (s .last .ports) (clocksOf 1))
+ready-quiet : (s : State) → Quiet s
+    → readyOf s [] ≡ workedTo (ahead s) (passCounters (s .peripherals) (s .last .ports) (clocksOf 1))
 ready-quiet s q = ready-still s (q .still)
 
 -- the CPU neither starts nor puts a byte: it waits, and where a byte waits for more than a clock
@@ -229,13 +252,15 @@ not-put false b wait h = refl
 pub not-over : (r : Bool) (d wait : ℕ) → (r ≡ true → 0 < wait - d) → r ≡ true → 0 < wait
 not-over r d wait h e = let k = h e in omega arith
 
-acts-later : (r b : Bool) (wait : ℕ) → (r && eqb wait 0) ≡ false → (r && b && eqb wait 1) ≡ false → r ≡ true → 0 < wait - digit b
+acts-later : (r b : Bool) (wait : ℕ) → (r && eqb wait 0) ≡ false → (r && b && eqb wait 1) ≡ false → r ≡ true
+    → 0 < wait - digit b
 acts-later true true wait e f z = let some = eqb-false wait 0 e in let more = eqb-false wait 1 f in omega arith
 acts-later true false wait e f z = let some = eqb-false wait 0 e in omega arith
 acts-later false b wait e f z = absurd (false≢true z)
 
 -- steps 1 to 4 of a clock without inputs
-pub clock-quiet : (s : State) (memory : List ℕ) → Quiet s → processorOf (readyOf s []) memory ≡ withoutWrites (passOf s (clocksOf 1))
+pub clock-quiet : (s : State) (memory : List ℕ) → Quiet s
+    → processorOf (readyOf s []) memory ≡ withoutWrites (passOf s (clocksOf 1))
 unfolding processorOf passOf waitAfter untilCpu
 clock-quiet s memory q = rw (ready-quiet s q) (by-res (s .last .res) refl)
   where
@@ -243,7 +268,8 @@ clock-quiet s memory q = rw (ready-quiet s q) (by-res (s .last .res) refl)
     ready = workedTo (ahead s) (passCounters (s .peripherals) (s .last .ports) (clocksOf 1))
 
     by-res : (r : Bool) → s .last .res ≡ r
-        → processorOf (workedTo (ahead s) (passCounters (s .peripherals) (s .last .ports) (clocksOf 1))) memory ≡ withoutWrites (passOf s (clocksOf 1))
+        → processorOf (workedTo (ahead s) (passCounters (s .peripherals) (s .last .ports) (clocksOf 1))) memory
+        ≡ withoutWrites (passOf s (clocksOf 1))
     by-res true e =
         let some = not-over true _ (s .cpu .wait) (λ _. q .waits e) refl in
         let none = not-put true (byteWaits (s .cpu .waiting)) (s .cpu .wait) (λ _. q .waits e) in
@@ -302,17 +328,25 @@ none-of (false ∷ tests) e (suc k) = none-of tests e k
 pub event-quiet : (s : State) → eventOf s [] ≡ false → Quiet s
 unfolding eventOf hasInput levelsChange resetChanges cpuStarts putsByte untilCpu
 event-quiet s e =
-    let none : (k : ℕ) → getD (false ∷ eventTests (ahead s)) k false ≡ false = none-of (false ∷ eventTests (ahead s)) (rw (inputsSet-ahead s) at e) in
-    let levels : levelsOf s ≡ s .last = sym (levels-ahead s) ∙ same-levels (levelsOf (ahead s)) (s .last) (not-false _ (none 1)) in
+    let none : (k : ℕ) → getD (false ∷ eventTests (ahead s)) k false ≡ false =
+    none-of (false ∷ eventTests (ahead s)) (rw (inputsSet-ahead s) at e) in
+    let levels : levelsOf s ≡ s .last =
+    sym (levels-ahead s) ∙ same-levels (levelsOf (ahead s)) (s .last) (not-false _ (none 1)) in
     let reset : s .last .res ≡ false → isReset s ≡ true =
     λ z. sym (reset-ahead s) ∙ both-no (s .last .res) _ (ap resetChanges (sym (withEdges-ahead s levels)) ∙ none 4) z in
     let same : sensed (ahead s) ≡ ahead s = sensed-ahead s levels reset in
     record {
       still = record {
         levels = levels;
-        above-a = above-zero _ (s .peripherals .countera .count) (sym (still-a (ahead s)) ∙ ap (underflowsA (s .last .ports)) (sym same) ∙ none 2);
-        above-b = above-zero _ (s .peripherals .counterb .count) (sym (still-b (ahead s)) ∙ ap (underflowsB (s .last .ports)) (sym same) ∙ none 3);
+        above-a =
+            above-zero _ (s .peripherals .countera .count)
+            (sym (still-a (ahead s)) ∙ ap (underflowsA (s .last .ports)) (sym same) ∙ none 2);
+        above-b =
+            above-zero _ (s .peripherals .counterb .count)
+            (sym (still-b (ahead s)) ∙ ap (underflowsB (s .last .ports)) (sym same) ∙ none 3);
         reset = reset;
       };
-      waits = acts-later (s .last .res) (byteWaits (s .cpu .waiting)) (s .cpu .wait) (ap cpuStarts (sym same) ∙ none 5) (ap putsByte (sym same) ∙ none 6);
+      waits =
+          acts-later (s .last .res) (byteWaits (s .cpu .waiting)) (s .cpu .wait) (ap cpuStarts (sym same) ∙ none 5)
+          (ap putsByte (sym same) ∙ none 6);
     }

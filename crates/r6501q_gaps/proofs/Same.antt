@@ -146,14 +146,20 @@ reset-same s e =
         wait = eqb-true (s .cpu .wait) 0 (and-left over none (and-left wait reset two)) i;
         waiting = none-waits (s .cpu .waiting) (not-true _ (and-right over none (and-left wait reset two))) i;
       };
-      due = record { reset = and-right wait reset two i; nmi = not-true (s .due .nmi) (and-right (wait && reset) nmi three) i };
+      due =
+          record {
+            reset = and-right wait reset two i;
+            nmi = not-true (s .due .nmi) (and-right (wait && reset) nmi three) i;
+          };
       peripherals = record {
         ports = ports-fresh (s .peripherals .ports) (and-right (wait && reset && nmi) ports four) i;
         countera = s .peripherals .countera;
         counterb = s .peripherals .counterb;
         control = control-fresh (s .peripherals .control) (and-right (wait && reset && nmi && ports) control five) i;
         serial = s .peripherals .serial;
-        transmitter = transmitter-idle (s .peripherals .transmitter) (and-right (wait && reset && nmi && ports && control) transmitter six) i;
+        transmitter =
+            transmitter-idle (s .peripherals .transmitter)
+            (and-right (wait && reset && nmi && ports && control) transmitter six) i;
         receiver =
             receiver-idle (s .peripherals .receiver)
             (and-right (wait && reset && nmi && ports && control && transmitter) receiver e) i;

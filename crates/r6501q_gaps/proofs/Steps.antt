@@ -1,5 +1,5 @@
--- The tests of an event clock say what the clock does: the underflows are those of step 2, and in step 4 the CPU starts,
--- or puts a byte, just where it is said to.
+-- The tests of an event clock say what the clock does: the underflows are those of step 2, and in step 4 the CPU
+-- starts, or puts a byte, just where it is said to.
 use mathlib.Core.Path.{_≡_, refl, _∙_}
 use mathlib.Core.Bool.{Bool, true, false, _&&_}
 use mathlib.Core.List.{List}
@@ -35,13 +35,15 @@ module _ (before : ℕ) (s : State) where
   flag-a = refl
 
   -- IFR5, once A's part of step 2 is done
-  pub flag-b : countB (countA (s .peripherals) before (s .last .ports) .peripherals) before (s .last .ports) .control .ifr
+  pub flag-b : countB (countA (s .peripherals) before (s .last .ports) .peripherals) before
+      (s .last .ports) .control .ifr
       ≡ setWhere 5 (underflowsB before s) (countA (s .peripherals) before (s .last .ports) .peripherals .control .ifr)
   unfolding countA countB underflowsB
   flag-b = refl
 
   -- the CPU starts, or it puts a byte, or it only waits
-  pub step-start : (memory : List ℕ) → cpuStarts s ≡ true → processorOf (workedState before s) memory ≡ startOf (workedState before s) memory
+  pub step-start : (memory : List ℕ) → cpuStarts s ≡ true
+      → processorOf (workedState before s) memory ≡ startOf (workedState before s) memory
   unfolding processorOf cpuStarts
   step-start memory e =
       let res = and-left (s .last .res) _ e in
@@ -57,7 +59,8 @@ module _ (before : ℕ) (s : State) where
       let one = eqb-true (s .cpu .wait) 1 last in
       rw (res, lt-ltb 0 (s .cpu .wait) (omega arith), waits, last)
 
-  pub step-waits : (memory : List ℕ) → cpuStarts s ≡ false → putsByte s ≡ false → processorOf (workedState before s) memory
+  pub step-waits : (memory : List ℕ) → cpuStarts s ≡ false → putsByte s ≡ false
+      → processorOf (workedState before s) memory
       ≡ withoutWrites (withWait (workedState before s) (waitAfter (s .cpu .wait) (s .last .res) (clocksOf 1)))
   unfolding processorOf cpuStarts putsByte waitAfter
   step-waits memory = by-res (s .last .res) refl

@@ -1,6 +1,7 @@
 // Events that the next clock brings: pin levels unlike the last ones, and RES low where it changes a field.
 ghost use mathlib.Core.Path.{_≡_};
-ghost use Rattle.r6501q_gaps.specs.Events.{sameLevels, levelsChange, portsFresh, controlFresh, transmitterIdle, receiverIdle, isReset, resetChanges};
+ghost use Rattle.r6501q_gaps.specs.Events.{sameLevels, levelsChange, portsFresh, controlFresh, transmitterIdle};
+ghost use Rattle.r6501q_gaps.specs.Events.{receiverIdle, isReset, resetChanges};
 use cpu_access::waiting::byte_waits;
 use r6501q_state::state::Control;
 use r6501q_state::state::Levels;

@@ -13,7 +13,8 @@ use Rattle.r6501q_state.specs.Copies.{withCounterA, withCounterB, withControl, 
 use Rattle.r6501q_state.specs.Control.{modeB}
 use Rattle.r6501q_registers.specs.Copies.{latchedB, latchedC, latchedD, withIer}
 use Rattle.r6501q_registers.specs.Read.{receivedRead, afterRead}
-use Rattle.r6501q_registers.specs.Write.{loadedB, startB, startA, writeData, writeScsr, entering, writeSccr, writeMcr, keptFlag, keptFlags, writeOf}
+use Rattle.r6501q_registers.specs.Write.{loadedB, startB, startA, writeData, writeScsr, entering, writeSccr}
+use Rattle.r6501q_registers.specs.Write.{writeMcr, keptFlag, keptFlags, writeOf}
 
 -- a function of what stands behind the registers, and the writes of each address: what f makes of p written is q
 -- written
@@ -36,7 +37,8 @@ record Rows (f : Peripherals → Peripherals) (p q : Peripherals) (v : ℕ) : Ty
   at-00 : f (latchedA p v) ≡ latchedA q v
   other : f p ≡ q
 
-along : (f : Peripherals → Peripherals) (p q : Peripherals) (at v : ℕ) → Rows f p q v → f (writeOf p at v) ≡ writeOf q at v
+along : (f : Peripherals → Peripherals) (p q : Peripherals) (at v : ℕ) → Rows f p q v
+    → f (writeOf p at v) ≡ writeOf q at v
 unfolding writeOf
 along f p q at v r =
     cond-along f (eqb at 0x1E) (startB p v) _ (r .at-1E)
@@ -66,7 +68,9 @@ record Commuting (flags status : ℕ → ℕ) : Type 0 where
   flag-a : (x : ℕ) → flags (withBit 4 false x) ≡ withBit 4 false (flags x)
   flag-b : (x : ℕ) → flags (withBit 5 false x) ≡ withBit 5 false (flags x)
   written : (x : ℕ) (on off : Bool) → status (withBit 5 on (withBit 4 off x)) ≡ withBit 5 on (withBit 4 off (status x))
-  sent : (x : ℕ) → status (withBit 7 false (withBit 6 false (withBit 5 false x))) ≡ withBit 7 false (withBit 6 false (withBit 5 false (status x)))
+  sent : (x : ℕ)
+      → status (withBit 7 false (withBit 6 false (withBit 5 false x)))
+      ≡ withBit 7 false (withBit 6 false (withBit 5 false (status x)))
 
 module _ (flags status : ℕ → ℕ) (k : Commuting flags status) where
   abbrev renew : Peripherals → Peripherals
@@ -106,7 +110,8 @@ module _ (flags status : ℕ → ℕ) (k : Commuting flags status) where
 
 -- two bits may be put in either order
 swap : (j k x : ℕ) (on off : Bool) → j < k → withBit k off (withBit j on x) ≡ withBit j on (withBit k off x)
-swap j k x on off h = let e : k - (1 + j) + (1 + j) ≡ k = omega arith in sym (rw e at (put-swap (k - (1 + j)) j x on off))
+swap j k x on off h =
+    let e : k - (1 + j) + (1 + j) ≡ k = omega arith in sym (rw e at (put-swap (k - (1 + j)) j x on off))
 
 -- a flag above those that a write of 10h clears may be cleared before it or after it
 flag-kept : (j k v x : ℕ) → j < k → withBit k false (keptFlag j v x) ≡ keptFlag j v (withBit k false x)
@@ -123,7 +128,8 @@ flags-kept k v x h =
 put-received : (k x : ℕ) (on : Bool) → 3 < k → withBit k on (receivedRead x) ≡ receivedRead (withBit k on x)
 put-received k x on h =
     swap 3 k _ false on h ∙ ap (withBit 3 false) (swap 2 k _ false on (omega arith)
-    ∙ ap (withBit 2 false) (swap 1 k _ false on (omega arith) ∙ ap (withBit 1 false) (swap 0 k x false on (omega arith))))
+    ∙ ap (withBit 2 false)
+    (swap 1 k _ false on (omega arith) ∙ ap (withBit 1 false) (swap 0 k x false on (omega arith))))
 
 -- a read of 1Ch: counter B's flag cleared
 clear-b : Commuting (withBit 5 false) (λ x. x)
@@ -151,7 +157,9 @@ clear-received = record {
   kept = λ v x. refl;
   flag-a = λ x. refl;
   flag-b = λ x. refl;
-  written = λ x on off. sym (ap (withBit 5 on) (put-received 4 x off (omega arith)) ∙ put-received 5 (withBit 4 off x) on (omega arith));
+  written =
+      λ x on off. sym
+      (ap (withBit 5 on) (put-received 4 x off (omega arith)) ∙ put-received 5 (withBit 4 off x) on (omega arith));
   sent = λ x. sym (ap (λ y. withBit 7 false (withBit 6 false y)) (put-received 5 x false (omega arith))
       ∙ ap (withBit 7 false) (put-received 6 (withBit 5 false x) false (omega arith))
       ∙ put-received 7 (withBit 6 false (withBit 5 false x)) false (omega arith));
@@ -162,6 +170,9 @@ pub read-write-commute : (p : Peripherals) (a v b : ℕ) → afterRead (writeOf 
 unfolding afterRead
 read-write-commute p a v b =
     let write : Peripherals → Peripherals = λ q. writeOf q a v in
-    sym (cond-along write (eqb b 0x1C) (flagged p (withBit 5 false (p .control .ifr))) _ (sym (write-order _ _ clear-b p a v))
-    (cond-along write (eqb b 0x18) (flagged p (withBit 4 false (p .control .ifr))) _ (sym (write-order _ _ clear-a p a v))
-    (cond-along write (eqb b 0x17) (statused p (receivedRead (p .control .scsr))) p (sym (write-order _ _ clear-received p a v)) refl)))
+    sym (cond-along write (eqb b 0x1C) (flagged p (withBit 5 false (p .control .ifr))) _
+    (sym (write-order _ _ clear-b p a v))
+    (cond-along write (eqb b 0x18) (flagged p (withBit 4 false (p .control .ifr))) _
+    (sym (write-order _ _ clear-a p a v))
+    (cond-along write (eqb b 0x17) (statused p (receivedRead (p .control .scsr))) p
+    (sym (write-order _ _ clear-received p a v)) refl)))

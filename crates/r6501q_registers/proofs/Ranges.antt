@@ -17,7 +17,8 @@ use Rattle.r6501q_state.specs.Control.{modeB}
 use Rattle.r6501q_state.proofs.Ranges.{InPeripherals, in-peripherals, fit-peripherals, flagged-in}
 use Rattle.r6501q_registers.specs.Copies.{latchedB, latchedC, latchedD, withIer}
 use Rattle.r6501q_registers.specs.Read.{receivedRead, afterRead}
-use Rattle.r6501q_registers.specs.Write.{loadedB, startB, startA, writeData, writeScsr, entering, writeSccr, writeMcr, keptFlag, keptFlags, writeOf}
+use Rattle.r6501q_registers.specs.Write.{loadedB, startB, startA, writeData, writeScsr, entering, writeSccr}
+use Rattle.r6501q_registers.specs.Write.{writeMcr, keptFlag, keptFlags, writeOf}
 
 -- a bit cleared makes no number larger
 cleared-le : (k x : ℕ) → withBit k false x ≤ x
@@ -36,7 +37,8 @@ unfolding keptFlags
 flags-lt v ifr h = kept-lt 3 v _ (kept-lt 2 v _ (kept-lt 1 v _ (kept-lt 0 v ifr h)))
 
 -- what keeps flags and progress keeps the ranges
-same-in : (p q : Peripherals) → q .control .ifr ≡ p .control .ifr → q .transmitter ≡ p .transmitter → q .receiver ≡ p .receiver → InPeripherals p → InPeripherals q
+same-in : (p q : Peripherals) → q .control .ifr ≡ p .control .ifr → q .transmitter ≡ p .transmitter
+    → q .receiver ≡ p .receiver → InPeripherals p → InPeripherals q
 same-in p q e f g i = record { ifr = rw e (i .ifr); transmitter = rw f (i .transmitter); receiver = rw g (i .receiver) }
 
 -- 01, Registers: reads
@@ -76,19 +78,25 @@ unfolding writeOf entering
 write-fits p at v e =
     let i = in-peripherals p e in
     fit-peripherals _ (cond-both InPeripherals (eqb at 0x1E) (startB p v) _ (λ _. start-b-in p v i)
-    (λ _. cond-both InPeripherals (eqb at 0x1D) (withCounterB p (copyB (upperB (p .counterb) v))) _ (λ _. same-in p _ refl refl refl i)
-    (λ _. cond-both InPeripherals (eqb at 0x1C) (withCounterB p (lowerB (p .counterb) v)) _ (λ _. same-in p _ refl refl refl i)
+    (λ _. cond-both InPeripherals (eqb at 0x1D) (withCounterB p (copyB (upperB (p .counterb) v))) _
+    (λ _. same-in p _ refl refl refl i)
+    (λ _. cond-both InPeripherals (eqb at 0x1C) (withCounterB p (lowerB (p .counterb) v)) _
+    (λ _. same-in p _ refl refl refl i)
     (λ _. cond-both InPeripherals (eqb at 0x1A) (startA p v) _ (λ _. start-a-in p v i)
-    (λ _. cond-both InPeripherals (eqb at 0x19) (withCounterA p (upperA (p .countera) v)) _ (λ _. same-in p _ refl refl refl i)
-    (λ _. cond-both InPeripherals (eqb at 0x18) (withCounterA p (lowerA (p .countera) v)) _ (λ _. same-in p _ refl refl refl i)
+    (λ _. cond-both InPeripherals (eqb at 0x19) (withCounterA p (upperA (p .countera) v)) _
+    (λ _. same-in p _ refl refl refl i)
+    (λ _. cond-both InPeripherals (eqb at 0x18) (withCounterA p (lowerA (p .countera) v)) _
+    (λ _. same-in p _ refl refl refl i)
     (λ _. cond-both InPeripherals (eqb at 0x17) (writeData p v) _ (λ _. same-in p _ refl refl refl i)
     (λ _. cond-both InPeripherals (eqb at 0x16) (writeScsr p v) _ (λ _. same-in p _ refl refl refl i)
     (λ _. cond-both InPeripherals (eqb at 0x15) (writeSccr p v) _ (λ _. sccr-in p v i)
     (λ _. cond-both InPeripherals (eqb at 0x14) (writeMcr p v) _ (λ _. same-in p _ refl refl refl i)
-    (λ _. cond-both InPeripherals (eqb at 0x12) (withControl p (withIer (p .control) v)) _ (λ _. same-in p _ refl refl refl i)
+    (λ _. cond-both InPeripherals (eqb at 0x12) (withControl p (withIer (p .control) v)) _
+    (λ _. same-in p _ refl refl refl i)
     (λ _. cond-both InPeripherals (eqb at 0x10) (flagged p (keptFlags v (p .control .ifr))) _
     (λ _. flagged-in p _ (flags-lt v _ (i .ifr)) i)
     (λ _. cond-both InPeripherals (eqb at 0x03) (latchedD p v) _ (λ _. same-in p _ refl refl refl i)
     (λ _. cond-both InPeripherals (eqb at 0x02) (latchedC p v) _ (λ _. same-in p _ refl refl refl i)
     (λ _. cond-both InPeripherals (eqb at 0x01) (latchedB p v) _ (λ _. same-in p _ refl refl refl i)
-    (λ _. cond-both InPeripherals (eqb at 0x00) (latchedA p v) p (λ _. same-in p _ refl refl refl i) (λ _. i)))))))))))))))))
+    (λ _. cond-both InPeripherals (eqb at 0x00) (latchedA p v) p (λ _. same-in p _ refl refl refl i)
+    (λ _. i)))))))))))))))))

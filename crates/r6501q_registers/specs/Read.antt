@@ -6,7 +6,11 @@ use Rattle.bits.specs.Bits.{low, high, withBit}
 use Rattle.r6501q_state.specs.declared.state.Peripherals.{Peripherals}
 use Rattle.r6501q_state.specs.Copies.{flagged, statused}
 use Rattle.r6501q_state.specs.Control.{flagsOf}
-use Rattle.r6501q_registers.specs.Addresses.{portAAddress, portBAddress, portCAddress, portDAddress, flagClearAddress, interruptFlagsAddress, interruptEnableAddress, modeControlAddress, serialControlAddress, serialStatusAddress, serialDataAddress, lowerAAddress, upperAAddress, startAAddress, lowerBAddress, upperBAddress, startBAddress}
+use Rattle.r6501q_registers.specs.Addresses.{portAAddress, portBAddress, portCAddress, portDAddress}
+use Rattle.r6501q_registers.specs.Addresses.{flagClearAddress, interruptFlagsAddress, interruptEnableAddress}
+use Rattle.r6501q_registers.specs.Addresses.{modeControlAddress, serialControlAddress, serialStatusAddress}
+use Rattle.r6501q_registers.specs.Addresses.{serialDataAddress, lowerAAddress, upperAAddress, startAAddress}
+use Rattle.r6501q_registers.specs.Addresses.{lowerBAddress, upperBAddress, startBAddress}
 
 -- "Ports 00h to 03h: read step 1's levels"; 001, 4.1: "During the Read cycle of a Read/Modify/Write instruction the
 -- Port I/O register is read. For all other read instructions the port input lines are read."

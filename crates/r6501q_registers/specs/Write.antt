@@ -8,9 +8,14 @@ use Rattle.serial.specs.Transmitter.{transmitterWithSccr}
 use Rattle.serial.specs.Receiver.{receiverWithSccr}
 use Rattle.r6501q_state.specs.declared.state.Control.{Control}
 use Rattle.r6501q_state.specs.declared.state.Peripherals.{Peripherals}
-use Rattle.r6501q_state.specs.Copies.{withCounterA, withCounterB, withControl, withSent, withProgress, flagged, statused, latchedA}
+use Rattle.r6501q_state.specs.Copies.{withCounterA, withCounterB, withControl, withSent, withProgress, flagged}
+use Rattle.r6501q_state.specs.Copies.{statused, latchedA}
 use Rattle.r6501q_state.specs.Control.{modeInForce, modeB}
-use Rattle.r6501q_registers.specs.Addresses.{portAAddress, portBAddress, portCAddress, portDAddress, flagClearAddress, interruptEnableAddress, modeControlAddress, serialControlAddress, serialStatusAddress, serialDataAddress, lowerAAddress, upperAAddress, startAAddress, lowerBAddress, upperBAddress, startBAddress}
+use Rattle.r6501q_registers.specs.Addresses.{portAAddress, portBAddress, portCAddress, portDAddress}
+use Rattle.r6501q_registers.specs.Addresses.{flagClearAddress, interruptEnableAddress, modeControlAddress}
+use Rattle.r6501q_registers.specs.Addresses.{serialControlAddress, serialStatusAddress, serialDataAddress}
+use Rattle.r6501q_registers.specs.Addresses.{lowerAAddress, upperAAddress, startAAddress, lowerBAddress}
+use Rattle.r6501q_registers.specs.Addresses.{upperBAddress, startBAddress}
 use Rattle.r6501q_registers.specs.Copies.{latchedB, latchedC, latchedD, withIer, withMcr, withSccr}
 
 -- 1Eh, "writing .. 1Eh sets the upper latch, loads the counter, clears the flag"

@@ -1,7 +1,8 @@
 // Writes of the registers at 00h to 3Fh.
 ghost use mathlib.Core.Path.{_≡_};
 ghost use Prim.Native.Nat.{_<_};
-ghost use Rattle.r6501q_registers.specs.Write.{startB, startA, writeData, writeScsr, entering, zeroed, writeSccr, writeMcr, keptFlag, keptFlags, writeOf};
+ghost use Rattle.r6501q_registers.specs.Write.{startB, startA, writeData, writeScsr, entering, zeroed, writeSccr};
+ghost use Rattle.r6501q_registers.specs.Write.{writeMcr, keptFlag, keptFlags, writeOf};
 use crate::addresses::FLAG_CLEAR;
 use crate::addresses::INTERRUPT_ENABLE;
 use crate::addresses::LOWER_A;

@@ -27,7 +27,8 @@ pub fair : (halt : Halt) (cs : List Call) (w : World) → Room w → Fair halt c
 fair halt cs w room = theory.fair (r6501q halt) (laws halt) cs w room
 
 -- the same from any state, memory and lists: a start has nothing written, so that it needs no premise
-pub fair-start : (halt : Halt) (cs : List Call) (s : State) (memory inputClocks inputCodes outputClocks outputWords : List ℕ)
+pub fair-start : (halt : Halt) (cs : List Call) (s : State)
+    (memory inputClocks inputCodes outputClocks outputWords : List ℕ)
     → Fair halt cs (callStart s memory inputClocks inputCodes outputClocks outputWords)
 fair-start halt cs s memory inputClocks inputCodes outputClocks outputWords =
     theory.fair-start (r6501q halt) (laws halt) cs s memory inputClocks inputCodes outputClocks outputWords
@@ -43,7 +44,8 @@ gap-leading halt n w f on = theory.gap-leading (r6501q halt) (laws halt) n w f o
 
 -- a run of a + b that fits the clock, cut into a and then b over the rest of the lists, ends the same in all but the
 -- leap count
-pub cut : (halt : Halt) (a b : ℕ) (w : World) → Fit (r6501q halt) w → w .stop ≡ 0 → w .state .clock + (a + b) ≤ lastClock
+pub cut : (halt : Halt) (a b : ℕ) (w : World) → Fit (r6501q halt) w → w .stop ≡ 0
+    → w .state .clock + (a + b) ≤ lastClock
     → calls (machine halt) (runFor a ∷ runFor b ∷ []) w .world ≡ calls (machine halt) (runFor (a + b) ∷ []) w .world
 cut halt a b w f on h = theory.cut (r6501q halt) (laws halt) a b w f on h
 

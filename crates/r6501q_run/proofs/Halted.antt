@@ -30,16 +30,19 @@ no-stop-twelve number none = by-test (eqb number 12) refl
 refusal-not-twelve : (halt : Halt) (n : ℕ) (w : World) → eqb (refusalIn (r6501q halt) n w) 12 ≡ false
 refusal-not-twelve halt n w =
     no-stop-twelve (refusalIn (r6501q halt) n w)
-    (refusal-no-stop r6501qLimits (wellFormed (w .state)) (w .state .clock) (length (w .memory)) (w .inputClocks) (w .inputCodes)
+    (refusal-no-stop r6501qLimits (wellFormed (w .state)) (w .state .clock) (length (w .memory)) (w .inputClocks)
+    (w .inputCodes)
     (length (w .outputClocks)) (length (w .outputWords)) n)
 
 plain-run-twelve : (halt : Halt) (n : ℕ) (w : World) → w .stop ≡ 0
-    → eqb (plainRunOf (machine halt) n w .result .number) 12 ≡ (eqb (refusalIn (r6501q halt) n w) 0 && ltb (clocksBefore halt n w) n)
+    → eqb (plainRunOf (machine halt) n w .result .number) 12
+    ≡ (eqb (refusalIn (r6501q halt) n w) 0 && ltb (clocksBefore halt n w) n)
 unfolding plainRunOf
 plain-run-twelve halt n w on = by-test (eqb (refusalIn (r6501q halt) n w) 0)
   where
     by-test : (t : Bool)
-        → eqb (cond t (handedBackOf (leapCount (chip halt) n w) (plains (chip halt) n w)) (refusedCall (r6501q halt) n w) .result .number) 12
+        → eqb (cond t (handedBackOf (leapCount (chip halt) n w) (plains (chip halt) n w))
+        (refusedCall (r6501q halt) n w) .result .number) 12
         ≡ (t && ltb (clocksBefore halt n w) n)
     by-test true = plains-twelve halt n w on
     by-test false = refusal-not-twelve halt n w
@@ -51,6 +54,8 @@ pub call-twelve : (halt : Halt) (c : Call) (w : World) → Room w → w .stop �
     → eqb (callOf (machine halt) c w .result .number) 12
     ≡ (eqb (refusalIn (r6501q halt) (countOf c) w) 0 && ltb (clocksBefore halt (countOf c) w) (countOf c))
 unfolding callOf countOf
-call-twelve halt singleClock w room on = ap (λ (h : Handed). eqb (h .result .number) 12) (single-run halt w) ∙ plain-run-twelve halt 1 w on
+call-twelve halt singleClock w room on =
+    ap (λ (h : Handed). eqb (h .result .number) 12) (single-run halt w) ∙ plain-run-twelve halt 1 w on
 call-twelve halt (runFor n) w room on =
-    ap (λ (h : Handed). eqb (h .result .number) 12) (theory.runs-plainly (r6501q halt) (laws halt) n w room) ∙ plain-run-twelve halt n w on
+    ap (λ (h : Handed). eqb (h .result .number) 12) (theory.runs-plainly (r6501q halt) (laws halt) n w room)
+    ∙ plain-run-twelve halt n w on

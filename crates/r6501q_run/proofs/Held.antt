@@ -29,7 +29,8 @@ use Rattle.cpu_access.specs.Waiting.{byteWaits}
 use Rattle.r6501q_step.specs.R6501q.{World, Handed, r6501qLimits, r6501q, plain, chip, machine}
 use Rattle.r6501q_step.proofs.Held.{heldState, heldLeaps, held-clocks, held-leaps}
 use Rattle.r6501q_step.proofs.ReleaseLists.{belowRes}
-use Rattle.r6501q_step.proofs.Released.{releasedStart, oldStart, oneMoreRead, first-plain, first-event, start-done, old-done, refusal-same, given-plain, given-event, given-done}
+use Rattle.r6501q_step.proofs.Released.{releasedStart, oldStart, oneMoreRead, first-plain, first-event, start-done}
+use Rattle.r6501q_step.proofs.Released.{old-done, refusal-same, given-plain, given-event, given-done}
 use Rattle.r6501q_run.proofs.Laws.{laws, lawful}
 
 -- a call's start has nothing written
@@ -47,7 +48,8 @@ accepted-run halt n w none e = theory.runs-plainly (r6501q halt) (laws halt) n w
 fresh-fits : (halt : Halt) (memory times words : List ℕ) → length memory ≡ memorySpan → length times ≡ length words
     → Fit (r6501q halt) (callStart fresh memory [] [] times words)
 unfolding fresh pinsRight
-fresh-fits halt memory times words whole equal = record { memory = whole; state = fresh-formed; pins = refl; outputs = equal; written = omega arith }
+fresh-fits halt memory times words whole equal =
+    record { memory = whole; state = fresh-formed; pins = refl; outputs = equal; written = omega arith }
 
 fresh-clock : fresh .clock ≡ 0
 unfolding fresh
@@ -55,7 +57,8 @@ fresh-clock = refl
 
 -- "stays without a CPU start for any n that fits the clock, its counters still counting, and leaping agrees there too":
 -- the run by leaps, for any memory, halt address and output space
-pub held-run : (halt : Halt) (n : ℕ) (memory times words : List ℕ) → n ≤ lastClock → length memory ≡ memorySpan → length times ≡ length words
+pub held-run : (halt : Halt) (n : ℕ) (memory times words : List ℕ) → n ≤ lastClock → length memory ≡ memorySpan
+    → length times ≡ length words
     → runOf (machine halt) n (callStart fresh memory [] [] times words)
     ≡ record {
       result = record { number = 0; state = heldState n; leaps = heldLeaps n; read = 0; written = 0 };
@@ -66,7 +69,8 @@ pub held-run : (halt : Halt) (n : ℕ) (memory times words : List ℕ) → n ≤
 held-run halt n memory times words h whole equal =
     let w = callStart fresh memory [] [] times words in
     accepted-run halt n w refl
-    (theory.accepted-call (r6501q halt) (laws halt) n w (fresh-fits halt memory times words whole equal) (omega (arith, h, fresh-clock)))
+    (theory.accepted-call (r6501q halt) (laws halt) n w (fresh-fits halt memory times words whole equal)
+    (omega (arith, h, fresh-clock)))
     ∙ rw (held-leaps halt memory times words n, held-clocks halt memory times words n)
 
 -- ---- with RES high on clock 1
@@ -111,11 +115,14 @@ module _ (halt : Halt) where
 
   trace-more : (n : ℕ) (v : World) → trace (chip halt) n (oneMoreRead v) ≡ trace (chip halt) n v
   trace-more n v =
-      ap (trace (chip halt) n) (sym (whole-one v)) ∙ trace-whole (r6501q halt) (laws halt) n oneRead v (start-room oneRead refl)
+      ap (trace (chip halt) n) (sym (whole-one v))
+      ∙ trace-whole (r6501q halt) (laws halt) n oneRead v (start-room oneRead refl)
 
   -- two starts whose first clocks are done and are both event clocks or neither
-  count-same : (n : ℕ) (w v : World) → chip halt .done w ≡ true → chip halt .done v ≡ true → chip halt .event w ≡ chip halt .event v
-      → trace (chip halt) n (plain halt w) ≡ trace (chip halt) n (plain halt v) → leapCount (chip halt) (suc n) w ≡ leapCount (chip halt) (suc n) v
+  count-same : (n : ℕ) (w v : World) → chip halt .done w ≡ true → chip halt .done v ≡ true
+      → chip halt .event w ≡ chip halt .event v
+      → trace (chip halt) n (plain halt w) ≡ trace (chip halt) n (plain halt v)
+      → leapCount (chip halt) (suc n) w ≡ leapCount (chip halt) (suc n) v
   unfolding leapCount
   count-same n w v done done' event later =
       rw (trace-done (chip halt) (lawful halt) n w done, trace-done (chip halt) (lawful halt) n v done', event, later)
@@ -128,16 +135,21 @@ module _ (halt : Halt) where
     old = oldStart memory clocks codes times words
 
     -- the clocks that are done
-    pub released-plains : (n : ℕ) → dueCount 1 clocks ≤ length codes → plains (chip halt) (suc n) start ≡ oneMoreRead (plains (chip halt) (suc n) old)
+    pub released-plains : (n : ℕ) → dueCount 1 clocks ≤ length codes
+        → plains (chip halt) (suc n) start ≡ oneMoreRead (plains (chip halt) (suc n) old)
     unfolding plains
     released-plains n within =
-        ap (plains (chip halt) n) (first-plain halt memory clocks codes times words below within) ∙ plains-more n (plain halt old)
+        ap (plains (chip halt) n) (first-plain halt memory clocks codes times words below within)
+        ∙ plains-more n (plain halt old)
 
-    released-count : (n : ℕ) → dueCount 1 clocks ≤ length codes → leapCount (chip halt) (suc n) start ≡ leapCount (chip halt) (suc n) old
+    released-count : (n : ℕ) → dueCount 1 clocks ≤ length codes
+        → leapCount (chip halt) (suc n) start ≡ leapCount (chip halt) (suc n) old
     released-count n within =
-        count-same n start old (start-done halt memory clocks codes times words below within) (old-done halt memory clocks codes times words)
+        count-same n start old (start-done halt memory clocks codes times words below within)
+        (old-done halt memory clocks codes times words)
         (first-event halt memory clocks codes times words below within)
-        (ap (trace (chip halt) n) (first-plain halt memory clocks codes times words below within) ∙ trace-more n (plain halt old))
+        (ap (trace (chip halt) n) (first-plain halt memory clocks codes times words below within)
+        ∙ trace-more n (plain halt old))
 
     -- "their output must be what it was, but for the one input more that is read": for every n above 0, memory, halt
     -- address, output space and further list, clock 1's other pins too
@@ -145,7 +157,8 @@ module _ (halt : Halt) where
         → runOf (machine halt) (suc n) start ≡ oneMoreBack (runOf (machine halt) (suc n) old)
     released-run n none =
         let same = refusal-same halt (suc n) memory clocks codes times words below in
-        let equal = accepted r6501qLimits _ _ (length memory) clocks codes (length times) (length words) (suc n) none .inputs in
+        let equal =
+        accepted r6501qLimits _ _ (length memory) clocks codes (length times) (length words) (suc n) none .inputs in
         let within : dueCount 1 clocks ≤ length codes = omega (arith, equal, due-within 1 clocks) in
         rw (
           accepted-run halt (suc n) start refl (eq-eqb (refusalIn (r6501q halt) (suc n) start) 0 (same ∙ none)),
@@ -158,10 +171,12 @@ module _ (halt : Halt) where
     pub released-none : refusalIn (r6501q halt) 0 old ≡ 0 → runOf (machine halt) 0 start ≡ handedBackOf 0 start
     unfolding leapCount trace plains eventsIn quietEnd
     released-none none =
-        accepted-run halt 0 start refl (eq-eqb (refusalIn (r6501q halt) 0 start) 0 (refusal-same halt 0 memory clocks codes times words below ∙ none))
+        accepted-run halt 0 start refl
+        (eq-eqb (refusalIn (r6501q halt) 0 start) 0 (refusal-same halt 0 memory clocks codes times words below ∙ none))
 
   -- a list that sets RES on clock 1 itself: in all what it was
-  module _ (memory clocks codes times words front : List ℕ) (code : ℕ) (given : take (dueCount 1 clocks) codes ≡ front ++ (code ∷ []))
+  module _ (memory clocks codes times words front : List ℕ) (code : ℕ)
+      (given : take (dueCount 1 clocks) codes ≡ front ++ (code ∷ []))
       (below : belowRes front ≡ true) (res : pinOf code ≡ lastPin) where
     abbrev givenStart : World
     givenStart = callStart fresh memory clocks codes times words
@@ -178,9 +193,12 @@ module _ (halt : Halt) where
     unfolding plains
     given-run n none =
         let first = given-plain halt memory clocks codes times words front code given below res in
-        let count = count-same n givenStart givenOld (given-done halt memory clocks codes times words front code given below res)
-        (old-done halt memory clocks codes times words) (given-event halt memory clocks codes times words front code given below res)
+        let count =
+        count-same n givenStart givenOld (given-done halt memory clocks codes times words front code given below res)
+        (old-done halt memory clocks codes times words)
+        (given-event halt memory clocks codes times words front code given below res)
         (ap (trace (chip halt) n) first) in
-        accepted-run halt (suc n) givenStart refl (eq-eqb (refusalIn (r6501q halt) (suc n) givenStart) 0 (refused-alike (suc n) ∙ none))
+        accepted-run halt (suc n) givenStart refl
+        (eq-eqb (refusalIn (r6501q halt) (suc n) givenStart) 0 (refused-alike (suc n) ∙ none))
         ∙ ap₂ (λ (leaps : ℕ) (w : World). handedBackOf leaps w) count (ap (plains (chip halt) n) first)
         ∙ sym (accepted-run halt (suc n) givenOld refl (eq-eqb (refusalIn (r6501q halt) (suc n) givenOld) 0 none))

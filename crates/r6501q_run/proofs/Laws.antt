@@ -31,7 +31,8 @@ use Rattle.r6501q_step.specs.R6501q.{endOf, clockOutcome, r6501q, chip}
 
 -- what holds of each end of a clock holds of the end that the theory sees, and of a stop likewise
 module _ (halt : Halt) (s : State) (codes memory : List ℕ) (free : Bool) where
-  along-done : (P : ClockEnd State → Type 0) → ((e : Ended) → clockOf s codes memory free ≡ Done e → P (endOf halt memory e))
+  along-done : (P : ClockEnd State → Type 0)
+      → ((e : Ended) → clockOf s codes memory free ≡ Done e → P (endOf halt memory e))
       → (d : ClockEnd State) → clockOutcome halt memory (clockOf s codes memory free) ≡ ended d → P d
   along-done P h d q = by-clocked (clockOf s codes memory free) refl q
     where
@@ -46,7 +47,8 @@ module _ (halt : Halt) (s : State) (codes memory : List ℕ) (free : Bool) where
       by-clocked (Stopped number) e z = held (stopped number) tt z
       by-clocked (Done end) e z = held (ended (endOf halt memory end)) (h end e) z
 
-  along-stopped : (number : ℕ) → clockOutcome halt memory (clockOf s codes memory free) ≡ stopped number → isStop number ≡ true
+  along-stopped : (number : ℕ) → clockOutcome halt memory (clockOf s codes memory free) ≡ stopped number
+      → isStop number ≡ true
   along-stopped number q = by-clocked (clockOf s codes memory free) refl q
     where
       Stops : ClockOutcome State → Type 0
@@ -56,8 +58,10 @@ module _ (halt : Halt) (s : State) (codes memory : List ℕ) (free : Bool) where
       held : (x : ClockOutcome State) → Stops x → x ≡ stopped number → isStop number ≡ true
       held x p e = rw e at p
 
-      by-clocked : (x : Clocked) → clockOf s codes memory free ≡ x → clockOutcome halt memory x ≡ stopped number → isStop number ≡ true
-      by-clocked (Stopped k) e z = held (stopped k) (stop-either (λ (m : ℕ). isStop m ≡ true) refl refl s codes memory free k e) z
+      by-clocked : (x : Clocked) → clockOf s codes memory free ≡ x → clockOutcome halt memory x ≡ stopped number
+          → isStop number ≡ true
+      by-clocked (Stopped k) e z =
+          held (stopped k) (stop-either (λ (m : ℕ). isStop m ≡ true) refl refl s codes memory free k e) z
       by-clocked (Done end) e z = held (ended (endOf halt memory end)) tt z
 
 -- the stop that a clock which is done ends in, 12 or none, is its own
@@ -69,29 +73,45 @@ halt-stop false = refl
 -- the first clock of a gap
 module _ (n : ℕ) (s : State) (clocks memory : List ℕ) (free : Bool) (inside : 0 < gapOf n s clocks .0) where
   gap-clocked : clockOf s [] memory free
-      ≡ Done (endedWith (record { state = passOf s (clocksOf 1); writes = noWrites }) (drivenWord (s .peripherals)) false)
+      ≡ Done
+      (endedWith (record { state = passOf s (clocksOf 1); writes = noWrites }) (drivenWord (s .peripherals)) false)
   unfolding clockOf finished
   gap-clocked =
-      rw (gap-clock n s clocks inside memory, pass-driven s 1, eq-eqb (drivenWord (s .peripherals)) (drivenWord (s .peripherals)) refl)
+      rw (
+        gap-clock n s clocks inside memory,
+        pass-driven s 1,
+        eq-eqb (drivenWord (s .peripherals)) (drivenWord (s .peripherals)) refl,
+      )
 
   -- and writes nothing, the halt address least of all
   gap-outcome : (halt : Halt) → clockOutcome halt memory (clockOf s [] memory free)
-      ≡ ended (record { state = passOf s (clocksOf 1); memory = memory; differs = false; word = drivenWord (s .peripherals); stop = 0 })
+      ≡ ended (record {
+        state = passOf s (clocksOf 1);
+        memory = memory;
+        differs = false;
+        word = drivenWord (s .peripherals);
+        stop = 0;
+      })
   unfolding committed putWrite
   gap-outcome halt = rw (gap-clocked, unwritten halt noWrites refl)
 
 pub laws : (halt : Halt) → ChipLaws (r6501q halt)
 laws halt = record {
   done-clock = λ s codes memory free d q.
-      along-done halt s codes memory free (λ (x : ClockEnd State). x .state .clock ≡ s .clock + 1) (λ e h. done-clock s codes memory free e h) d q;
+      along-done halt s codes memory free (λ (x : ClockEnd State). x .state .clock ≡ s .clock + 1)
+      (λ e h. done-clock s codes memory free e h) d q;
   done-formed = λ s codes memory free d f q.
-      along-done halt s codes memory free (λ (x : ClockEnd State). wellFormed (x .state) ≡ true) (λ e h. done-formed s codes memory free e f h) d q;
+      along-done halt s codes memory free (λ (x : ClockEnd State). wellFormed (x .state) ≡ true)
+      (λ e h. done-formed s codes memory free e f h) d q;
   done-memory = λ s codes memory free d q.
-      along-done halt s codes memory free (λ (x : ClockEnd State). length (x .memory) ≡ length memory) (λ e h. commit-length memory (e .writes)) d q;
+      along-done halt s codes memory free (λ (x : ClockEnd State). length (x .memory) ≡ length memory)
+      (λ e h. commit-length memory (e .writes)) d q;
   done-room = λ s codes memory free d q.
-      along-done halt s codes memory free (λ (x : ClockEnd State). x .differs ≡ true → free ≡ true) (λ e h. done-room s codes memory free e h) d q;
+      along-done halt s codes memory free (λ (x : ClockEnd State). x .differs ≡ true → free ≡ true)
+      (λ e h. done-room s codes memory free e h) d q;
   done-stop = λ s codes memory free d q.
-      along-done halt s codes memory free (λ (x : ClockEnd State). stopOf (x .stop) ≡ x .stop) (λ e h. halt-stop (halts halt (e .writes))) d q;
+      along-done halt s codes memory free (λ (x : ClockEnd State). stopOf (x .stop) ≡ x .stop)
+      (λ e h. halt-stop (halts halt (e .writes))) d q;
   stopped-stop = along-stopped halt;
   gap-input = gap-no-input;
   gap-quiet = gap-no-event;

@@ -31,14 +31,22 @@ module _ (halt : Halt) (low : List ℕ) (whole : length low ≡ registerEnd) whe
   pub plains-low : (n : ℕ) (w : World) → plains (chip halt) n (lowered low w) ≡ lowered low (plains (chip halt) n w)
   plains-low = plains-along (chip halt) (lowered low) (unseen low whole halt)
 
-  pub run-low : (n : ℕ) (w : World) → registerEnd ≤ length (w .memory) → runOf (machine halt) n (lowered low w) ≡ loweredHanded low (runOf (machine halt) n w)
+  pub run-low : (n : ℕ) (w : World) → registerEnd ≤ length (w .memory)
+      → runOf (machine halt) n (lowered low w) ≡ loweredHanded low (runOf (machine halt) n w)
   unfolding runOf
   run-low n w h =
       rw (low-length low (w .memory) whole h, run-along (chip halt) (lowered low) (unseen low whole halt) n w)
-      (sym (cond-along (loweredHanded low) (eqb (refusalIn (r6501q halt) n w) 0) (handedRun (machine halt) (run (chip halt) n w)) (refusedCall (r6501q halt) n w) refl refl))
+      (sym (cond-along (loweredHanded low) (eqb (refusalIn (r6501q halt) n w) 0)
+      (handedRun (machine halt) (run (chip halt) n w)) (refusedCall (r6501q halt) n w) refl refl))
 
-  pub step-low : (w : World) → registerEnd ≤ length (w .memory) → stepOf (machine halt) (lowered low w) ≡ loweredHanded low (stepOf (machine halt) w)
+  pub step-low : (w : World) → registerEnd ≤ length (w .memory)
+      → stepOf (machine halt) (lowered low w) ≡ loweredHanded low (stepOf (machine halt) w)
   unfolding stepOf
   step-low w h =
-      rw (low-length low (w .memory) whole h, plain-low low whole halt w, moved-along (chip halt) (lowered low) (unseen low whole halt) w (plain halt w))
-      (sym (cond-along (loweredHanded low) (eqb (refusalIn (r6501q halt) 1 w) 0) (handedBackOf (movedOf (chip halt) w (plain halt w)) (plain halt w)) (refusedCall (r6501q halt) 1 w) refl refl))
+      rw (
+        low-length low (w .memory) whole h,
+        plain-low low whole halt w,
+        moved-along (chip halt) (lowered low) (unseen low whole halt) w (plain halt w),
+      )
+      (sym (cond-along (loweredHanded low) (eqb (refusalIn (r6501q halt) 1 w) 0)
+      (handedBackOf (movedOf (chip halt) w (plain halt w)) (plain halt w)) (refusedCall (r6501q halt) 1 w) refl refl))

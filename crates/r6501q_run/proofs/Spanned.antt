@@ -27,7 +27,8 @@ use Rattle.r6501q_clock.specs.declared.Clocked.the-variants.{Done}
 use Rattle.r6501q_clock.specs.Commit.{putWrite, committed}
 use Rattle.r6501q_step.specs.R6501q.{chip}
 use Rattle.r6501q_step.specs.World.{worldOf}
-use Rattle.r6501q_spans.specs.Spans.{noneWaiting, writesRegister, endsSpan, continuedBy, committedBy, workBy, memoryBy, workAfter, memoryAfter, putWork, putsWithin, workPut, memoryPut}
+use Rattle.r6501q_spans.specs.Spans.{noneWaiting, writesRegister, endsSpan, continuedBy, committedBy, workBy, memoryBy}
+use Rattle.r6501q_spans.specs.Spans.{workAfter, memoryAfter, putWork, putsWithin, workPut, memoryPut}
 use Rattle.r6501q_spans.specs.declared.Working.{Working}
 use Rattle.r6501q_spans.proofs.Ends.{ends-not}
 use Rattle.r6501q_spans.proofs.Ticked.{nextWorking, byteWaiting}
@@ -37,33 +38,44 @@ use Rattle.r6501q_run.specs.Spanned.{Spanned}
 use Rattle.r6501q_run.proofs.Laws.{lawful}
 
 -- the next instruction is a leap, or nothing happens
-pub work-either : (halt : Halt) (span : ℕ) (w : Work) (memory : List ℕ) (P : Working → List ℕ → Type 0) → w .gone .0 ≤ span → P (noneWaiting w) memory
+pub work-either : (halt : Halt) (span : ℕ) (w : Work) (memory : List ℕ) (P : Working → List ℕ → Type 0)
+    → w .gone .0 ≤ span → P (noneWaiting w) memory
     → ((worked : Worked) → w .gone .0 + w .wait < span → instructionOf (w .registers) [] memory ≡ outcome.Done worked
-    → endsSpan halt (pushesOf (worked .written)) ≡ false → P (nextWorking w worked) (committed memory (pushesOf (worked .written))))
+    → endsSpan halt (pushesOf (worked .written)) ≡ false
+    → P (nextWorking w worked) (committed memory (pushesOf (worked .written))))
     → P (workAfter halt span w memory) (memoryAfter halt span w memory)
 unfolding workAfter memoryAfter continuedBy committedBy
 work-either halt span w memory P room none next = by-test (leb (span - w .gone .0) (w .wait)) refl
   where
-    by-writes : (worked : Worked) → w .gone .0 + w .wait < span → instructionOf (w .registers) [] memory ≡ outcome.Done worked → (t : Bool)
+    by-writes : (worked : Worked) → w .gone .0 + w .wait < span
+        → instructionOf (w .registers) [] memory ≡ outcome.Done worked → (t : Bool)
         → endsSpan halt (pushesOf (worked .written)) ≡ t
-        → P (cond t (noneWaiting w) (nextWorking w worked)) (cond t memory (committed memory (pushesOf (worked .written))))
+        → P (cond t (noneWaiting w) (nextWorking w worked))
+        (cond t memory (committed memory (pushesOf (worked .written))))
     by-writes worked inside e true q = none
     by-writes worked inside e false q = next worked inside e q
 
-    by-outcome : (o : Outcome) → w .gone .0 + w .wait < span → instructionOf (w .registers) [] memory ≡ o → P (workBy halt w o) (memoryBy halt memory o)
+    by-outcome : (o : Outcome) → w .gone .0 + w .wait < span → instructionOf (w .registers) [] memory ≡ o
+        → P (workBy halt w o) (memoryBy halt memory o)
     by-outcome (outcome.Stopped number) inside e = none
     by-outcome (outcome.Asked ask) inside e = none
-    by-outcome (outcome.Done worked) inside e = by-writes worked inside e (endsSpan halt (pushesOf (worked .written))) refl
+    by-outcome (outcome.Done worked) inside e =
+        by-writes worked inside e (endsSpan halt (pushesOf (worked .written))) refl
 
     by-test : (t : Bool) → leb (span - w .gone .0) (w .wait) ≡ t
-        → P (cond t (noneWaiting w) (workBy halt w (instructionOf (w .registers) [] memory))) (cond t memory (memoryBy halt memory (instructionOf (w .registers) [] memory)))
+        → P (cond t (noneWaiting w) (workBy halt w (instructionOf (w .registers) [] memory)))
+        (cond t memory (memoryBy halt memory (instructionOf (w .registers) [] memory)))
     by-test true q = none
-    by-test false q = by-outcome (instructionOf (w .registers) [] memory) (omega (arith, leb-false (span - w .gone .0) (w .wait) q, room)) refl
+    by-test false q =
+        by-outcome (instructionOf (w .registers) [] memory)
+        (omega (arith, leb-false (span - w .gone .0) (w .wait) q, room)) refl
 
 -- the byte that waits is put by a leap, or nothing happens
-pub put-either : (halt : Halt) (span : ℕ) (w : Work) (x : Write) (memory : List ℕ) (P : Working → List ℕ → Type 0) → w .gone .0 ≤ span
+pub put-either : (halt : Halt) (span : ℕ) (w : Work) (x : Write) (memory : List ℕ) (P : Working → List ℕ → Type 0)
+    → w .gone .0 ≤ span
     → P (byteWaiting w x) memory
-    → (0 < w .wait → w .gone .0 + w .wait ≤ span → endsSpan halt (oneWrite x) ≡ false → P (putWork w) (committed memory (oneWrite x)))
+    → (0 < w .wait → w .gone .0 + w .wait ≤ span → endsSpan halt (oneWrite x) ≡ false
+    → P (putWork w) (committed memory (oneWrite x)))
     → P (workPut halt span w x) (memoryPut halt span w x memory)
 unfolding workPut memoryPut putsWithin
 put-either halt span w x memory P room none put = by-test (putsWithin halt span w x) refl
@@ -74,7 +86,8 @@ put-either halt span w x memory P room none put = by-test (putsWithin halt span 
     fits : Bool
     fits = leb (w .wait) (span - w .gone .0)
 
-    by-test : (t : Bool) → putsWithin halt span w x ≡ t → P (cond t (putWork w) (byteWaiting w x)) (cond t (committed memory (oneWrite x)) memory)
+    by-test : (t : Bool) → putsWithin halt span w x ≡ t
+        → P (cond t (putWork w) (byteWaiting w x)) (cond t (committed memory (oneWrite x)) memory)
     by-test true q =
         let within = and-left (some && fits) (not (endsSpan halt (oneWrite x))) q in
         let least = ltb-true 0 (w .wait) (and-left some fits within) in
@@ -83,12 +96,14 @@ put-either halt span w x memory P room none put = by-test (putsWithin halt span 
     by-test false q = none
 
 -- what is gone stays within the span, and each leap takes a clock at least
-pub room-after : (halt : Halt) (span : ℕ) (w : Work) (memory : List ℕ) → WithinSpan w span → WithinSpan (workAfter halt span w memory .work) span
+pub room-after : (halt : Halt) (span : ℕ) (w : Work) (memory : List ℕ) → WithinSpan w span
+    → WithinSpan (workAfter halt span w memory .work) span
 room-after halt span w memory room =
     work-either halt span w memory (λ (v : Working) (memory' : List ℕ). WithinSpan (v .work) span) (room .gone) room
     (λ worked inside e q. record { gone = omega arith; leaps = omega (arith, room .leaps) })
 
-pub room-put : (halt : Halt) (span : ℕ) (w : Work) (x : Write) → WithinSpan w span → WithinSpan (workPut halt span w x .work) span
+pub room-put : (halt : Halt) (span : ℕ) (w : Work) (x : Write) → WithinSpan w span
+    → WithinSpan (workPut halt span w x .work) span
 room-put halt span w x room =
     put-either halt span w x [] (λ (v : Working) (memory' : List ℕ). WithinSpan (v .work) span) (room .gone) room
     (λ some fits q. record { gone = fits; leaps = omega (arith, room .leaps) })
@@ -100,7 +115,8 @@ no-register w e = rw e
 
 pub no-end : (halt : Halt) (w : Written) → w ≡ Nothing → endsSpan halt (pushesOf w) ≡ false
 unfolding pushesOf
-no-end halt w e = rw e (ends-not halt (pushesOf Nothing) (no-register Nothing refl) (unwritten halt (pushesOf Nothing) refl))
+no-end halt w e =
+    rw e (ends-not halt (pushesOf Nothing) (no-register Nothing refl) (unwritten halt (pushesOf Nothing) refl))
 
 pub same-memory : (memory : List ℕ) (w : Written) → w ≡ Nothing → committed memory (pushesOf w) ≡ memory
 unfolding committed putWrite pushesOf
@@ -126,14 +142,20 @@ fewer-left span gone later h =
     (λ e. let less = ltb-true gone later e in omega arith) (λ e. omega arith)
 
 -- after the leaps of a span the same run is ahead, and what holds at each leap's start holds further on
-module _ (halt : Halt) (at r : Leaped) (memory memory' clocks codes times words : List ℕ) (z : Spanned halt at memory r memory' clocks) where
+module _ (halt : Halt) (at r : Leaped) (memory memory' clocks codes times words : List ℕ)
+    (z : Spanned halt at memory r memory' clocks) where
   pub run-later : runFrom halt r memory' clocks codes times words ≡ runFrom halt at memory clocks codes times words
   run-later =
       let w = worldOf (at .progress) memory clocks codes times words in
       let v = worldOf (r .progress) memory' clocks codes times words in
-      rw (by-leaps-run (chip halt) (lawful halt) (z .byLeaps codes times words), z .leaps, add-assoc (at .leaps) (z .made) (run (chip halt) (r .left .0) v .leaps))
+      rw (
+        by-leaps-run (chip halt) (lawful halt) (z .byLeaps codes times words),
+        z .leaps,
+        add-assoc (at .leaps) (z .made) (run (chip halt) (r .left .0) v .leaps),
+      )
 
-  pub leaping-later : Leaping (at .progress) (at .left .0) clocks codes times words → Leaping (r .progress) (r .left .0) clocks codes times words
+  pub leaping-later : Leaping (at .progress) (at .left .0) clocks codes times words
+      → Leaping (r .progress) (r .left .0) clocks codes times words
   leaping-later l = record {
     clock = omega (arith, z .clock, l .clock);
     read = omega (arith, z .read, l .read);

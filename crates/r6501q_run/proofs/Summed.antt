@@ -26,7 +26,8 @@ module _ (halt : Halt) (cs : List Call) (sums : List ℕ) (w : World) where
   FairWithSums =
       end
       ≡ (let v = plains (chip halt) (clocksAccepted (machine halt) cs w) w in
-      listedSums (record { world = v; results = resultsBy (machine halt) cs w }) (sumsAfter sums (w .memory) (v .memory)))
+      listedSums (record { world = v; results = resultsBy (machine halt) cs w })
+      (sumsAfter sums (w .memory) (v .memory)))
 
   -- with 256 sums, each of 16 bits
   pub fair-with-sums : Room w → length sums ≡ pageCount → SixteenBits sums → FairWithSums
@@ -34,27 +35,33 @@ module _ (halt : Halt) (cs : List Call) (sums : List ℕ) (w : World) where
 
   -- "Unless 13 refuses it, a run with sums moves the machine just as a run lacking them", of the list
   pub calls-alike : length sums ≡ pageCount → SixteenBits sums
-      → end ≡ listedSums (calls (machine halt) cs w) (sumsAfter sums (w .memory) (calls (machine halt) cs w .world .memory))
+      → end
+      ≡ listedSums (calls (machine halt) cs w) (sumsAfter sums (w .memory) (calls (machine halt) cs w .world .memory))
   calls-alike n words = theory.calls-alike (r6501q halt) cs sums w n words
 
   -- "changes each sum, right or wrong before, by exactly what its page's bytes change, modulo 65,536", over the list
   pub exactly-changed : length sums ≡ pageCount → SixteenBits sums → (p : ℕ) → p < pageCount
       → (sumAt (end .sums) p < sumSpan)
-      × ((sumAt (end .sums) p + pageSum p (w .memory)) % sumSpan ≡ (sumAt sums p + pageSum p (end .list .world .memory)) % sumSpan)
+      × ((sumAt (end .sums) p + pageSum p (w .memory)) % sumSpan
+      ≡ (sumAt sums p + pageSum p (end .list .world .memory)) % sumSpan)
   exactly-changed n words p h = theory.calls-exactly (r6501q halt) cs sums w n words p h
 
   -- right before, right after
-  pub right-after : length sums ≡ pageCount → SixteenBits sums → Right sums (w .memory) → Right (end .sums) (end .list .world .memory)
+  pub right-after : length sums ≡ pageCount → SixteenBits sums → Right sums (w .memory)
+      → Right (end .sums) (end .list .world .memory)
   right-after n words right = theory.calls-right-after (r6501q halt) cs sums w n words right
 
   -- with another number of sums each call is refused by 13, which is no stop, and hands on
-  pub thirteen-hands-on : length (w .memory) ≡ memorySpan → (length sums ≡ pageCount → ⊥) → SixteenBits sums → w .stop ≡ 0
+  pub thirteen-hands-on : length (w .memory) ≡ memorySpan → (length sums ≡ pageCount → ⊥) → SixteenBits sums
+      → w .stop ≡ 0
       → end ≡ listedSums (record { world = w; results = map (λ (c : Call). refusedWith 13 (w .state)) cs }) sums
   thirteen-hands-on m n words on = theory.calls-refused (callOf (machine halt)) sums w m n words on cs
 
   -- one such call before any list of calls: it is refused, and the list goes on from the same world, with the same sums
   pub thirteen-next : length (w .memory) ≡ memorySpan → (length sums ≡ pageCount → ⊥) → SixteenBits sums → w .stop ≡ 0
-      → (c : Call) → callsWithSums (callOf (machine halt)) (c ∷ cs) sums w ≡ listedSums (listed (refusedWith 13 (w .state)) (end .list)) (end .sums)
+      → (c : Call)
+      → callsWithSums (callOf (machine halt)) (c ∷ cs) sums w
+      ≡ listedSums (listed (refusedWith 13 (w .state)) (end .list)) (end .sums)
   thirteen-next m n words on c = theory.thirteen-next (callOf (machine halt)) sums w m n words on c cs
 
   -- with a memory of another length it is 1, whatever the page list

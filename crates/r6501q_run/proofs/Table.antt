@@ -49,10 +49,13 @@ pub record Examples : Type 0 where
       ≡ clocks.startWith (clocks.heldLow 0x30 (clock + n)) memory [] [] times words
   -- "L = 5 loaded on clock t: underflow on t + 6.": by STA 1Ah, whose byte is put on clock 10; IFR4 after clocks 10
   -- to 16; IFR5 of counter B by STA 1Eh
-  pub p2-loaded : plains (chip Nowhere) 10 (clocks.timerStart 0x18 0x1A) .state .peripherals .countera ≡ record { count = 5; latch = 5 }
-  pub p2 : tabulate (λ k. bit 4 (plains (chip Nowhere) k (clocks.timerStart 0x18 0x1A) .state .peripherals .control .ifr)) 7 10
+  pub p2-loaded : plains (chip Nowhere) 10 (clocks.timerStart 0x18 0x1A) .state .peripherals .countera
+      ≡ record { count = 5; latch = 5 }
+  pub p2 : tabulate
+      (λ k. bit 4 (plains (chip Nowhere) k (clocks.timerStart 0x18 0x1A) .state .peripherals .control .ifr)) 7 10
       ≡ false ∷ false ∷ false ∷ false ∷ false ∷ false ∷ true ∷ []
-  pub p2-b : tabulate (λ k. bit 5 (plains (chip Nowhere) k (clocks.timerStart 0x1C 0x1E) .state .peripherals .control .ifr)) 7 10
+  pub p2-b : tabulate
+      (λ k. bit 5 (plains (chip Nowhere) k (clocks.timerStart 0x1C 0x1E) .state .peripherals .control .ifr)) 7 10
       ≡ false ∷ false ∷ false ∷ false ∷ false ∷ false ∷ true ∷ []
   -- "decimal 58h + 46h + C: 05h, C."
   pub p3 : (n v i z : Bool) → adcOf 0x58 0x46 (record { n = n; v = v; d = true; i = i; z = z; c = true })
@@ -63,14 +66,17 @@ pub record Examples : Type 0 where
   -- "41h, 8 bits, no parity, latch 0: 176 clocks from start to idle.": STA 17h, put on clock 18; the start bit is on
   -- the line after clock 19, one bit is left after clock 194, and after clock 195 it is idle; the line's edges are the
   -- chip's records
-  pub p5-start : plains (chip Nowhere) 19 clocks.senderStart .state .peripherals .transmitter ≡ record { left = 11; phase = 0; register = 0x682 }
+  pub p5-start : plains (chip Nowhere) 19 clocks.senderStart .state .peripherals .transmitter
+      ≡ record { left = 11; phase = 0; register = 0x682 }
   pub p5-last-bit : plains (chip Nowhere) 194 clocks.senderStart .state .peripherals .transmitter .left ≡ 1
   pub p5-idle : plains (chip Nowhere) 195 clocks.senderStart .state .peripherals .transmitter ≡ idleTransmitter
   pub p5-edges : plains (chip Nowhere) 195 clocks.senderStart .outputClocks ≡ 19 ∷ 35 ∷ 51 ∷ 131 ∷ 147 ∷ 163 ∷ []
   -- "one low sub-interval at the receiver: no start.": PA7 low on clocks 1 and 2 by the pin list, a tick on each clock
-  pub p6-low : (register received : ℕ) (memory : List ℕ) → plains (chip Nowhere) 2 (clocks.lineStart register received memory) .state .peripherals .receiver
+  pub p6-low : (register received : ℕ) (memory : List ℕ)
+      → plains (chip Nowhere) 2 (clocks.lineStart register received memory) .state .peripherals .receiver
       ≡ record { subinterval = 1; half = false; left = 0; register = register }
-  pub p6 : (register received : ℕ) (memory : List ℕ) → plains (chip Nowhere) 4 (clocks.lineStart register received memory) .state .peripherals .receiver
+  pub p6 : (register received : ℕ) (memory : List ℕ)
+      → plains (chip Nowhere) 4 (clocks.lineStart register received memory) .state .peripherals .receiver
       ≡ record { subinterval = 0; half = false; left = 0; register = register }
   -- 02, U1: 41h sent with SCCR A0h and latch 0, as port A is driven clock by clock; the next byte taken; SCCR written
   -- again; and 41h received with SCCR 50h at rises of PA4 (r6501q_step/proofs/ShiftRegister.antt has the rows)
@@ -94,11 +100,13 @@ pub record Examples : Type 0 where
   -- 02, U4, JSR with SP 00h: it tells 0000h, then 00FFh
   pub call-told : told (toldBy (clockIn clocks.callingStart)) ≡ writeAt 0x0000 0x00 ∷ writeAt 0x00FF 0x42 ∷ []
   -- 01, One clock, 4, "All its reads and writes happen now": JSR over its own operand, a port's latch and its levels,
-  -- an entry's pushes, RTI's pulls; 02, U6, SMB0 00h over an underflow (r6501q_step/proofs/AccessOrder.antt has the rows)
+  -- an entry's pushes, RTI's pulls; 02, U6, SMB0 00h over an underflow (r6501q_step/proofs/AccessOrder.antt has the
+  -- rows)
   pub access-order : AccessOrder
   -- 02, U5, JMP (02FFh): the low byte of the target is at 02FFh, the high byte at 0200h, and five clocks
   pub indirect-jump : (first last next : ℕ)
-      → plains (chip Nowhere) 1 (clocks.startWith (clocks.running 0) (jumpMemory first last next) [] [] [] []) .state .cpu
+      → plains (chip Nowhere) 1
+      (clocks.startWith (clocks.running 0) (jumpMemory first last next) [] [] [] []) .state .cpu
       ≡ record { a = 0; x = 0; y = 0; sp = 0xFF; p = 0x04; pc = word first last; wait = 4; waiting = Nothing }
   -- 02, U8: fresh, field by field (r6501q_state/proofs/Fresh.antt has the literals)
   pub fresh-fields : FreshFields

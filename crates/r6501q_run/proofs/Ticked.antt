@@ -632,11 +632,13 @@ module _ (halt : Halt) (at : Leaped) (clocks : List ℕ) (span : ℕ) (memory₀
         → Within halt at clocks span memory₀ memory v shared → StepsOn halt span t v memory r memory'
         → Within halt at clocks span memory₀ memory' (r .working) (shared + r .shared)
     within-steps memory memory' v shared r i o =
-        let ran = within-ran memory (o .between) (v .work) (v .waiting) shared (o .middle) i (o .ran) (o .room) (o .kept) in
+        let ran =
+        within-ran memory (o .between) (v .work) (v .waiting) shared (o .middle) i (o .ran) (o .room) (o .kept) in
         let all : shared + r .shared ≡ shared + o .middle .shared + sharedIn t (o .middle .working) (r .working) =
         rw (o .shared) (omega arith) in
         rw all
-        (within-goes (o .between) memory' (o .middle .working) (r .working) (shared + o .middle .shared) ran (o .step) (o .keeps))
+        (within-goes (o .between) memory' (o .middle .working) (r .working) (shared + o .middle .shared) ran (o .step)
+        (o .keeps))
 
   -- what is handed back at its end
   module _ (memory : List ℕ) (v : Working) (shared : ℕ) (i : Within halt at clocks span memory₀ memory v shared) where

@@ -11,7 +11,8 @@ use Rattle.r6501q_run.specs.declared.Leaped.{Leaped}
 -- `r` is reached from `at` by so many whole leaps of document 01's, each the gap, the gap passed and the event clock,
 -- and the count is raised by as many. How many leaps, none at least, is left free. They are the same for any codes
 -- and output lists.
-pub record Spanned (halt : Halt) (at : Leaped) (memory : List ℕ) (r : Leaped) (memory' inputClocks : List ℕ) : Type 0 where
+pub record Spanned (halt : Halt) (at : Leaped) (memory : List ℕ) (r : Leaped) (memory' inputClocks : List ℕ) :
+    Type 0 where
   pub made : ℕ
   pub byLeaps : (inputCodes outputClocks outputWords : List ℕ)
       → ByLeaps (chip halt) (at .left .0)

@@ -26,7 +26,8 @@ pub ends-not : (halt : Halt) (w : Writes) → writesRegister w ≡ false → hal
 unfolding endsSpan
 ends-not halt w e h = rw (e, h)
 
-pub ends-neither : (halt : Halt) (w : Writes) → endsSpan halt w ≡ false → (writesRegister w ≡ false) × (halts halt w ≡ false)
+pub ends-neither : (halt : Halt) (w : Writes) → endsSpan halt w ≡ false
+    → (writesRegister w ≡ false) × (halts halt w ≡ false)
 unfolding endsSpan
 ends-neither halt w e = either-false (writesRegister w) (halts halt w) e
 

@@ -6,7 +6,9 @@ ghost use Rattle.page_sums.specs.PageSums.{sumsAfter};
 ghost use Rattle.cpu_opcodes.specs.Table.{opcodeTable};
 ghost use Rattle.cpu.specs.Quiet.{WithinSpan};
 ghost use Rattle.r6501q_unseen.specs.Unseen.{Unseen};
-ghost use Rattle.r6501q_spans.specs.Spans.{onlyCpu, beginWork, noneWaiting, writesRegister, endsSpan, continuedBy, committedBy, workAfter, memoryAfter, putWork, workPut, memoryPut, WorkedOn};
+ghost use Rattle.r6501q_spans.specs.Spans.{onlyCpu, beginWork, noneWaiting, writesRegister, endsSpan};
+ghost use Rattle.r6501q_spans.specs.Spans.{continuedBy, committedBy, workAfter, memoryAfter, putWork, workPut};
+ghost use Rattle.r6501q_spans.specs.Spans.{memoryPut, WorkedOn};
 ghost use Rattle.r6501q_spans.specs.Ticked.{AloneSeen, tickedState};
 use counters::time::Clocks;
 use cpu::Outcome;
@@ -217,8 +219,8 @@ fn put_within(
     }
 }
 
-// The CPU's next step in a span: the byte that waits is put, or an instruction starts; none where neither can be done in
-// it. `entries` is what `cpu_opcodes::opcode_table` gave.
+// The CPU's next step in a span: the byte that waits is put, or an instruction starts; none where neither can be done
+// in it. `entries` is what `cpu_opcodes::opcode_table` gave.
 pub fn work_once(
     v: Working,
     span: Clocks,

@@ -16,7 +16,8 @@ module _ (p : Peripherals) where
   line-driven on = rw on (by (transmitterShifts (p .control .sccr)))
     where
       by : (shifts : Bool)
-          → bit 6 (cond shifts (withBit 4 (shiftClock (p .transmitter)) (withBit 6 (line (p .transmitter)) (p .ports .a)))
+          → bit 6
+          (cond shifts (withBit 4 (shiftClock (p .transmitter)) (withBit 6 (line (p .transmitter)) (p .ports .a)))
           (withBit 6 (line (p .transmitter)) (p .ports .a))) ≡ line (p .transmitter)
       by true =
           bit-above 4 1 (withBit 6 (line (p .transmitter)) (p .ports .a)) (shiftClock (p .transmitter))
@@ -27,10 +28,12 @@ module _ (p : Peripherals) where
   pub clock-driven : bit 7 (p .control .sccr) ≡ true → transmitterShifts (p .control .sccr) ≡ true
       → bit 4 (driveA p) ≡ shiftClock (p .transmitter)
   unfolding driveA
-  clock-driven on shifts = rw (on, shifts) (bit-put 4 (withBit 6 (line (p .transmitter)) (p .ports .a)) (shiftClock (p .transmitter)))
+  clock-driven on shifts =
+      rw (on, shifts) (bit-put 4 (withBit 6 (line (p .transmitter)) (p .ports .a)) (shiftClock (p .transmitter)))
 
   -- else PA4's drive is its latch, and with SCCR7 clear port A's is
-  pub latch-driven : bit 7 (p .control .sccr) ≡ true → transmitterShifts (p .control .sccr) ≡ false → bit 4 (driveA p) ≡ bit 4 (p .ports .a)
+  pub latch-driven : bit 7 (p .control .sccr) ≡ true → transmitterShifts (p .control .sccr) ≡ false
+      → bit 4 (driveA p) ≡ bit 4 (p .ports .a)
   unfolding driveA
   latch-driven on frame = rw (on, frame) (bit-below 1 4 (p .ports .a) (line (p .transmitter)))
 

@@ -30,8 +30,12 @@ pub record InPeripherals (p : Peripherals) : Type 0 where
 
 pub in-peripherals : (p : Peripherals) → peripheralsFit p ≡ true → InPeripherals p
 in-peripherals p e = record {
-  ifr = ltb-true _ _ (and-left _ _ (and-left (ltb (p .control .ifr) 64 && transmitterFits (p .transmitter)) (receiverFits (p .receiver)) e));
-  transmitter = and-right (ltb (p .control .ifr) 64) _ (and-left (ltb (p .control .ifr) 64 && transmitterFits (p .transmitter)) (receiverFits (p .receiver)) e);
+  ifr =
+      ltb-true _ _ (and-left _ _
+      (and-left (ltb (p .control .ifr) 64 && transmitterFits (p .transmitter)) (receiverFits (p .receiver)) e));
+  transmitter =
+      and-right (ltb (p .control .ifr) 64) _
+      (and-left (ltb (p .control .ifr) 64 && transmitterFits (p .transmitter)) (receiverFits (p .receiver)) e);
   receiver = and-right (ltb (p .control .ifr) 64 && transmitterFits (p .transmitter)) (receiverFits (p .receiver)) e;
 }
 
@@ -83,9 +87,11 @@ fresh-formed = refl
 
 -- 01, One clock, 1: an input sets an external level, on which the ranges do not hang
 abbrev pub withExternal : State → Levels → State
-withExternal s l = record { cpu = s .cpu; due = s .due; peripherals = s .peripherals; external = l; last = s .last; clock = s .clock }
+withExternal s l =
+    record { cpu = s .cpu; due = s .due; peripherals = s .peripherals; external = l; last = s .last; clock = s .clock }
 
-pub input-formed : (s : State) (code : ℕ) → wellFormed s ≡ true → wellFormed (withExternal s (withInput (s .external) code)) ≡ true
+pub input-formed : (s : State) (code : ℕ) → wellFormed s ≡ true
+    → wellFormed (withExternal s (withInput (s .external) code)) ≡ true
 unfolding wellFormed
 input-formed s code e = e
 
@@ -106,7 +112,8 @@ unfolding withEdges
 withEdges-formed s now e =
     let i = in-peripherals (s .peripherals) (formed-peripherals s e) in
     formed (withEdges s now) (formed-cpu s e)
-    (fit-peripherals (withEdges s now .peripherals) (flagged-in (s .peripherals) _ (edges-lt (s .peripherals .control .ifr) (s .last .ports) (now .ports) (i .ifr)) i))
+    (fit-peripherals (withEdges s now .peripherals)
+    (flagged-in (s .peripherals) _ (edges-lt (s .peripherals .control .ifr) (s .last .ports) (now .ports) (i .ifr)) i))
 
 -- RES low
 pub reset-formed : (s : State) → wellFormed s ≡ true → wellFormed (resetOf s) ≡ true
@@ -117,15 +124,18 @@ reset-formed s e = let c = in-cpu (s .cpu) (formed-cpu s e) in formed (resetOf s
 pub sensed-formed : (s : State) → wellFormed s ≡ true → wellFormed (sensed s) ≡ true
 unfolding sensed sensedAt
 sensed-formed s e =
-    cond-both (λ (t : State). wellFormed t ≡ true) (levelsOf s .res) (withEdges s (levelsOf s)) (resetOf (withEdges s (levelsOf s)))
-    (λ _. withEdges-formed s (levelsOf s) e) (λ _. reset-formed (withEdges s (levelsOf s)) (withEdges-formed s (levelsOf s) e))
+    cond-both (λ (t : State). wellFormed t ≡ true) (levelsOf s .res) (withEdges s (levelsOf s))
+    (resetOf (withEdges s (levelsOf s)))
+    (λ _. withEdges-formed s (levelsOf s) e)
+    (λ _. reset-formed (withEdges s (levelsOf s)) (withEdges-formed s (levelsOf s) e))
 
 -- 01, One clock, 1: the levels are taken before RES low puts the latches, and so become the last levels
 pub sensed-last : (s : State) → sensed s .last ≡ levelsOf s
 unfolding sensed sensedAt withEdges resetOf
 sensed-last s =
     let now = levelsOf s in
-    cond-both (λ (t : State). t .last ≡ now) (now .res) (withEdges s now) (resetOf (withEdges s now)) (λ _. refl) (λ _. refl)
+    cond-both (λ (t : State). t .last ≡ now) (now .res) (withEdges s now) (resetOf (withEdges s now)) (λ _. refl)
+    (λ _. refl)
 
 -- ---- 02, U6
 

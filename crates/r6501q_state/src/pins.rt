@@ -1,7 +1,8 @@
 // What the chip drives, the pins' levels and their edges, and RES low.
 ghost use mathlib.Core.Path.{_≡_};
 ghost use Prim.Native.Nat.{_<_};
-ghost use Rattle.r6501q_state.specs.Pins.{driveA, driveD, wordOf, drivenWord, levelsOf, rose, fell, edges, resetPeripherals, resetOf, withEdges, sensed};
+ghost use Rattle.r6501q_state.specs.Pins.{driveA, driveD, wordOf, drivenWord, levelsOf, rose, fell, edges};
+ghost use Rattle.r6501q_state.specs.Pins.{resetPeripherals, resetOf, withEdges, sensed};
 use crate::state::Levels;
 use crate::state::Peripherals;
 use crate::state::State;

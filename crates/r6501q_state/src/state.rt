@@ -1,7 +1,8 @@
 // The machine state (document 01, "Machine state"): nested structs by value.
 ghost use mathlib.Core.Path.{_≡_};
 ghost use Rattle.r6501q_state.specs.Copies.{waitingAt};
-ghost use Rattle.r6501q_state.specs.State.{freshCpu, freshPorts, freshControl, freshPeripherals, freshLevels, fresh, wellFormed};
+ghost use Rattle.r6501q_state.specs.State.{freshCpu, freshPorts, freshControl, freshPeripherals, freshLevels};
+ghost use Rattle.r6501q_state.specs.State.{fresh, wellFormed};
 use counters::a::CounterA;
 use counters::b::CounterB;
 use cpu_access::waiting::Waiting;

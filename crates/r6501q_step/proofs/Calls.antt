@@ -21,11 +21,13 @@ use Rattle.r6501q_step.specs.World.{worldOf, Going}
 use Rattle.r6501q_step.specs.Calls.{handed, begin, refusalResult, progressResult, leapsFrom}
 
 module _ (s : State) (memory clocks codes times words : List ℕ)
-    (good : refusalOf r6501qLimits (wellFormed s) (s .clock) (length memory) clocks codes (length times) (length words) 1 ≡ 0) where
+    (good : refusalOf r6501qLimits (wellFormed s) (s .clock) (length memory) clocks codes (length times)
+    (length words) 1 ≡ 0) where
   -- a call that is not refused may go on
   pub begins : Going (begin s) clocks codes times words
   begins =
-      let a = accepted r6501qLimits (wellFormed s) (s .clock) (length memory) clocks codes (length times) (length words) 1 good in
+      let a = accepted r6501qLimits (wellFormed s) (s .clock) (length memory) clocks codes (length times)
+      (length words) 1 good in
       record {
         clock = omega (arith, a .most);
         read = omega arith;
@@ -46,7 +48,10 @@ module _ (s : State) (memory clocks codes times words : List ℕ)
 
 -- a call that is refused hands back what it got
 pub refuses : (halt : Halt) (s : State) (memory clocks codes times words : List ℕ) (number : ℕ)
-    → number ≡ refusalOf r6501qLimits (wellFormed s) (s .clock) (length memory) clocks codes (length times) (length words) 1 → (number ≡ 0 → ⊥)
-    → handed (refusalResult number s) memory times words ≡ stepOf (machine halt) (callStart s memory clocks codes times words)
+    → number
+    ≡ refusalOf r6501qLimits (wellFormed s) (s .clock) (length memory) clocks codes (length times) (length words) 1
+    → (number ≡ 0 → ⊥)
+    → handed (refusalResult number s) memory times words
+    ≡ stepOf (machine halt) (callStart s memory clocks codes times words)
 unfolding stepOf
 refuses halt s memory clocks codes times words number e some = rw (← e, ne-eqb number 0 some)

@@ -10,10 +10,15 @@ use Rattle.bits.specs.Bits.{bit}
 use Rattle.bits.specs.Lists.{tabulate}
 use Rattle.bits.specs.Bits.{withBit, setWhere, flipWhere}
 use Rattle.pin_lists.specs.PinLists.{dueCount}
-use Rattle.counters.specs.Counters.{ticksOf, inForce, downA, countsA, clockA, lowerA, upperA, loadCounterA, reloadB, downB, clockB, lowerB, upperB, copyB, loadCounterB, turnToC}
-use Rattle.serial.specs.Format.{transmitterAsynchronous, receiverAsynchronous, receiverShifting, holdsA, keepsTransmitter, keepsReceiver, parityBit, frameBits, sentBits, pace}
-use Rattle.serial.specs.Receiver.{startDetected, withLevel, receivedByte, wrongParity, statusAfter, keptWith, frameEnded, lookTaken, looked, receiveTick, shiftedAtRise, byteEnded, receiveRise, receiverClock, receiverWithSccr}
-use Rattle.serial.specs.Transmitter.{framed, taken, idleTick, frameEnd, nextPhase, ticked, bitTick, sendTick, transmitterClock, line, shiftClock, transmitterWithSccr}
+use Rattle.counters.specs.Counters.{ticksOf, inForce, downA, countsA, clockA, lowerA, upperA, loadCounterA, reloadB}
+use Rattle.counters.specs.Counters.{downB, clockB, lowerB, upperB, copyB, loadCounterB, turnToC}
+use Rattle.serial.specs.Format.{transmitterAsynchronous, receiverAsynchronous, receiverShifting, holdsA}
+use Rattle.serial.specs.Format.{keepsTransmitter, keepsReceiver, parityBit, frameBits, sentBits, pace}
+use Rattle.serial.specs.Receiver.{startDetected, withLevel, receivedByte, wrongParity, statusAfter, keptWith}
+use Rattle.serial.specs.Receiver.{frameEnded, lookTaken, looked, receiveTick, shiftedAtRise, byteEnded, receiveRise}
+use Rattle.serial.specs.Receiver.{receiverClock, receiverWithSccr}
+use Rattle.serial.specs.Transmitter.{framed, taken, idleTick, frameEnd, nextPhase, ticked, bitTick, sendTick}
+use Rattle.serial.specs.Transmitter.{transmitterClock, line, shiftClock, transmitterWithSccr}
 use Rattle.cpu_opcodes.specs.Decode.{decodeOf}
 use Rattle.cpu_alu.specs.Status.{packed, unpacked, pushed}
 use Rattle.cpu_access.specs.declared.halt.Halt.the-variants.{Nowhere, At}
@@ -26,12 +31,17 @@ use Rattle.cpu_access.specs.Waiting.{byteWaits}
 use Rattle.cpu_access.specs.Accesses.{byteAfter, peripheralsRead, peripheralsWritten, valueRead, performed, inOrder}
 use Rattle.cpu_access.specs.Operands.{located}
 use Rattle.cpu_access.specs.Modes.{displacement}
-use Rattle.cpu_operations.specs.Kinds.{withRead, changedBy, byteToStore, branchTaken, bitBranchTaken, byteToPush, withPulled, withRegister, withFlag}
-use Rattle.cpu.specs.Sequence.{completion, storeAt, modifyAccesses, branchOn, bitBranchAccesses, jumpTo, pushAccesses, pullAccesses, returnAccesses, interruptReturnAccesses, entryAccesses, breakAccesses, callAccesses, operationAccesses, instructionAccesses, resetAccesses, interruptAccesses}
-use Rattle.r6501q_cpu.specs.Processor.{wholeInstruction, irqDue, resetStart, nmiStart, irqStart, startOf, bytePut, processorOf}
+use Rattle.cpu_operations.specs.Kinds.{withRead, changedBy, byteToStore, branchTaken, bitBranchTaken, byteToPush}
+use Rattle.cpu_operations.specs.Kinds.{withPulled, withRegister, withFlag}
+use Rattle.cpu.specs.Sequence.{completion, storeAt, modifyAccesses, branchOn, bitBranchAccesses, jumpTo, pushAccesses}
+use Rattle.cpu.specs.Sequence.{pullAccesses, returnAccesses, interruptReturnAccesses, entryAccesses, breakAccesses}
+use Rattle.cpu.specs.Sequence.{callAccesses, operationAccesses, instructionAccesses, resetAccesses, interruptAccesses}
+use Rattle.r6501q_cpu.specs.Processor.{wholeInstruction, irqDue, resetStart, nmiStart, irqStart, startOf, bytePut}
+use Rattle.r6501q_cpu.specs.Processor.{processorOf}
 use Rattle.r6501q_state.specs.Control.{flagsOf, modeA, modeB}
 use Rattle.r6501q_state.specs.Inputs.{resHigh, withInput}
-use Rattle.r6501q_state.specs.Pins.{driveA, driveD, drivenWord, levelsOf, rose, fell, edges, withEdges, resetOf, sensedAt, sensed}
+use Rattle.r6501q_state.specs.Pins.{driveA, driveD, drivenWord, levelsOf, rose, fell, edges, withEdges, resetOf}
+use Rattle.r6501q_state.specs.Pins.{sensedAt, sensed}
 use Rattle.r6501q_state.specs.State.{fresh}
 use Rattle.r6501q_registers.specs.Read.{portValue, registerValue, afterRead}
 use Rattle.r6501q_registers.specs.Write.{startB, startA, entering, keptFlag, keptFlags, writeOf}
@@ -45,7 +55,9 @@ use Rattle.serial.specs.Transmitter.{idleTransmitter}
 use Rattle.r6501q_clock.specs.Clock.{inputsSet}
 use Rattle.leaps.specs.Leaps.{eventsIn, quietEnd, plains, trace, leapCount}
 use Rattle.leaps.specs.World.{putRecord, plainOf, doneIn, eventIn}
-use Rattle.r6501q_gaps.specs.Events.{hasInput, sameLevels, levelsChange, underflowsA, underflowsB, portsFresh, controlFresh, transmitterIdle, receiverIdle, isReset, resetChanges, cpuStarts, putsByte, eventOf}
+use Rattle.r6501q_gaps.specs.Events.{hasInput, sameLevels, levelsChange, underflowsA, underflowsB, portsFresh}
+use Rattle.r6501q_gaps.specs.Events.{controlFresh, transmitterIdle, receiverIdle, isReset, resetChanges, cpuStarts}
+use Rattle.r6501q_gaps.specs.Events.{putsByte, eventOf}
 use Rattle.r6501q_step.specs.R6501q.{World, plain, chip}
 use Rattle.r6501q_step.proofs.Halted.{toldBy, clockIn}
 
@@ -63,7 +75,8 @@ startWith s memory inputClocks inputCodes outputClocks outputWords = record {
   stop = 0;
 }
 
--- ---- P1, "L = 0: underflow each clock.": counters count while RES is low too, and there step 1 clears the flags on each clock
+-- ---- P1, "L = 0: underflow each clock.": counters count while RES is low too, and there step 1 clears the flags on
+-- each clock
 
 -- both counters and their latches 0, the flags as given
 abbrev pub heldLow : ℕ → ℕ → State
@@ -79,24 +92,40 @@ heldLow ifr clock = record {
 }
 
 pub p1-cleared : (clock : ℕ) → sensed (inputsSet (heldLow 0x30 clock) []) ≡ heldLow 0 (clock + 1)
-unfolding withBit setWhere flipWhere dueCount ticksOf inForce downA countsA clockA lowerA upperA loadCounterA reloadB downB clockB lowerB upperB copyB loadCounterB turnToC transmitterAsynchronous receiverAsynchronous receiverShifting holdsA keepsTransmitter keepsReceiver parityBit frameBits sentBits pace startDetected withLevel receivedByte wrongParity statusAfter keptWith frameEnded lookTaken looked receiveTick shiftedAtRise byteEnded receiveRise receiverClock receiverWithSccr framed taken idleTick frameEnd nextPhase ticked bitTick sendTick transmitterClock line shiftClock transmitterWithSccr flagsOf modeA modeB withInput driveA driveD drivenWord levelsOf rose fell edges withEdges resetOf sensedAt sensed fresh withInputs countA countB sentBy heardBy worked readyOf finished clockOf halts putWrite committed bytePut processorOf plainOf plains putRecord
+unfolding withBit setWhere flipWhere dueCount ticksOf inForce downA countsA clockA lowerA upperA loadCounterA reloadB
+    downB clockB lowerB upperB copyB loadCounterB turnToC transmitterAsynchronous receiverAsynchronous receiverShifting
+    holdsA keepsTransmitter keepsReceiver parityBit frameBits sentBits pace startDetected withLevel receivedByte
+    wrongParity statusAfter keptWith frameEnded lookTaken looked receiveTick shiftedAtRise byteEnded receiveRise
+    receiverClock receiverWithSccr framed taken idleTick frameEnd nextPhase ticked bitTick sendTick transmitterClock
+    line shiftClock transmitterWithSccr flagsOf modeA modeB withInput driveA driveD drivenWord levelsOf rose fell edges
+    withEdges resetOf sensedAt sensed fresh withInputs countA countB sentBy heardBy worked readyOf finished clockOf
+    halts putWrite committed bytePut processorOf plainOf plains putRecord
 p1-cleared clock = refl
 
 pub p1-clock : (clock : ℕ) (memory times words : List ℕ)
-    → plain Nowhere (startWith (heldLow 0x30 clock) memory [] [] times words) ≡ startWith (heldLow 0x30 (clock + 1)) memory [] [] times words
-unfolding withBit setWhere flipWhere dueCount ticksOf inForce downA countsA clockA lowerA upperA loadCounterA reloadB downB clockB lowerB upperB copyB loadCounterB turnToC transmitterAsynchronous receiverAsynchronous receiverShifting holdsA keepsTransmitter keepsReceiver parityBit frameBits sentBits pace startDetected withLevel receivedByte wrongParity statusAfter keptWith frameEnded lookTaken looked receiveTick shiftedAtRise byteEnded receiveRise receiverClock receiverWithSccr framed taken idleTick frameEnd nextPhase ticked bitTick sendTick transmitterClock line shiftClock transmitterWithSccr flagsOf modeA modeB withInput driveA driveD drivenWord levelsOf rose fell edges withEdges resetOf sensedAt sensed fresh withInputs countA countB sentBy heardBy worked readyOf finished clockOf halts putWrite committed bytePut processorOf plainOf plains putRecord
+    → plain Nowhere (startWith (heldLow 0x30 clock) memory [] [] times words)
+    ≡ startWith (heldLow 0x30 (clock + 1)) memory [] [] times words
+unfolding withBit setWhere flipWhere dueCount ticksOf inForce downA countsA clockA lowerA upperA loadCounterA reloadB
+    downB clockB lowerB upperB copyB loadCounterB turnToC transmitterAsynchronous receiverAsynchronous receiverShifting
+    holdsA keepsTransmitter keepsReceiver parityBit frameBits sentBits pace startDetected withLevel receivedByte
+    wrongParity statusAfter keptWith frameEnded lookTaken looked receiveTick shiftedAtRise byteEnded receiveRise
+    receiverClock receiverWithSccr framed taken idleTick frameEnd nextPhase ticked bitTick sendTick transmitterClock
+    line shiftClock transmitterWithSccr flagsOf modeA modeB withInput driveA driveD drivenWord levelsOf rose fell edges
+    withEdges resetOf sensedAt sensed fresh withInputs countA countB sentBy heardBy worked readyOf finished clockOf
+    halts putWrite committed bytePut processorOf plainOf plains putRecord
 p1-clock clock memory times words = refl
 
 pub p1-clocks : (n clock : ℕ) (memory times words : List ℕ)
-    → plains (chip Nowhere) n (startWith (heldLow 0x30 clock) memory [] [] times words) ≡ startWith (heldLow 0x30 (clock + n)) memory [] [] times words
+    → plains (chip Nowhere) n (startWith (heldLow 0x30 clock) memory [] [] times words)
+    ≡ startWith (heldLow 0x30 (clock + n)) memory [] [] times words
 unfolding plains
 p1-clocks zero clock memory times words = let e : clock + 0 ≡ clock = omega arith in rw e
 p1-clocks (suc n) clock memory times words =
     let e : clock + suc n ≡ clock + 1 + n = omega arith in
     rw (p1-clock clock memory times words, e) (p1-clocks n (clock + 1) memory times words)
 
--- ---- P2, "L = 5 loaded on clock t: underflow on t + 6.": by STA 1Ah, which starts on clock 8 and puts its byte on clock
--- 10 (02, U6)
+-- ---- P2, "L = 5 loaded on clock t: underflow on t + 6.": by STA 1Ah, which starts on clock 8 and puts its byte on
+-- clock 10 (02, U6)
 
 abbrev pub running : ℕ → State
 running wait = record {
@@ -110,26 +139,70 @@ running wait = record {
 
 -- LDA #05h, STA lower, LDA #00h, STA start, and a jump to itself: 18h and 1Ah of counter A, 1Ch and 1Eh of counter B
 abbrev pub timerProgram : ℕ → ℕ → List ℕ
-timerProgram lower start = replicate 0x40 0 ++ (0xA9 ∷ 0x05 ∷ 0x85 ∷ lower ∷ 0xA9 ∷ 0x00 ∷ 0x85 ∷ start ∷ 0x4C ∷ 0x48 ∷ 0x00 ∷ [])
+timerProgram lower start =
+    replicate 0x40 0 ++ (0xA9 ∷ 0x05 ∷ 0x85 ∷ lower ∷ 0xA9 ∷ 0x00 ∷ 0x85 ∷ start ∷ 0x4C ∷ 0x48 ∷ 0x00 ∷ [])
 
 abbrev pub timerStart : ℕ → ℕ → World
 timerStart lower start = startWith (running 0) (timerProgram lower start) [] [] [] []
 
-pub p2-loaded : plains (chip Nowhere) 10 (timerStart 0x18 0x1A) .state .peripherals .countera ≡ record { count = 5; latch = 5 }
-unfolding withBit setWhere flipWhere dueCount ticksOf inForce downA countsA clockA lowerA upperA loadCounterA reloadB downB clockB lowerB upperB copyB loadCounterB turnToC transmitterAsynchronous receiverAsynchronous receiverShifting holdsA keepsTransmitter keepsReceiver parityBit frameBits sentBits pace startDetected withLevel receivedByte wrongParity statusAfter keptWith frameEnded lookTaken looked receiveTick shiftedAtRise byteEnded receiveRise receiverClock receiverWithSccr framed taken idleTick frameEnd nextPhase ticked bitTick sendTick transmitterClock line shiftClock transmitterWithSccr decodeOf packed unpacked pushed memoryByte displacement flagsOf modeA modeB withInput driveA driveD drivenWord levelsOf rose fell edges withEdges resetOf sensedAt sensed fresh portValue registerValue afterRead startB startA entering keptFlag keptFlags writeOf wholeInstruction irqDue resetStart nmiStart irqStart startOf bytePut processorOf withInputs countA countB sentBy heardBy worked readyOf finished clockOf halts putWrite committed plainOf plains putRecord located byteAfter peripheralsRead peripheralsWritten valueRead performed inOrder completion storeAt modifyAccesses branchOn bitBranchAccesses jumpTo pushAccesses pullAccesses returnAccesses interruptReturnAccesses entryAccesses breakAccesses callAccesses operationAccesses withRead changedBy byteToStore branchTaken bitBranchTaken byteToPush withPulled withRegister withFlag instructionAccesses resetAccesses interruptAccesses
+pub p2-loaded : plains (chip Nowhere) 10 (timerStart 0x18 0x1A) .state .peripherals .countera
+    ≡ record { count = 5; latch = 5 }
+unfolding withBit setWhere flipWhere dueCount ticksOf inForce downA countsA clockA lowerA upperA loadCounterA reloadB
+    downB clockB lowerB upperB copyB loadCounterB turnToC transmitterAsynchronous receiverAsynchronous receiverShifting
+    holdsA keepsTransmitter keepsReceiver parityBit frameBits sentBits pace startDetected withLevel receivedByte
+    wrongParity statusAfter keptWith frameEnded lookTaken looked receiveTick shiftedAtRise byteEnded receiveRise
+    receiverClock receiverWithSccr framed taken idleTick frameEnd nextPhase ticked bitTick sendTick transmitterClock
+    line shiftClock transmitterWithSccr decodeOf packed unpacked pushed memoryByte displacement flagsOf modeA modeB
+    withInput driveA driveD drivenWord levelsOf rose fell edges withEdges resetOf sensedAt sensed fresh portValue
+    registerValue afterRead startB startA entering keptFlag keptFlags writeOf wholeInstruction irqDue resetStart
+    nmiStart irqStart startOf bytePut processorOf withInputs countA countB sentBy heardBy worked readyOf finished
+    clockOf halts putWrite committed plainOf plains putRecord located byteAfter peripheralsRead peripheralsWritten
+    valueRead performed inOrder completion storeAt modifyAccesses branchOn bitBranchAccesses jumpTo pushAccesses
+    pullAccesses returnAccesses interruptReturnAccesses entryAccesses breakAccesses callAccesses operationAccesses
+    withRead changedBy byteToStore branchTaken bitBranchTaken byteToPush withPulled withRegister withFlag
+    instructionAccesses resetAccesses interruptAccesses
 p2-loaded = refl
 
-pub p2-clocks : tabulate (λ k. bit 4 (plains (chip Nowhere) k (timerStart 0x18 0x1A) .state .peripherals .control .ifr)) 7 10
+pub p2-clocks : tabulate (λ k. bit 4 (plains (chip Nowhere) k (timerStart 0x18 0x1A) .state .peripherals .control .ifr))
+    7 10
     ≡ false ∷ false ∷ false ∷ false ∷ false ∷ false ∷ true ∷ []
-unfolding withBit setWhere flipWhere dueCount ticksOf inForce downA countsA clockA lowerA upperA loadCounterA reloadB downB clockB lowerB upperB copyB loadCounterB turnToC transmitterAsynchronous receiverAsynchronous receiverShifting holdsA keepsTransmitter keepsReceiver parityBit frameBits sentBits pace startDetected withLevel receivedByte wrongParity statusAfter keptWith frameEnded lookTaken looked receiveTick shiftedAtRise byteEnded receiveRise receiverClock receiverWithSccr framed taken idleTick frameEnd nextPhase ticked bitTick sendTick transmitterClock line shiftClock transmitterWithSccr decodeOf packed unpacked pushed memoryByte displacement flagsOf modeA modeB withInput driveA driveD drivenWord levelsOf rose fell edges withEdges resetOf sensedAt sensed fresh portValue registerValue afterRead startB startA entering keptFlag keptFlags writeOf wholeInstruction irqDue resetStart nmiStart irqStart startOf bytePut processorOf withInputs countA countB sentBy heardBy worked readyOf finished clockOf halts putWrite committed plainOf plains putRecord located byteAfter peripheralsRead peripheralsWritten valueRead performed inOrder completion storeAt modifyAccesses branchOn bitBranchAccesses jumpTo pushAccesses pullAccesses returnAccesses interruptReturnAccesses entryAccesses breakAccesses callAccesses operationAccesses withRead changedBy byteToStore branchTaken bitBranchTaken byteToPush withPulled withRegister withFlag instructionAccesses resetAccesses interruptAccesses
+unfolding withBit setWhere flipWhere dueCount ticksOf inForce downA countsA clockA lowerA upperA loadCounterA reloadB
+    downB clockB lowerB upperB copyB loadCounterB turnToC transmitterAsynchronous receiverAsynchronous receiverShifting
+    holdsA keepsTransmitter keepsReceiver parityBit frameBits sentBits pace startDetected withLevel receivedByte
+    wrongParity statusAfter keptWith frameEnded lookTaken looked receiveTick shiftedAtRise byteEnded receiveRise
+    receiverClock receiverWithSccr framed taken idleTick frameEnd nextPhase ticked bitTick sendTick transmitterClock
+    line shiftClock transmitterWithSccr decodeOf packed unpacked pushed memoryByte displacement flagsOf modeA modeB
+    withInput driveA driveD drivenWord levelsOf rose fell edges withEdges resetOf sensedAt sensed fresh portValue
+    registerValue afterRead startB startA entering keptFlag keptFlags writeOf wholeInstruction irqDue resetStart
+    nmiStart irqStart startOf bytePut processorOf withInputs countA countB sentBy heardBy worked readyOf finished
+    clockOf halts putWrite committed plainOf plains putRecord located byteAfter peripheralsRead peripheralsWritten
+    valueRead performed inOrder completion storeAt modifyAccesses branchOn bitBranchAccesses jumpTo pushAccesses
+    pullAccesses returnAccesses interruptReturnAccesses entryAccesses breakAccesses callAccesses operationAccesses
+    withRead changedBy byteToStore branchTaken bitBranchTaken byteToPush withPulled withRegister withFlag
+    instructionAccesses resetAccesses interruptAccesses
 p2-clocks = refl
 
-pub p2-clocks-b : tabulate (λ k. bit 5 (plains (chip Nowhere) k (timerStart 0x1C 0x1E) .state .peripherals .control .ifr)) 7 10
+pub p2-clocks-b : tabulate
+    (λ k. bit 5 (plains (chip Nowhere) k (timerStart 0x1C 0x1E) .state .peripherals .control .ifr)) 7 10
     ≡ false ∷ false ∷ false ∷ false ∷ false ∷ false ∷ true ∷ []
-unfolding withBit setWhere flipWhere dueCount ticksOf inForce downA countsA clockA lowerA upperA loadCounterA reloadB downB clockB lowerB upperB copyB loadCounterB turnToC transmitterAsynchronous receiverAsynchronous receiverShifting holdsA keepsTransmitter keepsReceiver parityBit frameBits sentBits pace startDetected withLevel receivedByte wrongParity statusAfter keptWith frameEnded lookTaken looked receiveTick shiftedAtRise byteEnded receiveRise receiverClock receiverWithSccr framed taken idleTick frameEnd nextPhase ticked bitTick sendTick transmitterClock line shiftClock transmitterWithSccr decodeOf packed unpacked pushed memoryByte displacement flagsOf modeA modeB withInput driveA driveD drivenWord levelsOf rose fell edges withEdges resetOf sensedAt sensed fresh portValue registerValue afterRead startB startA entering keptFlag keptFlags writeOf wholeInstruction irqDue resetStart nmiStart irqStart startOf bytePut processorOf withInputs countA countB sentBy heardBy worked readyOf finished clockOf halts putWrite committed plainOf plains putRecord located byteAfter peripheralsRead peripheralsWritten valueRead performed inOrder completion storeAt modifyAccesses branchOn bitBranchAccesses jumpTo pushAccesses pullAccesses returnAccesses interruptReturnAccesses entryAccesses breakAccesses callAccesses operationAccesses withRead changedBy byteToStore branchTaken bitBranchTaken byteToPush withPulled withRegister withFlag instructionAccesses resetAccesses interruptAccesses
+unfolding withBit setWhere flipWhere dueCount ticksOf inForce downA countsA clockA lowerA upperA loadCounterA reloadB
+    downB clockB lowerB upperB copyB loadCounterB turnToC transmitterAsynchronous receiverAsynchronous receiverShifting
+    holdsA keepsTransmitter keepsReceiver parityBit frameBits sentBits pace startDetected withLevel receivedByte
+    wrongParity statusAfter keptWith frameEnded lookTaken looked receiveTick shiftedAtRise byteEnded receiveRise
+    receiverClock receiverWithSccr framed taken idleTick frameEnd nextPhase ticked bitTick sendTick transmitterClock
+    line shiftClock transmitterWithSccr decodeOf packed unpacked pushed memoryByte displacement flagsOf modeA modeB
+    withInput driveA driveD drivenWord levelsOf rose fell edges withEdges resetOf sensedAt sensed fresh portValue
+    registerValue afterRead startB startA entering keptFlag keptFlags writeOf wholeInstruction irqDue resetStart
+    nmiStart irqStart startOf bytePut processorOf withInputs countA countB sentBy heardBy worked readyOf finished
+    clockOf halts putWrite committed plainOf plains putRecord located byteAfter peripheralsRead peripheralsWritten
+    valueRead performed inOrder completion storeAt modifyAccesses branchOn bitBranchAccesses jumpTo pushAccesses
+    pullAccesses returnAccesses interruptReturnAccesses entryAccesses breakAccesses callAccesses operationAccesses
+    withRead changedBy byteToStore branchTaken bitBranchTaken byteToPush withPulled withRegister withFlag
+    instructionAccesses resetAccesses interruptAccesses
 p2-clocks-b = refl
 
--- ---- P6, "one low sub-interval at the receiver: no start.": PA7 low on clocks 1 and 2, a tick on each clock, while the CPU waits
+-- ---- P6, "one low sub-interval at the receiver: no start.": PA7 low on clocks 1 and 2, a tick on each clock, while
+-- the CPU waits
 
 abbrev pub listening : ℕ → ℕ → State
 listening register received = withPeripherals (running 6) (record {
@@ -146,17 +219,41 @@ abbrev pub lineStart : ℕ → ℕ → List ℕ → World
 lineStart register received memory = startWith (listening register received) memory (1 ∷ 3 ∷ []) (7 ∷ 71 ∷ []) [] []
 
 pub p6-low : (register received : ℕ) (memory : List ℕ)
-    → plains (chip Nowhere) 2 (lineStart register received memory) .state .peripherals .receiver ≡ record { subinterval = 1; half = false; left = 0; register = register }
-unfolding withBit setWhere flipWhere dueCount ticksOf inForce downA countsA clockA lowerA upperA loadCounterA reloadB downB clockB lowerB upperB copyB loadCounterB turnToC transmitterAsynchronous receiverAsynchronous receiverShifting holdsA keepsTransmitter keepsReceiver parityBit frameBits sentBits pace startDetected withLevel receivedByte wrongParity statusAfter keptWith frameEnded lookTaken looked receiveTick shiftedAtRise byteEnded receiveRise receiverClock receiverWithSccr framed taken idleTick frameEnd nextPhase ticked bitTick sendTick transmitterClock line shiftClock transmitterWithSccr flagsOf modeA modeB withInput driveA driveD drivenWord levelsOf rose fell edges withEdges resetOf sensedAt sensed fresh withInputs countA countB sentBy heardBy worked readyOf finished clockOf halts putWrite committed bytePut processorOf plainOf plains putRecord
+    → plains (chip Nowhere) 2 (lineStart register received memory) .state .peripherals .receiver
+    ≡ record { subinterval = 1; half = false; left = 0; register = register }
+unfolding withBit setWhere flipWhere dueCount ticksOf inForce downA countsA clockA lowerA upperA loadCounterA reloadB
+    downB clockB lowerB upperB copyB loadCounterB turnToC transmitterAsynchronous receiverAsynchronous receiverShifting
+    holdsA keepsTransmitter keepsReceiver parityBit frameBits sentBits pace startDetected withLevel receivedByte
+    wrongParity statusAfter keptWith frameEnded lookTaken looked receiveTick shiftedAtRise byteEnded receiveRise
+    receiverClock receiverWithSccr framed taken idleTick frameEnd nextPhase ticked bitTick sendTick transmitterClock
+    line shiftClock transmitterWithSccr flagsOf modeA modeB withInput driveA driveD drivenWord levelsOf rose fell edges
+    withEdges resetOf sensedAt sensed fresh withInputs countA countB sentBy heardBy worked readyOf finished clockOf
+    halts putWrite committed bytePut processorOf plainOf plains putRecord
 p6-low register received memory = refl
 
 pub p6-none : (register received : ℕ) (memory : List ℕ)
-    → plains (chip Nowhere) 4 (lineStart register received memory) .state .peripherals .receiver ≡ record { subinterval = 0; half = false; left = 0; register = register }
-unfolding withBit setWhere flipWhere dueCount ticksOf inForce downA countsA clockA lowerA upperA loadCounterA reloadB downB clockB lowerB upperB copyB loadCounterB turnToC transmitterAsynchronous receiverAsynchronous receiverShifting holdsA keepsTransmitter keepsReceiver parityBit frameBits sentBits pace startDetected withLevel receivedByte wrongParity statusAfter keptWith frameEnded lookTaken looked receiveTick shiftedAtRise byteEnded receiveRise receiverClock receiverWithSccr framed taken idleTick frameEnd nextPhase ticked bitTick sendTick transmitterClock line shiftClock transmitterWithSccr flagsOf modeA modeB withInput driveA driveD drivenWord levelsOf rose fell edges withEdges resetOf sensedAt sensed fresh withInputs countA countB sentBy heardBy worked readyOf finished clockOf halts putWrite committed bytePut processorOf plainOf plains putRecord
+    → plains (chip Nowhere) 4 (lineStart register received memory) .state .peripherals .receiver
+    ≡ record { subinterval = 0; half = false; left = 0; register = register }
+unfolding withBit setWhere flipWhere dueCount ticksOf inForce downA countsA clockA lowerA upperA loadCounterA reloadB
+    downB clockB lowerB upperB copyB loadCounterB turnToC transmitterAsynchronous receiverAsynchronous receiverShifting
+    holdsA keepsTransmitter keepsReceiver parityBit frameBits sentBits pace startDetected withLevel receivedByte
+    wrongParity statusAfter keptWith frameEnded lookTaken looked receiveTick shiftedAtRise byteEnded receiveRise
+    receiverClock receiverWithSccr framed taken idleTick frameEnd nextPhase ticked bitTick sendTick transmitterClock
+    line shiftClock transmitterWithSccr flagsOf modeA modeB withInput driveA driveD drivenWord levelsOf rose fell edges
+    withEdges resetOf sensedAt sensed fresh withInputs countA countB sentBy heardBy worked readyOf finished clockOf
+    halts putWrite committed bytePut processorOf plainOf plains putRecord
 p6-none register received memory = refl
 
-pub p6-status : (register received : ℕ) (memory : List ℕ) → plains (chip Nowhere) 4 (lineStart register received memory) .state .peripherals .control .scsr ≡ 0x40
-unfolding withBit setWhere flipWhere dueCount ticksOf inForce downA countsA clockA lowerA upperA loadCounterA reloadB downB clockB lowerB upperB copyB loadCounterB turnToC transmitterAsynchronous receiverAsynchronous receiverShifting holdsA keepsTransmitter keepsReceiver parityBit frameBits sentBits pace startDetected withLevel receivedByte wrongParity statusAfter keptWith frameEnded lookTaken looked receiveTick shiftedAtRise byteEnded receiveRise receiverClock receiverWithSccr framed taken idleTick frameEnd nextPhase ticked bitTick sendTick transmitterClock line shiftClock transmitterWithSccr flagsOf modeA modeB withInput driveA driveD drivenWord levelsOf rose fell edges withEdges resetOf sensedAt sensed fresh withInputs countA countB sentBy heardBy worked readyOf finished clockOf halts putWrite committed bytePut processorOf plainOf plains putRecord
+pub p6-status : (register received : ℕ) (memory : List ℕ)
+    → plains (chip Nowhere) 4 (lineStart register received memory) .state .peripherals .control .scsr ≡ 0x40
+unfolding withBit setWhere flipWhere dueCount ticksOf inForce downA countsA clockA lowerA upperA loadCounterA reloadB
+    downB clockB lowerB upperB copyB loadCounterB turnToC transmitterAsynchronous receiverAsynchronous receiverShifting
+    holdsA keepsTransmitter keepsReceiver parityBit frameBits sentBits pace startDetected withLevel receivedByte
+    wrongParity statusAfter keptWith frameEnded lookTaken looked receiveTick shiftedAtRise byteEnded receiveRise
+    receiverClock receiverWithSccr framed taken idleTick frameEnd nextPhase ticked bitTick sendTick transmitterClock
+    line shiftClock transmitterWithSccr flagsOf modeA modeB withInput driveA driveD drivenWord levelsOf rose fell edges
+    withEdges resetOf sensedAt sensed fresh withInputs countA countB sentBy heardBy worked readyOf finished clockOf
+    halts putWrite committed bytePut processorOf plainOf plains putRecord
 p6-status register received memory = refl
 
 -- ---- P5, "41h, 8 bits, no parity, latch 0: 176 clocks from start to idle."
@@ -164,35 +261,93 @@ p6-status register received memory = refl
 -- LDA #00h, STA 18h, STA 1Ah, LDA #80h, STA 15h, LDA #41h, STA 17h, whose byte is put on clock 18, and a jump to
 -- itself
 abbrev pub senderProgram : List ℕ
-senderProgram = replicate 0x40 0 ++ (0xA9 ∷ 0x00 ∷ 0x85 ∷ 0x18 ∷ 0x85 ∷ 0x1A ∷ 0xA9 ∷ 0x80 ∷ 0x85 ∷ 0x15 ∷ 0xA9 ∷ 0x41 ∷ 0x85 ∷ 0x17 ∷ 0x4C ∷ 0x4E ∷ 0x00 ∷ [])
+senderProgram =
+    replicate 0x40 0
+    ++ (0xA9 ∷ 0x00 ∷ 0x85 ∷ 0x18 ∷ 0x85 ∷ 0x1A ∷ 0xA9 ∷ 0x80 ∷ 0x85 ∷ 0x15 ∷ 0xA9 ∷ 0x41 ∷ 0x85 ∷ 0x17 ∷ 0x4C ∷ 0x4E
+    ∷ 0x00 ∷ [])
 
 abbrev pub senderStart : World
 senderStart = startWith (running 0) senderProgram [] [] (replicate 6 0) (replicate 6 0)
 
 -- the start bit is on the line after clock 19
-pub p5-start : plains (chip Nowhere) 19 senderStart .state .peripherals .transmitter ≡ record { left = 11; phase = 0; register = 0x682 }
-unfolding withBit setWhere flipWhere dueCount ticksOf inForce downA countsA clockA lowerA upperA loadCounterA reloadB downB clockB lowerB upperB copyB loadCounterB turnToC transmitterAsynchronous receiverAsynchronous receiverShifting holdsA keepsTransmitter keepsReceiver parityBit frameBits sentBits pace startDetected withLevel receivedByte wrongParity statusAfter keptWith frameEnded lookTaken looked receiveTick shiftedAtRise byteEnded receiveRise receiverClock receiverWithSccr framed taken idleTick frameEnd nextPhase ticked bitTick sendTick transmitterClock line shiftClock transmitterWithSccr decodeOf packed unpacked pushed memoryByte displacement flagsOf modeA modeB withInput driveA driveD drivenWord levelsOf rose fell edges withEdges resetOf sensedAt sensed fresh portValue registerValue afterRead startB startA entering keptFlag keptFlags writeOf wholeInstruction irqDue resetStart nmiStart irqStart startOf bytePut processorOf withInputs countA countB sentBy heardBy worked readyOf finished clockOf halts putWrite committed plainOf plains putRecord located byteAfter peripheralsRead peripheralsWritten valueRead performed inOrder completion storeAt modifyAccesses branchOn bitBranchAccesses jumpTo pushAccesses pullAccesses returnAccesses interruptReturnAccesses entryAccesses breakAccesses callAccesses operationAccesses withRead changedBy byteToStore branchTaken bitBranchTaken byteToPush withPulled withRegister withFlag instructionAccesses resetAccesses interruptAccesses
+pub p5-start : plains (chip Nowhere) 19 senderStart .state .peripherals .transmitter
+    ≡ record { left = 11; phase = 0; register = 0x682 }
+unfolding withBit setWhere flipWhere dueCount ticksOf inForce downA countsA clockA lowerA upperA loadCounterA reloadB
+    downB clockB lowerB upperB copyB loadCounterB turnToC transmitterAsynchronous receiverAsynchronous receiverShifting
+    holdsA keepsTransmitter keepsReceiver parityBit frameBits sentBits pace startDetected withLevel receivedByte
+    wrongParity statusAfter keptWith frameEnded lookTaken looked receiveTick shiftedAtRise byteEnded receiveRise
+    receiverClock receiverWithSccr framed taken idleTick frameEnd nextPhase ticked bitTick sendTick transmitterClock
+    line shiftClock transmitterWithSccr decodeOf packed unpacked pushed memoryByte displacement flagsOf modeA modeB
+    withInput driveA driveD drivenWord levelsOf rose fell edges withEdges resetOf sensedAt sensed fresh portValue
+    registerValue afterRead startB startA entering keptFlag keptFlags writeOf wholeInstruction irqDue resetStart
+    nmiStart irqStart startOf bytePut processorOf withInputs countA countB sentBy heardBy worked readyOf finished
+    clockOf halts putWrite committed plainOf plains putRecord located byteAfter peripheralsRead peripheralsWritten
+    valueRead performed inOrder completion storeAt modifyAccesses branchOn bitBranchAccesses jumpTo pushAccesses
+    pullAccesses returnAccesses interruptReturnAccesses entryAccesses breakAccesses callAccesses operationAccesses
+    withRead changedBy byteToStore branchTaken bitBranchTaken byteToPush withPulled withRegister withFlag
+    instructionAccesses resetAccesses interruptAccesses
 p5-start = refl
 
 -- after clock 194 one bit is left, and after clock 195 it is idle, with an under-run; the line's six edges are its
 -- records
 pub p5-last-bit : plains (chip Nowhere) 194 senderStart .state .peripherals .transmitter .left ≡ 1
-unfolding withBit setWhere flipWhere dueCount ticksOf inForce downA countsA clockA lowerA upperA loadCounterA reloadB downB clockB lowerB upperB copyB loadCounterB turnToC transmitterAsynchronous receiverAsynchronous receiverShifting holdsA keepsTransmitter keepsReceiver parityBit frameBits sentBits pace startDetected withLevel receivedByte wrongParity statusAfter keptWith frameEnded lookTaken looked receiveTick shiftedAtRise byteEnded receiveRise receiverClock receiverWithSccr framed taken idleTick frameEnd nextPhase ticked bitTick sendTick transmitterClock line shiftClock transmitterWithSccr decodeOf packed unpacked pushed memoryByte displacement flagsOf modeA modeB withInput driveA driveD drivenWord levelsOf rose fell edges withEdges resetOf sensedAt sensed fresh portValue registerValue afterRead startB startA entering keptFlag keptFlags writeOf wholeInstruction irqDue resetStart nmiStart irqStart startOf bytePut processorOf withInputs countA countB sentBy heardBy worked readyOf finished clockOf halts putWrite committed plainOf plains putRecord located byteAfter peripheralsRead peripheralsWritten valueRead performed inOrder completion storeAt modifyAccesses branchOn bitBranchAccesses jumpTo pushAccesses pullAccesses returnAccesses interruptReturnAccesses entryAccesses breakAccesses callAccesses operationAccesses withRead changedBy byteToStore branchTaken bitBranchTaken byteToPush withPulled withRegister withFlag instructionAccesses resetAccesses interruptAccesses
+unfolding withBit setWhere flipWhere dueCount ticksOf inForce downA countsA clockA lowerA upperA loadCounterA reloadB
+    downB clockB lowerB upperB copyB loadCounterB turnToC transmitterAsynchronous receiverAsynchronous receiverShifting
+    holdsA keepsTransmitter keepsReceiver parityBit frameBits sentBits pace startDetected withLevel receivedByte
+    wrongParity statusAfter keptWith frameEnded lookTaken looked receiveTick shiftedAtRise byteEnded receiveRise
+    receiverClock receiverWithSccr framed taken idleTick frameEnd nextPhase ticked bitTick sendTick transmitterClock
+    line shiftClock transmitterWithSccr decodeOf packed unpacked pushed memoryByte displacement flagsOf modeA modeB
+    withInput driveA driveD drivenWord levelsOf rose fell edges withEdges resetOf sensedAt sensed fresh portValue
+    registerValue afterRead startB startA entering keptFlag keptFlags writeOf wholeInstruction irqDue resetStart
+    nmiStart irqStart startOf bytePut processorOf withInputs countA countB sentBy heardBy worked readyOf finished
+    clockOf halts putWrite committed plainOf plains putRecord located byteAfter peripheralsRead peripheralsWritten
+    valueRead performed inOrder completion storeAt modifyAccesses branchOn bitBranchAccesses jumpTo pushAccesses
+    pullAccesses returnAccesses interruptReturnAccesses entryAccesses breakAccesses callAccesses operationAccesses
+    withRead changedBy byteToStore branchTaken bitBranchTaken byteToPush withPulled withRegister withFlag
+    instructionAccesses resetAccesses interruptAccesses
 p5-last-bit = refl
 
 pub p5-idle : plains (chip Nowhere) 195 senderStart .state .peripherals .transmitter ≡ idleTransmitter
-unfolding withBit setWhere flipWhere dueCount ticksOf inForce downA countsA clockA lowerA upperA loadCounterA reloadB downB clockB lowerB upperB copyB loadCounterB turnToC transmitterAsynchronous receiverAsynchronous receiverShifting holdsA keepsTransmitter keepsReceiver parityBit frameBits sentBits pace startDetected withLevel receivedByte wrongParity statusAfter keptWith frameEnded lookTaken looked receiveTick shiftedAtRise byteEnded receiveRise receiverClock receiverWithSccr framed taken idleTick frameEnd nextPhase ticked bitTick sendTick transmitterClock line shiftClock transmitterWithSccr decodeOf packed unpacked pushed memoryByte displacement flagsOf modeA modeB withInput driveA driveD drivenWord levelsOf rose fell edges withEdges resetOf sensedAt sensed fresh portValue registerValue afterRead startB startA entering keptFlag keptFlags writeOf wholeInstruction irqDue resetStart nmiStart irqStart startOf bytePut processorOf withInputs countA countB sentBy heardBy worked readyOf finished clockOf halts putWrite committed plainOf plains putRecord located byteAfter peripheralsRead peripheralsWritten valueRead performed inOrder completion storeAt modifyAccesses branchOn bitBranchAccesses jumpTo pushAccesses pullAccesses returnAccesses interruptReturnAccesses entryAccesses breakAccesses callAccesses operationAccesses withRead changedBy byteToStore branchTaken bitBranchTaken byteToPush withPulled withRegister withFlag instructionAccesses resetAccesses interruptAccesses
+unfolding withBit setWhere flipWhere dueCount ticksOf inForce downA countsA clockA lowerA upperA loadCounterA reloadB
+    downB clockB lowerB upperB copyB loadCounterB turnToC transmitterAsynchronous receiverAsynchronous receiverShifting
+    holdsA keepsTransmitter keepsReceiver parityBit frameBits sentBits pace startDetected withLevel receivedByte
+    wrongParity statusAfter keptWith frameEnded lookTaken looked receiveTick shiftedAtRise byteEnded receiveRise
+    receiverClock receiverWithSccr framed taken idleTick frameEnd nextPhase ticked bitTick sendTick transmitterClock
+    line shiftClock transmitterWithSccr decodeOf packed unpacked pushed memoryByte displacement flagsOf modeA modeB
+    withInput driveA driveD drivenWord levelsOf rose fell edges withEdges resetOf sensedAt sensed fresh portValue
+    registerValue afterRead startB startA entering keptFlag keptFlags writeOf wholeInstruction irqDue resetStart
+    nmiStart irqStart startOf bytePut processorOf withInputs countA countB sentBy heardBy worked readyOf finished
+    clockOf halts putWrite committed plainOf plains putRecord located byteAfter peripheralsRead peripheralsWritten
+    valueRead performed inOrder completion storeAt modifyAccesses branchOn bitBranchAccesses jumpTo pushAccesses
+    pullAccesses returnAccesses interruptReturnAccesses entryAccesses breakAccesses callAccesses operationAccesses
+    withRead changedBy byteToStore branchTaken bitBranchTaken byteToPush withPulled withRegister withFlag
+    instructionAccesses resetAccesses interruptAccesses
 p5-idle = refl
 
 pub p5-edges : plains (chip Nowhere) 195 senderStart .outputClocks ≡ 19 ∷ 35 ∷ 51 ∷ 131 ∷ 147 ∷ 163 ∷ []
-unfolding withBit setWhere flipWhere dueCount ticksOf inForce downA countsA clockA lowerA upperA loadCounterA reloadB downB clockB lowerB upperB copyB loadCounterB turnToC transmitterAsynchronous receiverAsynchronous receiverShifting holdsA keepsTransmitter keepsReceiver parityBit frameBits sentBits pace startDetected withLevel receivedByte wrongParity statusAfter keptWith frameEnded lookTaken looked receiveTick shiftedAtRise byteEnded receiveRise receiverClock receiverWithSccr framed taken idleTick frameEnd nextPhase ticked bitTick sendTick transmitterClock line shiftClock transmitterWithSccr decodeOf packed unpacked pushed memoryByte displacement flagsOf modeA modeB withInput driveA driveD drivenWord levelsOf rose fell edges withEdges resetOf sensedAt sensed fresh portValue registerValue afterRead startB startA entering keptFlag keptFlags writeOf wholeInstruction irqDue resetStart nmiStart irqStart startOf bytePut processorOf withInputs countA countB sentBy heardBy worked readyOf finished clockOf halts putWrite committed plainOf plains putRecord located byteAfter peripheralsRead peripheralsWritten valueRead performed inOrder completion storeAt modifyAccesses branchOn bitBranchAccesses jumpTo pushAccesses pullAccesses returnAccesses interruptReturnAccesses entryAccesses breakAccesses callAccesses operationAccesses withRead changedBy byteToStore branchTaken bitBranchTaken byteToPush withPulled withRegister withFlag instructionAccesses resetAccesses interruptAccesses
+unfolding withBit setWhere flipWhere dueCount ticksOf inForce downA countsA clockA lowerA upperA loadCounterA reloadB
+    downB clockB lowerB upperB copyB loadCounterB turnToC transmitterAsynchronous receiverAsynchronous receiverShifting
+    holdsA keepsTransmitter keepsReceiver parityBit frameBits sentBits pace startDetected withLevel receivedByte
+    wrongParity statusAfter keptWith frameEnded lookTaken looked receiveTick shiftedAtRise byteEnded receiveRise
+    receiverClock receiverWithSccr framed taken idleTick frameEnd nextPhase ticked bitTick sendTick transmitterClock
+    line shiftClock transmitterWithSccr decodeOf packed unpacked pushed memoryByte displacement flagsOf modeA modeB
+    withInput driveA driveD drivenWord levelsOf rose fell edges withEdges resetOf sensedAt sensed fresh portValue
+    registerValue afterRead startB startA entering keptFlag keptFlags writeOf wholeInstruction irqDue resetStart
+    nmiStart irqStart startOf bytePut processorOf withInputs countA countB sentBy heardBy worked readyOf finished
+    clockOf halts putWrite committed plainOf plains putRecord located byteAfter peripheralsRead peripheralsWritten
+    valueRead performed inOrder completion storeAt modifyAccesses branchOn bitBranchAccesses jumpTo pushAccesses
+    pullAccesses returnAccesses interruptReturnAccesses entryAccesses breakAccesses callAccesses operationAccesses
+    withRead changedBy byteToStore branchTaken bitBranchTaken byteToPush withPulled withRegister withFlag
+    instructionAccesses resetAccesses interruptAccesses
 p5-edges = refl
 
 -- ---- 02, U4: document 01's tape with the halt address 0000h, from fresh, with RES high on clock 1
 
 -- LDA #55h, STA 00h and a jump to itself at 0200h; the reset vector
 abbrev pub tapeMemory : List ℕ
-tapeMemory = replicate 0x200 0 ++ (0xA9 ∷ 0x55 ∷ 0x85 ∷ 0x00 ∷ 0x4C ∷ 0x04 ∷ 0x02 ∷ []) ++ replicate 0xFDF5 0 ++ (0x00 ∷ 0x02 ∷ 0x00 ∷ 0x00 ∷ [])
+tapeMemory =
+    replicate 0x200 0 ++ (0xA9 ∷ 0x55 ∷ 0x85 ∷ 0x00 ∷ 0x4C ∷ 0x04 ∷ 0x02 ∷ []) ++ replicate 0xFDF5 0
+    ++ (0x00 ∷ 0x02 ∷ 0x00 ∷ 0x00 ∷ [])
 
 -- with so many free records
 abbrev pub tapeStart : ℕ → World
@@ -203,45 +358,164 @@ abbrev pub reached : World → List ℕ
 reached w = w .stop ∷ w .state .clock ∷ w .state .cpu .wait ∷ w .written ∷ []
 
 pub halt-reached : reached (plains (chip (At 0)) 100 (tapeStart 1)) ≡ 12 ∷ 12 ∷ 0 ∷ 1 ∷ []
-unfolding withBit setWhere flipWhere dueCount ticksOf inForce downA countsA clockA lowerA upperA loadCounterA reloadB downB clockB lowerB upperB copyB loadCounterB turnToC transmitterAsynchronous receiverAsynchronous receiverShifting holdsA keepsTransmitter keepsReceiver parityBit frameBits sentBits pace startDetected withLevel receivedByte wrongParity statusAfter keptWith frameEnded lookTaken looked receiveTick shiftedAtRise byteEnded receiveRise receiverClock receiverWithSccr framed taken idleTick frameEnd nextPhase ticked bitTick sendTick transmitterClock line shiftClock transmitterWithSccr decodeOf packed unpacked pushed memoryByte displacement flagsOf modeA modeB withInput driveA driveD drivenWord levelsOf rose fell edges withEdges resetOf sensedAt sensed fresh portValue registerValue afterRead startB startA entering keptFlag keptFlags writeOf wholeInstruction irqDue resetStart nmiStart irqStart startOf bytePut processorOf withInputs countA countB sentBy heardBy worked readyOf finished clockOf isWritten halts putWrite committed plainOf plains putRecord located byteAfter peripheralsRead peripheralsWritten valueRead performed inOrder completion storeAt modifyAccesses branchOn bitBranchAccesses jumpTo pushAccesses pullAccesses returnAccesses interruptReturnAccesses entryAccesses breakAccesses callAccesses operationAccesses withRead changedBy byteToStore branchTaken bitBranchTaken byteToPush withPulled withRegister withFlag instructionAccesses resetAccesses interruptAccesses
+unfolding withBit setWhere flipWhere dueCount ticksOf inForce downA countsA clockA lowerA upperA loadCounterA reloadB
+    downB clockB lowerB upperB copyB loadCounterB turnToC transmitterAsynchronous receiverAsynchronous receiverShifting
+    holdsA keepsTransmitter keepsReceiver parityBit frameBits sentBits pace startDetected withLevel receivedByte
+    wrongParity statusAfter keptWith frameEnded lookTaken looked receiveTick shiftedAtRise byteEnded receiveRise
+    receiverClock receiverWithSccr framed taken idleTick frameEnd nextPhase ticked bitTick sendTick transmitterClock
+    line shiftClock transmitterWithSccr decodeOf packed unpacked pushed memoryByte displacement flagsOf modeA modeB
+    withInput driveA driveD drivenWord levelsOf rose fell edges withEdges resetOf sensedAt sensed fresh portValue
+    registerValue afterRead startB startA entering keptFlag keptFlags writeOf wholeInstruction irqDue resetStart
+    nmiStart irqStart startOf bytePut processorOf withInputs countA countB sentBy heardBy worked readyOf finished
+    clockOf isWritten halts putWrite committed plainOf plains putRecord located byteAfter peripheralsRead
+    peripheralsWritten valueRead performed inOrder completion storeAt modifyAccesses branchOn bitBranchAccesses jumpTo
+    pushAccesses pullAccesses returnAccesses interruptReturnAccesses entryAccesses breakAccesses callAccesses
+    operationAccesses withRead changedBy byteToStore branchTaken bitBranchTaken byteToPush withPulled withRegister
+    withFlag instructionAccesses resetAccesses interruptAccesses
 halt-reached = refl
 
 -- the halted leap is done and counted: event clocks 1, 8, 10 and 12
 pub halt-leaps : leapCount (chip (At 0)) 100 (tapeStart 1) ≡ 4
-unfolding withBit setWhere flipWhere dueCount ticksOf inForce downA countsA clockA lowerA upperA loadCounterA reloadB downB clockB lowerB upperB copyB loadCounterB turnToC transmitterAsynchronous receiverAsynchronous receiverShifting holdsA keepsTransmitter keepsReceiver parityBit frameBits sentBits pace startDetected withLevel receivedByte wrongParity statusAfter keptWith frameEnded lookTaken looked receiveTick shiftedAtRise byteEnded receiveRise receiverClock receiverWithSccr framed taken idleTick frameEnd nextPhase ticked bitTick sendTick transmitterClock line shiftClock transmitterWithSccr decodeOf packed unpacked pushed memoryByte displacement flagsOf modeA modeB withInput driveA driveD drivenWord levelsOf rose fell edges withEdges resetOf sensedAt sensed fresh portValue registerValue afterRead startB startA entering keptFlag keptFlags writeOf wholeInstruction irqDue resetStart nmiStart irqStart startOf bytePut processorOf withInputs countA countB sentBy heardBy worked readyOf finished clockOf isWritten halts putWrite committed plainOf plains putRecord eventsIn quietEnd trace leapCount doneIn eventIn hasInput sameLevels levelsChange underflowsA underflowsB portsFresh controlFresh transmitterIdle receiverIdle isReset resetChanges cpuStarts putsByte byteWaits eventOf located byteAfter peripheralsRead peripheralsWritten valueRead performed inOrder completion storeAt modifyAccesses branchOn bitBranchAccesses jumpTo pushAccesses pullAccesses returnAccesses interruptReturnAccesses entryAccesses breakAccesses callAccesses operationAccesses withRead changedBy byteToStore branchTaken bitBranchTaken byteToPush withPulled withRegister withFlag instructionAccesses resetAccesses interruptAccesses
+unfolding withBit setWhere flipWhere dueCount ticksOf inForce downA countsA clockA lowerA upperA loadCounterA reloadB
+    downB clockB lowerB upperB copyB loadCounterB turnToC transmitterAsynchronous receiverAsynchronous receiverShifting
+    holdsA keepsTransmitter keepsReceiver parityBit frameBits sentBits pace startDetected withLevel receivedByte
+    wrongParity statusAfter keptWith frameEnded lookTaken looked receiveTick shiftedAtRise byteEnded receiveRise
+    receiverClock receiverWithSccr framed taken idleTick frameEnd nextPhase ticked bitTick sendTick transmitterClock
+    line shiftClock transmitterWithSccr decodeOf packed unpacked pushed memoryByte displacement flagsOf modeA modeB
+    withInput driveA driveD drivenWord levelsOf rose fell edges withEdges resetOf sensedAt sensed fresh portValue
+    registerValue afterRead startB startA entering keptFlag keptFlags writeOf wholeInstruction irqDue resetStart
+    nmiStart irqStart startOf bytePut processorOf withInputs countA countB sentBy heardBy worked readyOf finished
+    clockOf isWritten halts putWrite committed plainOf plains putRecord eventsIn quietEnd trace leapCount doneIn eventIn
+    hasInput sameLevels levelsChange underflowsA underflowsB portsFresh controlFresh transmitterIdle receiverIdle
+    isReset resetChanges cpuStarts putsByte byteWaits eventOf located byteAfter peripheralsRead peripheralsWritten
+    valueRead performed inOrder completion storeAt modifyAccesses branchOn bitBranchAccesses jumpTo pushAccesses
+    pullAccesses returnAccesses interruptReturnAccesses entryAccesses breakAccesses callAccesses operationAccesses
+    withRead changedBy byteToStore branchTaken bitBranchTaken byteToPush withPulled withRegister withFlag
+    instructionAccesses resetAccesses interruptAccesses
 halt-leaps = refl
 
 -- 12 "also where that clock is the run's last", 0 where the run ends before it
 pub halt-last : reached (plains (chip (At 0)) 12 (tapeStart 1)) ≡ 12 ∷ 12 ∷ 0 ∷ 1 ∷ []
-unfolding withBit setWhere flipWhere dueCount ticksOf inForce downA countsA clockA lowerA upperA loadCounterA reloadB downB clockB lowerB upperB copyB loadCounterB turnToC transmitterAsynchronous receiverAsynchronous receiverShifting holdsA keepsTransmitter keepsReceiver parityBit frameBits sentBits pace startDetected withLevel receivedByte wrongParity statusAfter keptWith frameEnded lookTaken looked receiveTick shiftedAtRise byteEnded receiveRise receiverClock receiverWithSccr framed taken idleTick frameEnd nextPhase ticked bitTick sendTick transmitterClock line shiftClock transmitterWithSccr decodeOf packed unpacked pushed memoryByte displacement flagsOf modeA modeB withInput driveA driveD drivenWord levelsOf rose fell edges withEdges resetOf sensedAt sensed fresh portValue registerValue afterRead startB startA entering keptFlag keptFlags writeOf wholeInstruction irqDue resetStart nmiStart irqStart startOf bytePut processorOf withInputs countA countB sentBy heardBy worked readyOf finished clockOf isWritten halts putWrite committed plainOf plains putRecord located byteAfter peripheralsRead peripheralsWritten valueRead performed inOrder completion storeAt modifyAccesses branchOn bitBranchAccesses jumpTo pushAccesses pullAccesses returnAccesses interruptReturnAccesses entryAccesses breakAccesses callAccesses operationAccesses withRead changedBy byteToStore branchTaken bitBranchTaken byteToPush withPulled withRegister withFlag instructionAccesses resetAccesses interruptAccesses
+unfolding withBit setWhere flipWhere dueCount ticksOf inForce downA countsA clockA lowerA upperA loadCounterA reloadB
+    downB clockB lowerB upperB copyB loadCounterB turnToC transmitterAsynchronous receiverAsynchronous receiverShifting
+    holdsA keepsTransmitter keepsReceiver parityBit frameBits sentBits pace startDetected withLevel receivedByte
+    wrongParity statusAfter keptWith frameEnded lookTaken looked receiveTick shiftedAtRise byteEnded receiveRise
+    receiverClock receiverWithSccr framed taken idleTick frameEnd nextPhase ticked bitTick sendTick transmitterClock
+    line shiftClock transmitterWithSccr decodeOf packed unpacked pushed memoryByte displacement flagsOf modeA modeB
+    withInput driveA driveD drivenWord levelsOf rose fell edges withEdges resetOf sensedAt sensed fresh portValue
+    registerValue afterRead startB startA entering keptFlag keptFlags writeOf wholeInstruction irqDue resetStart
+    nmiStart irqStart startOf bytePut processorOf withInputs countA countB sentBy heardBy worked readyOf finished
+    clockOf isWritten halts putWrite committed plainOf plains putRecord located byteAfter peripheralsRead
+    peripheralsWritten valueRead performed inOrder completion storeAt modifyAccesses branchOn bitBranchAccesses jumpTo
+    pushAccesses pullAccesses returnAccesses interruptReturnAccesses entryAccesses breakAccesses callAccesses
+    operationAccesses withRead changedBy byteToStore branchTaken bitBranchTaken byteToPush withPulled withRegister
+    withFlag instructionAccesses resetAccesses interruptAccesses
 halt-last = refl
 
 pub halt-before : reached (plains (chip (At 0)) 11 (tapeStart 1)) ≡ 0 ∷ 11 ∷ 1 ∷ 0 ∷ []
-unfolding withBit setWhere flipWhere dueCount ticksOf inForce downA countsA clockA lowerA upperA loadCounterA reloadB downB clockB lowerB upperB copyB loadCounterB turnToC transmitterAsynchronous receiverAsynchronous receiverShifting holdsA keepsTransmitter keepsReceiver parityBit frameBits sentBits pace startDetected withLevel receivedByte wrongParity statusAfter keptWith frameEnded lookTaken looked receiveTick shiftedAtRise byteEnded receiveRise receiverClock receiverWithSccr framed taken idleTick frameEnd nextPhase ticked bitTick sendTick transmitterClock line shiftClock transmitterWithSccr decodeOf packed unpacked pushed memoryByte displacement flagsOf modeA modeB withInput driveA driveD drivenWord levelsOf rose fell edges withEdges resetOf sensedAt sensed fresh portValue registerValue afterRead startB startA entering keptFlag keptFlags writeOf wholeInstruction irqDue resetStart nmiStart irqStart startOf bytePut processorOf withInputs countA countB sentBy heardBy worked readyOf finished clockOf isWritten halts putWrite committed plainOf plains putRecord located byteAfter peripheralsRead peripheralsWritten valueRead performed inOrder completion storeAt modifyAccesses branchOn bitBranchAccesses jumpTo pushAccesses pullAccesses returnAccesses interruptReturnAccesses entryAccesses breakAccesses callAccesses operationAccesses withRead changedBy byteToStore branchTaken bitBranchTaken byteToPush withPulled withRegister withFlag instructionAccesses resetAccesses interruptAccesses
+unfolding withBit setWhere flipWhere dueCount ticksOf inForce downA countsA clockA lowerA upperA loadCounterA reloadB
+    downB clockB lowerB upperB copyB loadCounterB turnToC transmitterAsynchronous receiverAsynchronous receiverShifting
+    holdsA keepsTransmitter keepsReceiver parityBit frameBits sentBits pace startDetected withLevel receivedByte
+    wrongParity statusAfter keptWith frameEnded lookTaken looked receiveTick shiftedAtRise byteEnded receiveRise
+    receiverClock receiverWithSccr framed taken idleTick frameEnd nextPhase ticked bitTick sendTick transmitterClock
+    line shiftClock transmitterWithSccr decodeOf packed unpacked pushed memoryByte displacement flagsOf modeA modeB
+    withInput driveA driveD drivenWord levelsOf rose fell edges withEdges resetOf sensedAt sensed fresh portValue
+    registerValue afterRead startB startA entering keptFlag keptFlags writeOf wholeInstruction irqDue resetStart
+    nmiStart irqStart startOf bytePut processorOf withInputs countA countB sentBy heardBy worked readyOf finished
+    clockOf isWritten halts putWrite committed plainOf plains putRecord located byteAfter peripheralsRead
+    peripheralsWritten valueRead performed inOrder completion storeAt modifyAccesses branchOn bitBranchAccesses jumpTo
+    pushAccesses pullAccesses returnAccesses interruptReturnAccesses entryAccesses breakAccesses callAccesses
+    operationAccesses withRead changedBy byteToStore branchTaken bitBranchTaken byteToPush withPulled withRegister
+    withFlag instructionAccesses resetAccesses interruptAccesses
 halt-before = refl
 
 -- "6 and 7 for that same clock come first"
 pub halt-full : reached (plains (chip (At 0)) 100 (tapeStart 0)) ≡ 7 ∷ 11 ∷ 1 ∷ 0 ∷ []
-unfolding withBit setWhere flipWhere dueCount ticksOf inForce downA countsA clockA lowerA upperA loadCounterA reloadB downB clockB lowerB upperB copyB loadCounterB turnToC transmitterAsynchronous receiverAsynchronous receiverShifting holdsA keepsTransmitter keepsReceiver parityBit frameBits sentBits pace startDetected withLevel receivedByte wrongParity statusAfter keptWith frameEnded lookTaken looked receiveTick shiftedAtRise byteEnded receiveRise receiverClock receiverWithSccr framed taken idleTick frameEnd nextPhase ticked bitTick sendTick transmitterClock line shiftClock transmitterWithSccr decodeOf packed unpacked pushed memoryByte displacement flagsOf modeA modeB withInput driveA driveD drivenWord levelsOf rose fell edges withEdges resetOf sensedAt sensed fresh portValue registerValue afterRead startB startA entering keptFlag keptFlags writeOf wholeInstruction irqDue resetStart nmiStart irqStart startOf bytePut processorOf withInputs countA countB sentBy heardBy worked readyOf finished clockOf isWritten halts putWrite committed plainOf plains putRecord located byteAfter peripheralsRead peripheralsWritten valueRead performed inOrder completion storeAt modifyAccesses branchOn bitBranchAccesses jumpTo pushAccesses pullAccesses returnAccesses interruptReturnAccesses entryAccesses breakAccesses callAccesses operationAccesses withRead changedBy byteToStore branchTaken bitBranchTaken byteToPush withPulled withRegister withFlag instructionAccesses resetAccesses interruptAccesses
+unfolding withBit setWhere flipWhere dueCount ticksOf inForce downA countsA clockA lowerA upperA loadCounterA reloadB
+    downB clockB lowerB upperB copyB loadCounterB turnToC transmitterAsynchronous receiverAsynchronous receiverShifting
+    holdsA keepsTransmitter keepsReceiver parityBit frameBits sentBits pace startDetected withLevel receivedByte
+    wrongParity statusAfter keptWith frameEnded lookTaken looked receiveTick shiftedAtRise byteEnded receiveRise
+    receiverClock receiverWithSccr framed taken idleTick frameEnd nextPhase ticked bitTick sendTick transmitterClock
+    line shiftClock transmitterWithSccr decodeOf packed unpacked pushed memoryByte displacement flagsOf modeA modeB
+    withInput driveA driveD drivenWord levelsOf rose fell edges withEdges resetOf sensedAt sensed fresh portValue
+    registerValue afterRead startB startA entering keptFlag keptFlags writeOf wholeInstruction irqDue resetStart
+    nmiStart irqStart startOf bytePut processorOf withInputs countA countB sentBy heardBy worked readyOf finished
+    clockOf isWritten halts putWrite committed plainOf plains putRecord located byteAfter peripheralsRead
+    peripheralsWritten valueRead performed inOrder completion storeAt modifyAccesses branchOn bitBranchAccesses jumpTo
+    pushAccesses pullAccesses returnAccesses interruptReturnAccesses entryAccesses breakAccesses callAccesses
+    operationAccesses withRead changedBy byteToStore branchTaken bitBranchTaken byteToPush withPulled withRegister
+    withFlag instructionAccesses resetAccesses interruptAccesses
 halt-full = refl
 
 -- 02, U6: "The `replay` example's first line becomes `12 FFFFFF55`": its one record with no halt address
 pub tape-record : plains (chip Nowhere) 100 (tapeStart 2) .outputClocks ≡ 12 ∷ 0 ∷ []
-unfolding withBit setWhere flipWhere dueCount ticksOf inForce downA countsA clockA lowerA upperA loadCounterA reloadB downB clockB lowerB upperB copyB loadCounterB turnToC transmitterAsynchronous receiverAsynchronous receiverShifting holdsA keepsTransmitter keepsReceiver parityBit frameBits sentBits pace startDetected withLevel receivedByte wrongParity statusAfter keptWith frameEnded lookTaken looked receiveTick shiftedAtRise byteEnded receiveRise receiverClock receiverWithSccr framed taken idleTick frameEnd nextPhase ticked bitTick sendTick transmitterClock line shiftClock transmitterWithSccr decodeOf packed unpacked pushed memoryByte displacement flagsOf modeA modeB withInput driveA driveD drivenWord levelsOf rose fell edges withEdges resetOf sensedAt sensed fresh portValue registerValue afterRead startB startA entering keptFlag keptFlags writeOf wholeInstruction irqDue resetStart nmiStart irqStart startOf bytePut processorOf withInputs countA countB sentBy heardBy worked readyOf finished clockOf isWritten halts putWrite committed plainOf plains putRecord located byteAfter peripheralsRead peripheralsWritten valueRead performed inOrder completion storeAt modifyAccesses branchOn bitBranchAccesses jumpTo pushAccesses pullAccesses returnAccesses interruptReturnAccesses entryAccesses breakAccesses callAccesses operationAccesses withRead changedBy byteToStore branchTaken bitBranchTaken byteToPush withPulled withRegister withFlag instructionAccesses resetAccesses interruptAccesses
+unfolding withBit setWhere flipWhere dueCount ticksOf inForce downA countsA clockA lowerA upperA loadCounterA reloadB
+    downB clockB lowerB upperB copyB loadCounterB turnToC transmitterAsynchronous receiverAsynchronous receiverShifting
+    holdsA keepsTransmitter keepsReceiver parityBit frameBits sentBits pace startDetected withLevel receivedByte
+    wrongParity statusAfter keptWith frameEnded lookTaken looked receiveTick shiftedAtRise byteEnded receiveRise
+    receiverClock receiverWithSccr framed taken idleTick frameEnd nextPhase ticked bitTick sendTick transmitterClock
+    line shiftClock transmitterWithSccr decodeOf packed unpacked pushed memoryByte displacement flagsOf modeA modeB
+    withInput driveA driveD drivenWord levelsOf rose fell edges withEdges resetOf sensedAt sensed fresh portValue
+    registerValue afterRead startB startA entering keptFlag keptFlags writeOf wholeInstruction irqDue resetStart
+    nmiStart irqStart startOf bytePut processorOf withInputs countA countB sentBy heardBy worked readyOf finished
+    clockOf isWritten halts putWrite committed plainOf plains putRecord located byteAfter peripheralsRead
+    peripheralsWritten valueRead performed inOrder completion storeAt modifyAccesses branchOn bitBranchAccesses jumpTo
+    pushAccesses pullAccesses returnAccesses interruptReturnAccesses entryAccesses breakAccesses callAccesses
+    operationAccesses withRead changedBy byteToStore branchTaken bitBranchTaken byteToPush withPulled withRegister
+    withFlag instructionAccesses resetAccesses interruptAccesses
 tape-record = refl
 
 pub tape-word : plains (chip Nowhere) 100 (tapeStart 2) .outputWords ≡ 0xFFFFFF55 ∷ 0 ∷ []
-unfolding withBit setWhere flipWhere dueCount ticksOf inForce downA countsA clockA lowerA upperA loadCounterA reloadB downB clockB lowerB upperB copyB loadCounterB turnToC transmitterAsynchronous receiverAsynchronous receiverShifting holdsA keepsTransmitter keepsReceiver parityBit frameBits sentBits pace startDetected withLevel receivedByte wrongParity statusAfter keptWith frameEnded lookTaken looked receiveTick shiftedAtRise byteEnded receiveRise receiverClock receiverWithSccr framed taken idleTick frameEnd nextPhase ticked bitTick sendTick transmitterClock line shiftClock transmitterWithSccr decodeOf packed unpacked pushed memoryByte displacement flagsOf modeA modeB withInput driveA driveD drivenWord levelsOf rose fell edges withEdges resetOf sensedAt sensed fresh portValue registerValue afterRead startB startA entering keptFlag keptFlags writeOf wholeInstruction irqDue resetStart nmiStart irqStart startOf bytePut processorOf withInputs countA countB sentBy heardBy worked readyOf finished clockOf isWritten halts putWrite committed plainOf plains putRecord located byteAfter peripheralsRead peripheralsWritten valueRead performed inOrder completion storeAt modifyAccesses branchOn bitBranchAccesses jumpTo pushAccesses pullAccesses returnAccesses interruptReturnAccesses entryAccesses breakAccesses callAccesses operationAccesses withRead changedBy byteToStore branchTaken bitBranchTaken byteToPush withPulled withRegister withFlag instructionAccesses resetAccesses interruptAccesses
+unfolding withBit setWhere flipWhere dueCount ticksOf inForce downA countsA clockA lowerA upperA loadCounterA reloadB
+    downB clockB lowerB upperB copyB loadCounterB turnToC transmitterAsynchronous receiverAsynchronous receiverShifting
+    holdsA keepsTransmitter keepsReceiver parityBit frameBits sentBits pace startDetected withLevel receivedByte
+    wrongParity statusAfter keptWith frameEnded lookTaken looked receiveTick shiftedAtRise byteEnded receiveRise
+    receiverClock receiverWithSccr framed taken idleTick frameEnd nextPhase ticked bitTick sendTick transmitterClock
+    line shiftClock transmitterWithSccr decodeOf packed unpacked pushed memoryByte displacement flagsOf modeA modeB
+    withInput driveA driveD drivenWord levelsOf rose fell edges withEdges resetOf sensedAt sensed fresh portValue
+    registerValue afterRead startB startA entering keptFlag keptFlags writeOf wholeInstruction irqDue resetStart
+    nmiStart irqStart startOf bytePut processorOf withInputs countA countB sentBy heardBy worked readyOf finished
+    clockOf isWritten halts putWrite committed plainOf plains putRecord located byteAfter peripheralsRead
+    peripheralsWritten valueRead performed inOrder completion storeAt modifyAccesses branchOn bitBranchAccesses jumpTo
+    pushAccesses pullAccesses returnAccesses interruptReturnAccesses entryAccesses breakAccesses callAccesses
+    operationAccesses withRead changedBy byteToStore branchTaken bitBranchTaken byteToPush withPulled withRegister
+    withFlag instructionAccesses resetAccesses interruptAccesses
 tape-word = refl
 
 -- 02, U6: on clocks 10 and 11 the byte of STA 00h waits; on clock 12, where no record is free, it still does
 pub halt-waiting : tabulate (λ k. plains (chip (At 0)) k (tapeStart 1) .state .cpu .waiting) 4 9
     ≡ Nothing ∷ Byte (writeAt 0x0000 0x55) ∷ Byte (writeAt 0x0000 0x55) ∷ Nothing ∷ []
-unfolding withBit setWhere flipWhere dueCount ticksOf inForce downA countsA clockA lowerA upperA loadCounterA reloadB downB clockB lowerB upperB copyB loadCounterB turnToC transmitterAsynchronous receiverAsynchronous receiverShifting holdsA keepsTransmitter keepsReceiver parityBit frameBits sentBits pace startDetected withLevel receivedByte wrongParity statusAfter keptWith frameEnded lookTaken looked receiveTick shiftedAtRise byteEnded receiveRise receiverClock receiverWithSccr framed taken idleTick frameEnd nextPhase ticked bitTick sendTick transmitterClock line shiftClock transmitterWithSccr decodeOf packed unpacked pushed memoryByte displacement flagsOf modeA modeB withInput driveA driveD drivenWord levelsOf rose fell edges withEdges resetOf sensedAt sensed fresh portValue registerValue afterRead startB startA entering keptFlag keptFlags writeOf wholeInstruction irqDue resetStart nmiStart irqStart startOf bytePut processorOf withInputs countA countB sentBy heardBy worked readyOf finished clockOf isWritten halts putWrite committed plainOf plains putRecord located byteAfter peripheralsRead peripheralsWritten valueRead performed inOrder completion storeAt modifyAccesses branchOn bitBranchAccesses jumpTo pushAccesses pullAccesses returnAccesses interruptReturnAccesses entryAccesses breakAccesses callAccesses operationAccesses withRead changedBy byteToStore branchTaken bitBranchTaken byteToPush withPulled withRegister withFlag instructionAccesses resetAccesses interruptAccesses
+unfolding withBit setWhere flipWhere dueCount ticksOf inForce downA countsA clockA lowerA upperA loadCounterA reloadB
+    downB clockB lowerB upperB copyB loadCounterB turnToC transmitterAsynchronous receiverAsynchronous receiverShifting
+    holdsA keepsTransmitter keepsReceiver parityBit frameBits sentBits pace startDetected withLevel receivedByte
+    wrongParity statusAfter keptWith frameEnded lookTaken looked receiveTick shiftedAtRise byteEnded receiveRise
+    receiverClock receiverWithSccr framed taken idleTick frameEnd nextPhase ticked bitTick sendTick transmitterClock
+    line shiftClock transmitterWithSccr decodeOf packed unpacked pushed memoryByte displacement flagsOf modeA modeB
+    withInput driveA driveD drivenWord levelsOf rose fell edges withEdges resetOf sensedAt sensed fresh portValue
+    registerValue afterRead startB startA entering keptFlag keptFlags writeOf wholeInstruction irqDue resetStart
+    nmiStart irqStart startOf bytePut processorOf withInputs countA countB sentBy heardBy worked readyOf finished
+    clockOf isWritten halts putWrite committed plainOf plains putRecord located byteAfter peripheralsRead
+    peripheralsWritten valueRead performed inOrder completion storeAt modifyAccesses branchOn bitBranchAccesses jumpTo
+    pushAccesses pullAccesses returnAccesses interruptReturnAccesses entryAccesses breakAccesses callAccesses
+    operationAccesses withRead changedBy byteToStore branchTaken bitBranchTaken byteToPush withPulled withRegister
+    withFlag instructionAccesses resetAccesses interruptAccesses
 halt-waiting = refl
 
 pub full-waiting : plains (chip (At 0)) 100 (tapeStart 0) .state .cpu .waiting ≡ Byte (writeAt 0x0000 0x55)
-unfolding withBit setWhere flipWhere dueCount ticksOf inForce downA countsA clockA lowerA upperA loadCounterA reloadB downB clockB lowerB upperB copyB loadCounterB turnToC transmitterAsynchronous receiverAsynchronous receiverShifting holdsA keepsTransmitter keepsReceiver parityBit frameBits sentBits pace startDetected withLevel receivedByte wrongParity statusAfter keptWith frameEnded lookTaken looked receiveTick shiftedAtRise byteEnded receiveRise receiverClock receiverWithSccr framed taken idleTick frameEnd nextPhase ticked bitTick sendTick transmitterClock line shiftClock transmitterWithSccr decodeOf packed unpacked pushed memoryByte displacement flagsOf modeA modeB withInput driveA driveD drivenWord levelsOf rose fell edges withEdges resetOf sensedAt sensed fresh portValue registerValue afterRead startB startA entering keptFlag keptFlags writeOf wholeInstruction irqDue resetStart nmiStart irqStart startOf bytePut processorOf withInputs countA countB sentBy heardBy worked readyOf finished clockOf isWritten halts putWrite committed plainOf plains putRecord located byteAfter peripheralsRead peripheralsWritten valueRead performed inOrder completion storeAt modifyAccesses branchOn bitBranchAccesses jumpTo pushAccesses pullAccesses returnAccesses interruptReturnAccesses entryAccesses breakAccesses callAccesses operationAccesses withRead changedBy byteToStore branchTaken bitBranchTaken byteToPush withPulled withRegister withFlag instructionAccesses resetAccesses interruptAccesses
+unfolding withBit setWhere flipWhere dueCount ticksOf inForce downA countsA clockA lowerA upperA loadCounterA reloadB
+    downB clockB lowerB upperB copyB loadCounterB turnToC transmitterAsynchronous receiverAsynchronous receiverShifting
+    holdsA keepsTransmitter keepsReceiver parityBit frameBits sentBits pace startDetected withLevel receivedByte
+    wrongParity statusAfter keptWith frameEnded lookTaken looked receiveTick shiftedAtRise byteEnded receiveRise
+    receiverClock receiverWithSccr framed taken idleTick frameEnd nextPhase ticked bitTick sendTick transmitterClock
+    line shiftClock transmitterWithSccr decodeOf packed unpacked pushed memoryByte displacement flagsOf modeA modeB
+    withInput driveA driveD drivenWord levelsOf rose fell edges withEdges resetOf sensedAt sensed fresh portValue
+    registerValue afterRead startB startA entering keptFlag keptFlags writeOf wholeInstruction irqDue resetStart
+    nmiStart irqStart startOf bytePut processorOf withInputs countA countB sentBy heardBy worked readyOf finished
+    clockOf isWritten halts putWrite committed plainOf plains putRecord located byteAfter peripheralsRead
+    peripheralsWritten valueRead performed inOrder completion storeAt modifyAccesses branchOn bitBranchAccesses jumpTo
+    pushAccesses pullAccesses returnAccesses interruptReturnAccesses entryAccesses breakAccesses callAccesses
+    operationAccesses withRead changedBy byteToStore branchTaken bitBranchTaken byteToPush withPulled withRegister
+    withFlag instructionAccesses resetAccesses interruptAccesses
 full-waiting = refl
 
 -- STA 00h and an undefined opcode: "the clock after it isn't looked at", whose 6 is not told
@@ -249,7 +523,20 @@ abbrev pub undefinedNext : World
 undefinedNext = startWith (running 0) (replicate 0x40 0 ++ (0x85 ∷ 0x00 ∷ 0x02 ∷ [])) [] [] (0 ∷ []) (0 ∷ [])
 
 pub halt-before-six : reached (plains (chip (At 0)) 10 undefinedNext) ≡ 12 ∷ 3 ∷ 0 ∷ 1 ∷ []
-unfolding withBit setWhere flipWhere dueCount ticksOf inForce downA countsA clockA lowerA upperA loadCounterA reloadB downB clockB lowerB upperB copyB loadCounterB turnToC transmitterAsynchronous receiverAsynchronous receiverShifting holdsA keepsTransmitter keepsReceiver parityBit frameBits sentBits pace startDetected withLevel receivedByte wrongParity statusAfter keptWith frameEnded lookTaken looked receiveTick shiftedAtRise byteEnded receiveRise receiverClock receiverWithSccr framed taken idleTick frameEnd nextPhase ticked bitTick sendTick transmitterClock line shiftClock transmitterWithSccr decodeOf packed unpacked pushed memoryByte displacement flagsOf modeA modeB withInput driveA driveD drivenWord levelsOf rose fell edges withEdges resetOf sensedAt sensed fresh portValue registerValue afterRead startB startA entering keptFlag keptFlags writeOf wholeInstruction irqDue resetStart nmiStart irqStart startOf bytePut processorOf withInputs countA countB sentBy heardBy worked readyOf finished clockOf isWritten halts putWrite committed plainOf plains putRecord located byteAfter peripheralsRead peripheralsWritten valueRead performed inOrder completion storeAt modifyAccesses branchOn bitBranchAccesses jumpTo pushAccesses pullAccesses returnAccesses interruptReturnAccesses entryAccesses breakAccesses callAccesses operationAccesses withRead changedBy byteToStore branchTaken bitBranchTaken byteToPush withPulled withRegister withFlag instructionAccesses resetAccesses interruptAccesses
+unfolding withBit setWhere flipWhere dueCount ticksOf inForce downA countsA clockA lowerA upperA loadCounterA reloadB
+    downB clockB lowerB upperB copyB loadCounterB turnToC transmitterAsynchronous receiverAsynchronous receiverShifting
+    holdsA keepsTransmitter keepsReceiver parityBit frameBits sentBits pace startDetected withLevel receivedByte
+    wrongParity statusAfter keptWith frameEnded lookTaken looked receiveTick shiftedAtRise byteEnded receiveRise
+    receiverClock receiverWithSccr framed taken idleTick frameEnd nextPhase ticked bitTick sendTick transmitterClock
+    line shiftClock transmitterWithSccr decodeOf packed unpacked pushed memoryByte displacement flagsOf modeA modeB
+    withInput driveA driveD drivenWord levelsOf rose fell edges withEdges resetOf sensedAt sensed fresh portValue
+    registerValue afterRead startB startA entering keptFlag keptFlags writeOf wholeInstruction irqDue resetStart
+    nmiStart irqStart startOf bytePut processorOf withInputs countA countB sentBy heardBy worked readyOf finished
+    clockOf isWritten halts putWrite committed plainOf plains putRecord located byteAfter peripheralsRead
+    peripheralsWritten valueRead performed inOrder completion storeAt modifyAccesses branchOn bitBranchAccesses jumpTo
+    pushAccesses pullAccesses returnAccesses interruptReturnAccesses entryAccesses breakAccesses callAccesses
+    operationAccesses withRead changedBy byteToStore branchTaken bitBranchTaken byteToPush withPulled withRegister
+    withFlag instructionAccesses resetAccesses interruptAccesses
 halt-before-six = refl
 
 -- JSR 0200h at 0040h with SP 00h: it tells port A and 00FFh, in order
@@ -267,5 +554,18 @@ abbrev pub callingStart : World
 callingStart = startWith atCall (replicate 0x40 0 ++ (0x20 ∷ 0x00 ∷ 0x02 ∷ [])) [] [] (0 ∷ []) (0 ∷ [])
 
 pub call-told : told (toldBy (clockIn callingStart)) ≡ writeAt 0x0000 0x00 ∷ writeAt 0x00FF 0x42 ∷ []
-unfolding withBit setWhere flipWhere dueCount ticksOf inForce downA countsA clockA lowerA upperA loadCounterA reloadB downB clockB lowerB upperB copyB loadCounterB turnToC transmitterAsynchronous receiverAsynchronous receiverShifting holdsA keepsTransmitter keepsReceiver parityBit frameBits sentBits pace startDetected withLevel receivedByte wrongParity statusAfter keptWith frameEnded lookTaken looked receiveTick shiftedAtRise byteEnded receiveRise receiverClock receiverWithSccr framed taken idleTick frameEnd nextPhase ticked bitTick sendTick transmitterClock line shiftClock transmitterWithSccr decodeOf packed unpacked pushed memoryByte displacement flagsOf modeA modeB withInput driveA driveD drivenWord levelsOf rose fell edges withEdges resetOf sensedAt sensed fresh portValue registerValue afterRead startB startA entering keptFlag keptFlags writeOf wholeInstruction irqDue resetStart nmiStart irqStart startOf bytePut processorOf withInputs countA countB sentBy heardBy worked readyOf finished clockOf isWritten halts putWrite committed plainOf plains putRecord located byteAfter peripheralsRead peripheralsWritten valueRead performed inOrder completion storeAt modifyAccesses branchOn bitBranchAccesses jumpTo pushAccesses pullAccesses returnAccesses interruptReturnAccesses entryAccesses breakAccesses callAccesses operationAccesses withRead changedBy byteToStore branchTaken bitBranchTaken byteToPush withPulled withRegister withFlag instructionAccesses resetAccesses interruptAccesses
+unfolding withBit setWhere flipWhere dueCount ticksOf inForce downA countsA clockA lowerA upperA loadCounterA reloadB
+    downB clockB lowerB upperB copyB loadCounterB turnToC transmitterAsynchronous receiverAsynchronous receiverShifting
+    holdsA keepsTransmitter keepsReceiver parityBit frameBits sentBits pace startDetected withLevel receivedByte
+    wrongParity statusAfter keptWith frameEnded lookTaken looked receiveTick shiftedAtRise byteEnded receiveRise
+    receiverClock receiverWithSccr framed taken idleTick frameEnd nextPhase ticked bitTick sendTick transmitterClock
+    line shiftClock transmitterWithSccr decodeOf packed unpacked pushed memoryByte displacement flagsOf modeA modeB
+    withInput driveA driveD drivenWord levelsOf rose fell edges withEdges resetOf sensedAt sensed fresh portValue
+    registerValue afterRead startB startA entering keptFlag keptFlags writeOf wholeInstruction irqDue resetStart
+    nmiStart irqStart startOf bytePut processorOf withInputs countA countB sentBy heardBy worked readyOf finished
+    clockOf isWritten halts putWrite committed plainOf plains putRecord located byteAfter peripheralsRead
+    peripheralsWritten valueRead performed inOrder completion storeAt modifyAccesses branchOn bitBranchAccesses jumpTo
+    pushAccesses pullAccesses returnAccesses interruptReturnAccesses entryAccesses breakAccesses callAccesses
+    operationAccesses withRead changedBy byteToStore branchTaken bitBranchTaken byteToPush withPulled withRegister
+    withFlag instructionAccesses resetAccesses interruptAccesses
 call-told = refl

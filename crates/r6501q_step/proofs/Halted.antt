@@ -44,7 +44,8 @@ toldBy (Done e) = e .writes
 -- what the next clock comes to: no halt address has a part in it
 abbrev pub clockIn : World → Clocked
 clockIn w =
-    clockOf (w .state) (take (dueCount (w .state .clock + 1) (w .inputClocks)) (w .inputCodes)) (w .memory) (ltb (w .written) (length (w .outputClocks)))
+    clockOf (w .state) (take (dueCount (w .state .clock + 1) (w .inputClocks)) (w .inputCodes)) (w .memory)
+    (ltb (w .written) (length (w .outputClocks)))
 
 -- the next clock is done and writes the halt address
 abbrev pub writesHalt : Halt → World → Bool
@@ -63,9 +64,11 @@ unfolding plainOf
 stop-twelve halt w on = rw (eq-eqb (w .stop) 0 on) (by-clock (clockIn w) refl)
   where
     by-clock : (x : Clocked) → clockIn w ≡ x
-        → eqb (after (r6501q halt) w (dueIn (r6501q halt) w) (clockOutcome halt (w .memory) x) .stop) 12 ≡ halts halt (toldBy x)
+        → eqb (after (r6501q halt) w (dueIn (r6501q halt) w) (clockOutcome halt (w .memory) x) .stop) 12
+        ≡ halts halt (toldBy x)
     by-clock (Stopped number) e =
-        stop-either (λ (k : ℕ). eqb k 12 ≡ false) refl refl (w .state) _ (w .memory) _ number e ∙ sym (unwritten halt noWrites refl)
+        stop-either (λ (k : ℕ). eqb k 12 ≡ false) refl refl (w .state) _ (w .memory) _ number e
+        ∙ sym (unwritten halt noWrites refl)
     by-clock (Done e) d = twelve-itself (halts halt (e .writes))
 
 -- ---- with a halt address and with none
@@ -75,7 +78,8 @@ stop-chosen true w = refl
 stop-chosen false w = refl
 
 -- "a plain clock with such a write is done, then stops with 12"; every other one is what it is with no halt address
-pub plain-halts : (halt : Halt) (w : World) → plain halt w ≡ cond (writesHalt halt w) (stoppedAt haltStop (plain Nowhere w)) (plain Nowhere w)
+pub plain-halts : (halt : Halt) (w : World)
+    → plain halt w ≡ cond (writesHalt halt w) (stoppedAt haltStop (plain Nowhere w)) (plain Nowhere w)
 unfolding plainOf halts
 plain-halts halt w = by-running (runningIn w) refl
   where
@@ -84,15 +88,19 @@ plain-halts halt w = by-running (runningIn w) refl
 
     by-clock : (x : Clocked) → let due = dueIn (r6501q halt) w in
         after (r6501q halt) w due (clockOutcome halt (w .memory) x)
-        ≡ cond (halts halt (toldBy x)) (stoppedAt haltStop (after (r6501q Nowhere) w due (clockOutcome Nowhere (w .memory) x)))
+        ≡ cond (halts halt (toldBy x))
+        (stoppedAt haltStop (after (r6501q Nowhere) w due (clockOutcome Nowhere (w .memory) x)))
         (after (r6501q Nowhere) w due (clockOutcome Nowhere (w .memory) x))
     by-clock (Stopped number) = sym (cond-no (halts halt noWrites) _ _ (unwritten halt noWrites refl))
-    by-clock (Done e) = stop-chosen (halts halt (e .writes)) (after (r6501q Nowhere) w (dueIn (r6501q halt) w) (clockOutcome Nowhere (w .memory) (Done e)))
+    by-clock (Done e) =
+        stop-chosen (halts halt (e .writes))
+        (after (r6501q Nowhere) w (dueIn (r6501q halt) w) (clockOutcome Nowhere (w .memory) (Done e)))
 
     by-running : (t : Bool) → runningIn w ≡ t
         → cond t (after (r6501q halt) w (dueIn (r6501q halt) w) (clockOutcome halt (w .memory) (clockIn w))) w
         ≡ cond (t && halts halt (toldBy (clockIn w)))
-        (stoppedAt haltStop (cond t (after (r6501q Nowhere) w (dueIn (r6501q Nowhere) w) (clockOutcome Nowhere (w .memory) (clockIn w))) w))
+        (stoppedAt haltStop
+        (cond t (after (r6501q Nowhere) w (dueIn (r6501q Nowhere) w) (clockOutcome Nowhere (w .memory) (clockIn w))) w))
         (cond t (after (r6501q Nowhere) w (dueIn (r6501q Nowhere) w) (clockOutcome Nowhere (w .memory) (clockIn w))) w)
     by-running true e = by-clock (clockIn w)
     by-running false e = refl
@@ -123,7 +131,8 @@ clocksBefore halt (suc n) w = cond (writesHalt halt w) 0 (suc (clocksBefore halt
 -- 12; where none of the n writes it, those with none
 pub plains-halt : (halt : Halt) (n : ℕ) (w : World)
     → plains (chip halt) n w
-    ≡ cond (ltb (clocksBefore halt n w) n) (stoppedAt haltStop (plains (chip Nowhere) (suc (clocksBefore halt n w)) w)) (plains (chip Nowhere) n w)
+    ≡ cond (ltb (clocksBefore halt n w) n) (stoppedAt haltStop (plains (chip Nowhere) (suc (clocksBefore halt n w)) w))
+    (plains (chip Nowhere) n w)
 unfolding plains
 plains-halt halt zero w = refl
 plains-halt halt (suc n) w = by-test (writesHalt halt w) refl (plains-halt halt n (plain Nowhere w))
@@ -135,16 +144,19 @@ plains-halt halt (suc n) w = by-test (writesHalt halt w) refl (plains-halt halt 
     k = clocksBefore halt n v
 
     by-test : (t : Bool) → writesHalt halt w ≡ t
-        → plains (chip halt) n v ≡ cond (ltb k n) (stoppedAt haltStop (plains (chip Nowhere) (suc k) v)) (plains (chip Nowhere) n v)
+        → plains (chip halt) n v
+        ≡ cond (ltb k n) (stoppedAt haltStop (plains (chip Nowhere) (suc k) v)) (plains (chip Nowhere) n v)
         → plains (chip halt) n (plain halt w)
-        ≡ cond (ltb (cond (writesHalt halt w) 0 (suc k)) (suc n)) (stoppedAt haltStop (plains (chip Nowhere) (cond (writesHalt halt w) 0 (suc k)) v))
+        ≡ cond (ltb (cond (writesHalt halt w) 0 (suc k)) (suc n))
+        (stoppedAt haltStop (plains (chip Nowhere) (cond (writesHalt halt w) 0 (suc k)) v))
         (plains (chip Nowhere) n v)
     by-test true e later =
         rw (plain-halts halt w, e, lt-ltb 0 (suc n) (omega arith)) (stopped-plains halt n (stoppedAt haltStop v) refl)
     by-test false e later = rw (plain-halts halt w, e, ltb-suc k n) later
 
 -- no clock before it writes it, and it does
-pub before-unwritten : (halt : Halt) (n : ℕ) (w : World) (j : ℕ) → j < clocksBefore halt n w → writesHalt halt (plains (chip Nowhere) j w) ≡ false
+pub before-unwritten : (halt : Halt) (n : ℕ) (w : World) (j : ℕ) → j < clocksBefore halt n w
+    → writesHalt halt (plains (chip Nowhere) j w) ≡ false
 unfolding plains
 before-unwritten halt zero w j h = absurd (omega arith)
 before-unwritten halt (suc n) w j h = by-test (writesHalt halt w) refl j h (before-unwritten halt n (plain Nowhere w))
@@ -153,7 +165,8 @@ before-unwritten halt (suc n) w j h = by-test (writesHalt halt w) refl j h (befo
     v = plain Nowhere w
 
     by-test : (t : Bool) → writesHalt halt w ≡ t → (j : ℕ) → j < cond t 0 (suc (clocksBefore halt n v))
-        → ((i : ℕ) → i < clocksBefore halt n v → writesHalt halt (plains (chip Nowhere) i v) ≡ false) → writesHalt halt (plains (chip Nowhere) j w) ≡ false
+        → ((i : ℕ) → i < clocksBefore halt n v → writesHalt halt (plains (chip Nowhere) i v) ≡ false)
+        → writesHalt halt (plains (chip Nowhere) j w) ≡ false
     by-test true e j h later = absurd (omega arith)
     by-test false e zero h later = e
     by-test false e (suc j) h later = later j (omega arith)
@@ -168,7 +181,8 @@ first-written halt (suc n) w h = by-test (writesHalt halt w) refl h (first-writt
     k = clocksBefore halt n (plain Nowhere w)
 
     by-test : (t : Bool) → writesHalt halt w ≡ t → cond t 0 (suc k) < suc n
-        → (k < n → writesHalt halt (plains (chip Nowhere) k (plain Nowhere w)) ≡ true) → writesHalt halt (plains (chip Nowhere) (cond t 0 (suc k)) w) ≡ true
+        → (k < n → writesHalt halt (plains (chip Nowhere) k (plain Nowhere w)) ≡ true)
+        → writesHalt halt (plains (chip Nowhere) (cond t 0 (suc k)) w) ≡ true
     by-test true e h later = e
     by-test false e h later = later (omega arith)
 
@@ -191,11 +205,13 @@ none-twelve zero w other = other
 none-twelve (suc n) w other = none-twelve n (plain Nowhere w) (plain-none w other)
 
 -- n plain clocks stop with 12 just where one of them writes the halt address: the last that is done, and no earlier one
-pub plains-twelve : (halt : Halt) (n : ℕ) (w : World) → w .stop ≡ 0 → eqb (plains (chip halt) n w .stop) 12 ≡ ltb (clocksBefore halt n w) n
+pub plains-twelve : (halt : Halt) (n : ℕ) (w : World) → w .stop ≡ 0
+    → eqb (plains (chip halt) n w .stop) 12 ≡ ltb (clocksBefore halt n w) n
 plains-twelve halt n w on = rw (plains-halt halt n w) (by-test (ltb (clocksBefore halt n w) n))
   where
     by-test : (t : Bool)
-        → eqb (cond t (stoppedAt haltStop (plains (chip Nowhere) (suc (clocksBefore halt n w)) w)) (plains (chip Nowhere) n w) .stop) 12 ≡ t
+        → eqb (cond t (stoppedAt haltStop (plains (chip Nowhere) (suc (clocksBefore halt n w)) w))
+        (plains (chip Nowhere) n w) .stop) 12 ≡ t
     by-test true = refl
     by-test false = none-twelve n w (rw on refl)
 
@@ -209,13 +225,16 @@ put-stored : (x : Write) (memory : List ℕ) → putWrite true x memory ≡ stor
 unfolding putWrite
 put-stored x memory = by-test (ltb (x .address) 0x40)
   where
-    by-test : (t : Bool) → cond (true && not t) (set memory (x .address) (x .value)) memory ≡ cond t memory (set memory (x .address) (x .value))
+    by-test : (t : Bool)
+        → cond (true && not t) (set memory (x .address) (x .value)) memory
+        ≡ cond t memory (set memory (x .address) (x .value))
     by-test true = refl
     by-test false = refl
 
 turns-same : (l : List Write) (memory : List ℕ) → inTurn (putWrite true) l memory ≡ inTurn storedIn l memory
 turns-same [] memory = refl
-turns-same (x ∷ later) memory = turns-same later (putWrite true x memory) ∙ ap (inTurn storedIn later) (put-stored x memory)
+turns-same (x ∷ later) memory =
+    turns-same later (putWrite true x memory) ∙ ap (inTurn storedIn later) (put-stored x memory)
 
 no-put : (x : Write) (memory : List ℕ) → putWrite false x memory ≡ memory
 unfolding putWrite
@@ -226,11 +245,14 @@ unfolding committed
 committed-told memory w = each-told putWrite no-put w memory ∙ turns-same (told w) memory
 
 -- memory after a clock is memory before it with exactly the writes told, in order
-pub memory-told : (halt : Halt) (w : World) → runningIn w ≡ true → plain halt w .memory ≡ inTurn storedIn (told (toldBy (clockIn w))) (w .memory)
+pub memory-told : (halt : Halt) (w : World) → runningIn w ≡ true
+    → plain halt w .memory ≡ inTurn storedIn (told (toldBy (clockIn w))) (w .memory)
 unfolding plainOf
 memory-told halt w e = rw e (by-clock (clockIn w))
   where
-    by-clock : (x : Clocked) → after (r6501q halt) w (dueIn (r6501q halt) w) (clockOutcome halt (w .memory) x) .memory ≡ inTurn storedIn (told (toldBy x)) (w .memory)
+    by-clock : (x : Clocked)
+        → after (r6501q halt) w (dueIn (r6501q halt) w) (clockOutcome halt (w .memory) x) .memory
+        ≡ inTurn storedIn (told (toldBy x)) (w .memory)
     by-clock (Stopped number) = refl
     by-clock (Done ended) = committed-told (w .memory) (ended .writes)
 
@@ -240,17 +262,25 @@ no-inputs : (clock : ℕ) → pinsRight lastPin clock [] [] ≡ true
 unfolding pinsRight
 no-inputs clock = refl
 
-gap-untold : (s : State) (memory : List ℕ) (free : Bool) → 0 < gapOf 1 s [] .0 → toldBy (clockOf s [] memory free) ≡ noWrites
+gap-untold : (s : State) (memory : List ℕ) (free : Bool) → 0 < gapOf 1 s [] .0
+    → toldBy (clockOf s [] memory free) ≡ noWrites
 unfolding clockOf finished
 gap-untold s memory free inside =
-    rw (gap-clock 1 s [] inside memory, pass-driven s 1, eq-eqb (drivenWord (s .peripherals)) (drivenWord (s .peripherals)) refl)
+    rw (
+      gap-clock 1 s [] inside memory,
+      pass-driven s 1,
+      eq-eqb (drivenWord (s .peripherals)) (drivenWord (s .peripherals)) refl,
+    )
 
 -- "a leap never passes it": a clock that is no event clock tells no write
-pub quiet-untold : (s : State) (codes memory : List ℕ) (free : Bool) → eventOf s codes ≡ false → toldBy (clockOf s codes memory free) ≡ noWrites
+pub quiet-untold : (s : State) (codes memory : List ℕ) (free : Bool) → eventOf s codes ≡ false
+    → toldBy (clockOf s codes memory free) ≡ noWrites
 unfolding eventOf hasInput dueCount
 quiet-untold s (code ∷ codes) memory free e = absurd (false≢true (sym e))
 quiet-untold s [] memory free e = by-gap (eqb (gapOf 1 s [] .0) 0) refl
   where
     by-gap : (t : Bool) → eqb (gapOf 1 s [] .0) 0 ≡ t → toldBy (clockOf s [] memory free) ≡ noWrites
-    by-gap true z = absurd (false≢true (sym e ∙ gap-event 1 s [] [] (no-inputs (s .clock)) (omega arith) (eqb-true (gapOf 1 s [] .0) 0 z)))
+    by-gap true z =
+        absurd (false≢true
+        (sym e ∙ gap-event 1 s [] [] (no-inputs (s .clock)) (omega arith) (eqb-true (gapOf 1 s [] .0) 0 z)))
     by-gap false z = gap-untold s memory free (omega (arith, eqb-false (gapOf 1 s [] .0) 0 z))

@@ -21,12 +21,17 @@ use Rattle.r6501q_state.specs.declared.state.State.{State}
 use Rattle.r6501q_state.specs.State.{freshCpu, freshDue, freshPeripherals, freshLevels, fresh}
 use Rattle.r6501q_state.specs.Copies.{flagged, withCounterA, withCounterB}
 use Rattle.r6501q_state.specs.Control.{modeA, modeB}
-use Rattle.r6501q_state.specs.Pins.{driveA, driveD, drivenWord, levelsOf, rose, fell, edges, withEdges, resetOf, sensedAt, sensed}
+use Rattle.r6501q_state.specs.Pins.{driveA, driveD, drivenWord, levelsOf, rose, fell, edges, withEdges, resetOf}
+use Rattle.r6501q_state.specs.Pins.{sensedAt, sensed}
 use Rattle.r6501q_cpu.specs.Processor.{processorOf}
-use Rattle.r6501q_clock.specs.Clock.{withInputs, inputsSet, countA, countB, sentBy, heardBy, worked, readyOf, finished, clockOf}
+use Rattle.r6501q_clock.specs.Clock.{withInputs, inputsSet, countA, countB, sentBy, heardBy, worked, readyOf, finished}
+use Rattle.r6501q_clock.specs.Clock.{clockOf}
 use Rattle.r6501q_clock.specs.Commit.{putWrite, committed}
-use Rattle.r6501q_gaps.specs.Events.{hasInput, sameLevels, levelsChange, underflowsA, underflowsB, portsFresh, controlFresh, transmitterIdle, receiverIdle, isReset, resetChanges, cpuStarts, putsByte, eventOf}
-use Rattle.r6501q_gaps.specs.Gaps.{runningA, runningB, toInput, toChange, toUnderflowA, toUnderflowB, toReset, toCpu, gapOf}
+use Rattle.r6501q_gaps.specs.Events.{hasInput, sameLevels, levelsChange, underflowsA, underflowsB, portsFresh}
+use Rattle.r6501q_gaps.specs.Events.{controlFresh, transmitterIdle, receiverIdle, isReset, resetChanges, cpuStarts}
+use Rattle.r6501q_gaps.specs.Events.{putsByte, eventOf}
+use Rattle.r6501q_gaps.specs.Gaps.{runningA, runningB, toInput, toChange, toUnderflowA, toUnderflowB, toReset, toCpu}
+use Rattle.r6501q_gaps.specs.Gaps.{gapOf}
 use Rattle.r6501q_gaps.proofs.Gaps.{gap-no-event}
 use Rattle.leaps.specs.Leaps.{eventsIn, quietEnd, plains, trace, leapCount}
 use Rattle.leaps.specs.World.{putRecord, plainOf, doneIn, eventIn}
@@ -92,13 +97,20 @@ module _ (halt : Halt) (memory times words : List ℕ) where
 
   -- ---- one clock
 
-  at-underflow : (ifr clock : ℕ) → plain halt (heldIn (heldWith 0 ifr clock)) ≡ heldIn (heldWith 0xFFFF 0x30 (clock + 1))
-  unfolding withBit setWhere flipWhere dueCount ticksOf inForce downA countsA clockA reloadB downB clockB transmitterAsynchronous receiverAsynchronous receiverShifting holdsA receiverClock transmitterClock modeA modeB driveA driveD drivenWord levelsOf rose fell edges withEdges resetOf sensedAt sensed withInputs countA countB sentBy heardBy worked readyOf finished clockOf putWrite committed processorOf plainOf putRecord byteWaits
+  at-underflow : (ifr clock : ℕ)
+      → plain halt (heldIn (heldWith 0 ifr clock)) ≡ heldIn (heldWith 0xFFFF 0x30 (clock + 1))
+  unfolding withBit setWhere flipWhere dueCount ticksOf inForce downA countsA clockA reloadB downB clockB
+      transmitterAsynchronous receiverAsynchronous receiverShifting holdsA receiverClock transmitterClock modeA modeB
+      driveA driveD drivenWord levelsOf rose fell edges withEdges resetOf sensedAt sensed withInputs countA countB
+      sentBy heardBy worked readyOf finished clockOf putWrite committed processorOf plainOf putRecord byteWaits
   at-underflow ifr clock = rw (unwritten halt noWrites refl)
 
   counted-down : (count ifr clock : ℕ) → eqb count 0 ≡ false
       → plain halt (heldIn (heldWith count ifr clock)) ≡ heldIn (heldWith (count - 1) 0 (clock + 1))
-  unfolding withBit setWhere flipWhere dueCount ticksOf inForce downA countsA clockA reloadB downB clockB transmitterAsynchronous receiverAsynchronous receiverShifting holdsA receiverClock transmitterClock modeA modeB driveA driveD drivenWord levelsOf rose fell edges withEdges resetOf sensedAt sensed withInputs countA countB sentBy heardBy worked readyOf finished clockOf putWrite committed processorOf plainOf putRecord byteWaits
+  unfolding withBit setWhere flipWhere dueCount ticksOf inForce downA countsA clockA reloadB downB clockB
+      transmitterAsynchronous receiverAsynchronous receiverShifting holdsA receiverClock transmitterClock modeA modeB
+      driveA driveD drivenWord levelsOf rose fell edges withEdges resetOf sensedAt sensed withInputs countA countB
+      sentBy heardBy worked readyOf finished clockOf putWrite committed processorOf plainOf putRecord byteWaits
   counted-down count ifr clock some = rw (some, unwritten halt noWrites refl)
 
   -- the next clock
@@ -123,7 +135,8 @@ module _ (halt : Halt) (memory times words : List ℕ) where
   held-next : (n : ℕ) → plain halt (heldIn (heldState n)) ≡ heldIn (heldState (n + 1))
   held-next n = by-test (eqb (n % 0x10000) 0xFFFF) refl
     where
-      by-test : (t : Bool) → eqb (n % 0x10000) 0xFFFF ≡ t → plain halt (heldIn (heldState n)) ≡ heldIn (heldState (n + 1))
+      by-test : (t : Bool) → eqb (n % 0x10000) 0xFFFF ≡ t
+          → plain halt (heldIn (heldState n)) ≡ heldIn (heldState (n + 1))
       by-test true e = next-at n (eqb-true (n % 0x10000) 0xFFFF e)
       by-test false e = next-before n (eqb-false (n % 0x10000) 0xFFFF e)
 
@@ -149,15 +162,31 @@ module _ (halt : Halt) (memory times words : List ℕ) where
   -- ---- event clocks
 
   event-at : (ifr clock : ℕ) → eventIn (r6501q halt) (heldIn (heldWith 0 ifr clock)) ≡ true
-  unfolding eventIn hasInput sameLevels levelsChange underflowsA underflowsB portsFresh controlFresh transmitterIdle receiverIdle isReset resetChanges cpuStarts putsByte eventOf withBit setWhere flipWhere dueCount ticksOf inForce downA countsA clockA reloadB downB clockB transmitterAsynchronous receiverAsynchronous receiverShifting holdsA receiverClock transmitterClock modeA modeB driveA driveD drivenWord levelsOf rose fell edges withEdges resetOf sensedAt sensed withInputs countA countB sentBy heardBy worked readyOf finished clockOf putWrite committed processorOf plainOf putRecord byteWaits
+  unfolding eventIn hasInput sameLevels levelsChange underflowsA underflowsB portsFresh controlFresh transmitterIdle
+      receiverIdle isReset resetChanges cpuStarts putsByte eventOf withBit setWhere flipWhere dueCount ticksOf inForce
+      downA countsA clockA reloadB downB clockB transmitterAsynchronous receiverAsynchronous receiverShifting holdsA
+      receiverClock transmitterClock modeA modeB driveA driveD drivenWord levelsOf rose fell edges withEdges resetOf
+      sensedAt sensed withInputs countA countB sentBy heardBy worked readyOf finished clockOf putWrite committed
+      processorOf plainOf putRecord byteWaits
   event-at ifr clock = refl
 
   event-after : (clock : ℕ) → eventIn (r6501q halt) (heldIn (heldWith 0xFFFF 0x30 clock)) ≡ true
-  unfolding eventIn hasInput sameLevels levelsChange underflowsA underflowsB portsFresh controlFresh transmitterIdle receiverIdle isReset resetChanges cpuStarts putsByte eventOf withBit setWhere flipWhere dueCount ticksOf inForce downA countsA clockA reloadB downB clockB transmitterAsynchronous receiverAsynchronous receiverShifting holdsA receiverClock transmitterClock modeA modeB driveA driveD drivenWord levelsOf rose fell edges withEdges resetOf sensedAt sensed withInputs countA countB sentBy heardBy worked readyOf finished clockOf putWrite committed processorOf plainOf putRecord byteWaits
+  unfolding eventIn hasInput sameLevels levelsChange underflowsA underflowsB portsFresh controlFresh transmitterIdle
+      receiverIdle isReset resetChanges cpuStarts putsByte eventOf withBit setWhere flipWhere dueCount ticksOf inForce
+      downA countsA clockA reloadB downB clockB transmitterAsynchronous receiverAsynchronous receiverShifting holdsA
+      receiverClock transmitterClock modeA modeB driveA driveD drivenWord levelsOf rose fell edges withEdges resetOf
+      sensedAt sensed withInputs countA countB sentBy heardBy worked readyOf finished clockOf putWrite committed
+      processorOf plainOf putRecord byteWaits
   event-after clock = refl
 
   in-gap : (count clock : ℕ) → 0 < count → 0 < gapOf 1 (heldWith count 0 clock) [] .0
-  unfolding gapOf toInput toChange toUnderflowA toUnderflowB toReset toCpu runningA runningB runsA runsB eventIn hasInput sameLevels levelsChange underflowsA underflowsB portsFresh controlFresh transmitterIdle receiverIdle isReset resetChanges cpuStarts putsByte eventOf withBit setWhere flipWhere dueCount ticksOf inForce downA countsA clockA reloadB downB clockB transmitterAsynchronous receiverAsynchronous receiverShifting holdsA receiverClock transmitterClock modeA modeB driveA driveD drivenWord levelsOf rose fell edges withEdges resetOf sensedAt sensed withInputs countA countB sentBy heardBy worked readyOf finished clockOf putWrite committed processorOf plainOf putRecord byteWaits
+  unfolding gapOf toInput toChange toUnderflowA toUnderflowB toReset toCpu runningA runningB runsA runsB eventIn
+      hasInput sameLevels levelsChange underflowsA underflowsB portsFresh controlFresh transmitterIdle receiverIdle
+      isReset resetChanges cpuStarts putsByte eventOf withBit setWhere flipWhere dueCount ticksOf inForce downA countsA
+      clockA reloadB downB clockB transmitterAsynchronous receiverAsynchronous receiverShifting holdsA receiverClock
+      transmitterClock modeA modeB driveA driveD drivenWord levelsOf rose fell edges withEdges resetOf sensedAt sensed
+      withInputs countA countB sentBy heardBy worked readyOf finished clockOf putWrite committed processorOf plainOf
+      putRecord byteWaits
   in-gap count clock some = omega (arith, some)
 
   no-event : (count clock : ℕ) → 0 < count → eventIn (r6501q halt) (heldIn (heldWith count 0 clock)) ≡ false
@@ -165,7 +194,10 @@ module _ (halt : Halt) (memory times words : List ℕ) where
   no-event count clock some = gap-no-event 1 (heldWith count 0 clock) [] (in-gap count clock some)
 
   done-at : (count ifr clock : ℕ) → doneIn (r6501q halt) (heldIn (heldWith count ifr clock)) ≡ true
-  unfolding doneIn withBit setWhere flipWhere dueCount ticksOf inForce downA countsA clockA reloadB downB clockB transmitterAsynchronous receiverAsynchronous receiverShifting holdsA receiverClock transmitterClock modeA modeB driveA driveD drivenWord levelsOf rose fell edges withEdges resetOf sensedAt sensed withInputs countA countB sentBy heardBy worked readyOf finished clockOf putWrite committed processorOf plainOf putRecord byteWaits
+  unfolding doneIn withBit setWhere flipWhere dueCount ticksOf inForce downA countsA clockA reloadB downB clockB
+      transmitterAsynchronous receiverAsynchronous receiverShifting holdsA receiverClock transmitterClock modeA modeB
+      driveA driveD drivenWord levelsOf rose fell edges withEdges resetOf sensedAt sensed withInputs countA countB
+      sentBy heardBy worked readyOf finished clockOf putWrite committed processorOf plainOf putRecord byteWaits
   done-at count ifr clock = by-test (eqb count 0) refl
     where
       by-test : (t : Bool) → eqb count 0 ≡ t → doneIn (r6501q halt) (heldIn (heldWith count ifr clock)) ≡ true
@@ -179,12 +211,14 @@ module _ (halt : Halt) (memory times words : List ℕ) where
           → eventIn (r6501q halt) (heldIn (heldState k)) ≡ heldEvent (k + 1)
       quiet other flags none = rw (flags, none) (no-event (heldCount k) k (omega (arith, other)))
 
-      by-tests : (last begun first : Bool) → eqb (k % 0x10000) 0xFFFF ≡ last → ltb 0 k ≡ begun → eqb (k % 0x10000) 0 ≡ first
+      by-tests : (last begun first : Bool) → eqb (k % 0x10000) 0xFFFF ≡ last → ltb 0 k ≡ begun
+          → eqb (k % 0x10000) 0 ≡ first
           → eventIn (r6501q halt) (heldIn (heldState k)) ≡ heldEvent (k + 1)
       by-tests true begun first e f g =
           let last = eqb-true (k % 0x10000) 0xFFFF e in
           let count : heldCount k ≡ 0 = omega (arith, last) in
-          rw (count, lt-ltb 1 (k + 1) (omega (arith, last)), eq-eqb ((k + 1) % 0x10000) 0 (omega (arith, last))) (event-at (heldFlags k) k)
+          rw (count, lt-ltb 1 (k + 1) (omega (arith, last)), eq-eqb ((k + 1) % 0x10000) 0 (omega (arith, last)))
+          (event-at (heldFlags k) k)
       by-tests false true true e f g =
           let first = eqb-true (k % 0x10000) 0 g in
           let some = ltb-true 0 k f in

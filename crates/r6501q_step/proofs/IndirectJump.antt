@@ -8,10 +8,15 @@ use Rattle.bits.specs.Bits.{bit}
 use Rattle.bits.specs.Lists.{tabulate}
 use Rattle.bits.specs.Bits.{withBit, setWhere, flipWhere}
 use Rattle.pin_lists.specs.PinLists.{dueCount}
-use Rattle.counters.specs.Counters.{ticksOf, inForce, downA, countsA, clockA, lowerA, upperA, loadCounterA, reloadB, downB, clockB, lowerB, upperB, copyB, loadCounterB, turnToC}
-use Rattle.serial.specs.Format.{transmitterAsynchronous, receiverAsynchronous, receiverShifting, holdsA, keepsTransmitter, keepsReceiver, parityBit, frameBits, sentBits, pace}
-use Rattle.serial.specs.Receiver.{startDetected, withLevel, receivedByte, wrongParity, statusAfter, keptWith, frameEnded, lookTaken, looked, receiveTick, shiftedAtRise, byteEnded, receiveRise, receiverClock, receiverWithSccr}
-use Rattle.serial.specs.Transmitter.{framed, taken, idleTick, frameEnd, nextPhase, ticked, bitTick, sendTick, transmitterClock, line, shiftClock, transmitterWithSccr}
+use Rattle.counters.specs.Counters.{ticksOf, inForce, downA, countsA, clockA, lowerA, upperA, loadCounterA, reloadB}
+use Rattle.counters.specs.Counters.{downB, clockB, lowerB, upperB, copyB, loadCounterB, turnToC}
+use Rattle.serial.specs.Format.{transmitterAsynchronous, receiverAsynchronous, receiverShifting, holdsA}
+use Rattle.serial.specs.Format.{keepsTransmitter, keepsReceiver, parityBit, frameBits, sentBits, pace}
+use Rattle.serial.specs.Receiver.{startDetected, withLevel, receivedByte, wrongParity, statusAfter, keptWith}
+use Rattle.serial.specs.Receiver.{frameEnded, lookTaken, looked, receiveTick, shiftedAtRise, byteEnded, receiveRise}
+use Rattle.serial.specs.Receiver.{receiverClock, receiverWithSccr}
+use Rattle.serial.specs.Transmitter.{framed, taken, idleTick, frameEnd, nextPhase, ticked, bitTick, sendTick}
+use Rattle.serial.specs.Transmitter.{transmitterClock, line, shiftClock, transmitterWithSccr}
 use Rattle.cpu_opcodes.specs.Decode.{decodeOf}
 use Rattle.cpu_alu.specs.Status.{packed, unpacked, pushed}
 use Rattle.cpu_access.specs.declared.halt.Halt.the-variants.{Nowhere, At}
@@ -24,12 +29,17 @@ use Rattle.cpu_access.specs.Waiting.{byteWaits}
 use Rattle.cpu_access.specs.Accesses.{byteAfter, peripheralsRead, peripheralsWritten, valueRead, performed, inOrder}
 use Rattle.cpu_access.specs.Operands.{located}
 use Rattle.cpu_access.specs.Modes.{displacement}
-use Rattle.cpu_operations.specs.Kinds.{withRead, changedBy, byteToStore, branchTaken, bitBranchTaken, byteToPush, withPulled, withRegister, withFlag}
-use Rattle.cpu.specs.Sequence.{completion, storeAt, modifyAccesses, branchOn, bitBranchAccesses, jumpTo, pushAccesses, pullAccesses, returnAccesses, interruptReturnAccesses, entryAccesses, breakAccesses, callAccesses, operationAccesses, instructionAccesses, resetAccesses, interruptAccesses}
-use Rattle.r6501q_cpu.specs.Processor.{wholeInstruction, irqDue, resetStart, nmiStart, irqStart, startOf, bytePut, processorOf}
+use Rattle.cpu_operations.specs.Kinds.{withRead, changedBy, byteToStore, branchTaken, bitBranchTaken, byteToPush}
+use Rattle.cpu_operations.specs.Kinds.{withPulled, withRegister, withFlag}
+use Rattle.cpu.specs.Sequence.{completion, storeAt, modifyAccesses, branchOn, bitBranchAccesses, jumpTo, pushAccesses}
+use Rattle.cpu.specs.Sequence.{pullAccesses, returnAccesses, interruptReturnAccesses, entryAccesses, breakAccesses}
+use Rattle.cpu.specs.Sequence.{callAccesses, operationAccesses, instructionAccesses, resetAccesses, interruptAccesses}
+use Rattle.r6501q_cpu.specs.Processor.{wholeInstruction, irqDue, resetStart, nmiStart, irqStart, startOf, bytePut}
+use Rattle.r6501q_cpu.specs.Processor.{processorOf}
 use Rattle.r6501q_state.specs.Control.{flagsOf, modeA, modeB}
 use Rattle.r6501q_state.specs.Inputs.{withInput}
-use Rattle.r6501q_state.specs.Pins.{driveA, driveD, drivenWord, levelsOf, rose, fell, edges, withEdges, resetOf, sensedAt, sensed}
+use Rattle.r6501q_state.specs.Pins.{driveA, driveD, drivenWord, levelsOf, rose, fell, edges, withEdges, resetOf}
+use Rattle.r6501q_state.specs.Pins.{sensedAt, sensed}
 use Rattle.r6501q_state.specs.State.{fresh}
 use Rattle.r6501q_registers.specs.Read.{portValue, registerValue, afterRead}
 use Rattle.r6501q_registers.specs.Write.{startB, startA, entering, keptFlag, keptFlags, writeOf}
@@ -43,7 +53,9 @@ use Rattle.serial.specs.Transmitter.{idleTransmitter}
 use Rattle.r6501q_clock.specs.Clock.{inputsSet}
 use Rattle.leaps.specs.Leaps.{eventsIn, quietEnd, plains, trace, leapCount}
 use Rattle.leaps.specs.World.{putRecord, plainOf, doneIn, eventIn}
-use Rattle.r6501q_gaps.specs.Events.{hasInput, sameLevels, levelsChange, underflowsA, underflowsB, portsFresh, controlFresh, transmitterIdle, receiverIdle, isReset, resetChanges, cpuStarts, putsByte, eventOf}
+use Rattle.r6501q_gaps.specs.Events.{hasInput, sameLevels, levelsChange, underflowsA, underflowsB, portsFresh}
+use Rattle.r6501q_gaps.specs.Events.{controlFresh, transmitterIdle, receiverIdle, isReset, resetChanges, cpuStarts}
+use Rattle.r6501q_gaps.specs.Events.{putsByte, eventOf}
 use Rattle.r6501q_step.specs.R6501q.{World, plain, chip}
 use Rattle.r6501q_step.proofs.Halted.{toldBy, clockIn}
 use lib.ListN.{replicate}
@@ -53,10 +65,24 @@ use Rattle.r6501q_step.proofs.Examples.{startWith, running}
 -- JMP (02FFh) at 0040h; the bytes at 0200h, at 02FFh, and at 0300h in the next page
 abbrev pub jumpMemory : ℕ → ℕ → ℕ → List ℕ
 jumpMemory first last next =
-    replicate 0x40 0 ++ (0x6C ∷ 0xFF ∷ 0x02 ∷ []) ++ replicate 0x1BD 0 ++ (first ∷ []) ++ replicate 0xFE 0 ++ (last ∷ next ∷ [])
+    replicate 0x40 0 ++ (0x6C ∷ 0xFF ∷ 0x02 ∷ []) ++ replicate 0x1BD 0 ++ (first ∷ []) ++ replicate 0xFE 0
+    ++ (last ∷ next ∷ [])
 
 pub indirect-jump : (first last next : ℕ)
     → plains (chip Nowhere) 1 (startWith (running 0) (jumpMemory first last next) [] [] [] []) .state .cpu
     ≡ record { a = 0; x = 0; y = 0; sp = 0xFF; p = 0x04; pc = word first last; wait = 4; waiting = Nothing }
-unfolding withBit setWhere flipWhere dueCount ticksOf inForce downA countsA clockA lowerA upperA loadCounterA reloadB downB clockB lowerB upperB copyB loadCounterB turnToC transmitterAsynchronous receiverAsynchronous receiverShifting holdsA keepsTransmitter keepsReceiver parityBit frameBits sentBits pace startDetected withLevel receivedByte wrongParity statusAfter keptWith frameEnded lookTaken looked receiveTick shiftedAtRise byteEnded receiveRise receiverClock receiverWithSccr framed taken idleTick frameEnd nextPhase ticked bitTick sendTick transmitterClock line shiftClock transmitterWithSccr decodeOf packed unpacked pushed memoryByte displacement flagsOf modeA modeB withInput driveA driveD drivenWord levelsOf rose fell edges withEdges resetOf sensedAt sensed fresh portValue registerValue afterRead startB startA entering keptFlag keptFlags writeOf wholeInstruction irqDue resetStart nmiStart irqStart startOf bytePut processorOf withInputs countA countB sentBy heardBy worked readyOf finished clockOf halts putWrite committed plainOf plains putRecord located byteAfter peripheralsRead peripheralsWritten valueRead performed inOrder completion storeAt modifyAccesses branchOn bitBranchAccesses jumpTo pushAccesses pullAccesses returnAccesses interruptReturnAccesses entryAccesses breakAccesses callAccesses operationAccesses withRead changedBy byteToStore branchTaken bitBranchTaken byteToPush withPulled withRegister withFlag instructionAccesses resetAccesses interruptAccesses
+unfolding withBit setWhere flipWhere dueCount ticksOf inForce downA countsA clockA lowerA upperA loadCounterA reloadB
+    downB clockB lowerB upperB copyB loadCounterB turnToC transmitterAsynchronous receiverAsynchronous receiverShifting
+    holdsA keepsTransmitter keepsReceiver parityBit frameBits sentBits pace startDetected withLevel receivedByte
+    wrongParity statusAfter keptWith frameEnded lookTaken looked receiveTick shiftedAtRise byteEnded receiveRise
+    receiverClock receiverWithSccr framed taken idleTick frameEnd nextPhase ticked bitTick sendTick transmitterClock
+    line shiftClock transmitterWithSccr decodeOf packed unpacked pushed memoryByte displacement flagsOf modeA modeB
+    withInput driveA driveD drivenWord levelsOf rose fell edges withEdges resetOf sensedAt sensed fresh portValue
+    registerValue afterRead startB startA entering keptFlag keptFlags writeOf wholeInstruction irqDue resetStart
+    nmiStart irqStart startOf bytePut processorOf withInputs countA countB sentBy heardBy worked readyOf finished
+    clockOf halts putWrite committed plainOf plains putRecord located byteAfter peripheralsRead peripheralsWritten
+    valueRead performed inOrder completion storeAt modifyAccesses branchOn bitBranchAccesses jumpTo pushAccesses
+    pullAccesses returnAccesses interruptReturnAccesses entryAccesses breakAccesses callAccesses operationAccesses
+    withRead changedBy byteToStore branchTaken bitBranchTaken byteToPush withPulled withRegister withFlag
+    instructionAccesses resetAccesses interruptAccesses
 indirect-jump first last next = refl

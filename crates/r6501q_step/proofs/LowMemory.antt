@@ -17,7 +17,8 @@ use Rattle.cpu_access.proofs.Performed.{SameAbove, performed-same}
 use Rattle.cpu.specs.Sequence.{instructionAccesses, resetAccesses, interruptAccesses}
 use Rattle.r6501q_state.specs.declared.state.State.{State}
 use Rattle.r6501q_state.specs.Pins.{drivenWord}
-use Rattle.r6501q_cpu.specs.Processor.{registersOf, registerFile, performedIn, wholeInstruction, resetStart, nmiStart, irqStart, startOf, processorOf}
+use Rattle.r6501q_cpu.specs.Processor.{registersOf, registerFile, performedIn, wholeInstruction, resetStart, nmiStart}
+use Rattle.r6501q_cpu.specs.Processor.{irqStart, startOf, processorOf}
 use Rattle.r6501q_clock.specs.declared.Clocked.{Clocked}
 use Rattle.r6501q_clock.specs.declared.Clocked.the-variants.{Stopped, Done}
 use Rattle.r6501q_clock.specs.Clock.{readyOf, recorded, clockOf}
@@ -36,7 +37,12 @@ module _ (m m' : List ℕ) (same : SameAbove m m') where
   unfolding startOf resetStart nmiStart irqStart wholeInstruction
   start-same s =
       let r = registersOf (s .cpu) in
-      rw (reads-same s (resetAccesses r), reads-same s (interruptAccesses nmiVector r), reads-same s (interruptAccesses irqVector r), reads-same s (instructionAccesses r))
+      rw (
+        reads-same s (resetAccesses r),
+        reads-same s (interruptAccesses nmiVector r),
+        reads-same s (interruptAccesses irqVector r),
+        reads-same s (instructionAccesses r),
+      )
 
   processor-same : (s : State) → processorOf s m' ≡ processorOf s m
   unfolding processorOf
@@ -69,19 +75,26 @@ module _ (low : List ℕ) (whole : length low ≡ registerEnd) where
   low-same m a h = low-byte low m a whole h
 
   -- the writes of a clock touch no byte there
-  put-low : (there : Bool) (w : Write) (m : List ℕ) → putWrite there w (withLow low m) ≡ withLow low (putWrite there w m)
+  put-low : (there : Bool) (w : Write) (m : List ℕ)
+      → putWrite there w (withLow low m) ≡ withLow low (putWrite there w m)
   unfolding putWrite
   put-low there w m = by-place there (isRegister (w .address)) refl
     where
       by-place : (t r : Bool) → isRegister (w .address) ≡ r
-          → cond (t && not r) (set (withLow low m) (w .address) (w .value)) (withLow low m) ≡ withLow low (cond (t && not r) (set m (w .address) (w .value)) m)
+          → cond (t && not r) (set (withLow low m) (w .address) (w .value)) (withLow low m)
+          ≡ withLow low (cond (t && not r) (set m (w .address) (w .value)) m)
       by-place true true e = refl
       by-place true false e = low-set low m (w .address) (w .value) whole e
       by-place false r e = refl
 
   committed-low : (m : List ℕ) (w : Writes) → committed (withLow low m) w ≡ withLow low (committed m w)
   unfolding committed
-  committed-low m w = rw (put-low (ltb 0 (w .count)) (w .first) m, put-low (ltb 1 (w .count)) (w .second), put-low (ltb 2 (w .count)) (w .third))
+  committed-low m w =
+      rw (
+        put-low (ltb 0 (w .count)) (w .first) m,
+        put-low (ltb 1 (w .count)) (w .second),
+        put-low (ltb 2 (w .count)) (w .third),
+      )
 
   after-low : (halt : Halt) (w : World) (due : ℕ) (c : Clocked)
       → after (r6501q halt) (lowered low w) due (clockOutcome halt (withLow low (w .memory)) c)
@@ -97,9 +110,12 @@ module _ (low : List ℕ) (whole : length low ≡ registerEnd) where
       let due = dueIn (r6501q halt) w in
       let free = ltb (w .written) (length (w .outputClocks)) in
       let clocked = clockOf (w .state) (take due (w .inputCodes)) (w .memory) free in
-      ap (λ (c : Clocked). cond (runningIn w) (after (r6501q halt) (lowered low w) due (clockOutcome halt (withLow low (w .memory)) c)) (lowered low w))
-      (clock-same (w .memory) (withLow low (w .memory)) (low-same (w .memory)) (w .state) (take due (w .inputCodes)) free)
-      ∙ sym (cond-along (lowered low) (runningIn w) (after (r6501q halt) w due (clockOutcome halt (w .memory) clocked)) w (sym (after-low halt w due clocked)) refl)
+      ap (λ (c : Clocked). cond (runningIn w)
+      (after (r6501q halt) (lowered low w) due (clockOutcome halt (withLow low (w .memory)) c)) (lowered low w))
+      (clock-same (w .memory) (withLow low (w .memory)) (low-same (w .memory)) (w .state) (take due (w .inputCodes))
+      free)
+      ∙ sym (cond-along (lowered low) (runningIn w) (after (r6501q halt) w due (clockOutcome halt (w .memory) clocked))
+      w (sym (after-low halt w due clocked)) refl)
 
   -- nor by gaps
   pub unseen : (halt : Halt) → Unseen (chip halt) (lowered low)

@@ -46,7 +46,8 @@ due-inserted [] = refl
 due-inserted (t ∷ clocks) = by-test (eqb t 1) refl (due-inserted clocks)
   where
     by-test : (first : Bool) → eqb t 1 ≡ first → dueCount 1 (releaseClocks clocks) ≡ suc (dueCount 1 clocks)
-        → dueCount 1 (inserted (cond first (suc (dueCount 1 clocks)) 0) 1 (t ∷ clocks)) ≡ suc (cond first (suc (dueCount 1 clocks)) 0)
+        → dueCount 1 (inserted (cond first (suc (dueCount 1 clocks)) 0) 1 (t ∷ clocks))
+        ≡ suc (cond first (suc (dueCount 1 clocks)) 0)
     by-test true e later = rw e (ap suc later)
     by-test false e later = rw e
 
@@ -78,7 +79,8 @@ entry-res : (pin : ℕ) → pin < lastPin → entryRight lastPin 1 pin 1 resHigh
 unfolding entryRight codeRight
 entry-res pin h = rw (lt-ltb pin lastPin h)
 
-entry-behind : (pin t code : ℕ) → eqb t 1 ≡ false → entryRight lastPin 1 lastPin t code ≡ entryRight lastPin 1 pin t code
+entry-behind : (pin t code : ℕ) → eqb t 1 ≡ false
+    → entryRight lastPin 1 lastPin t code ≡ entryRight lastPin 1 pin t code
 unfolding entryRight
 entry-behind pin t code e = rw (ne-eqb 1 t (λ z. eqb-false t 1 e (sym z)))
 
@@ -91,7 +93,8 @@ rest-same pin [] (c ∷ cs) h b = rw (entry-res pin h)
 rest-same pin (t ∷ ts) [] h b = by-test (eqb t 1) refl
   where
     by-test : (first : Bool) → eqb t 1 ≡ first
-        → restRight lastPin 1 pin (inserted (cond first (suc (dueCount 1 ts)) 0) 1 (t ∷ ts)) (inserted (cond first (suc (dueCount 1 ts)) 0) resHigh []) ≡ false
+        → restRight lastPin 1 pin (inserted (cond first (suc (dueCount 1 ts)) 0) 1 (t ∷ ts))
+        (inserted (cond first (suc (dueCount 1 ts)) 0) resHigh []) ≡ false
     by-test true e = rw (no-codes t lastPin (dueCount 1 ts) 1 ts) (and-none (entryRight lastPin 1 pin t resHigh))
     by-test false e = and-none (entryRight lastPin 1 pin 1 resHigh)
 rest-same pin (t ∷ ts) (c ∷ cs) h b = by-test (eqb t 1) refl b (rest-same (pinOf c) ts cs)
@@ -99,12 +102,15 @@ rest-same pin (t ∷ ts) (c ∷ cs) h b = by-test (eqb t 1) refl b (rest-same (p
     by-test : (first : Bool) → eqb t 1 ≡ first → belowRes (take (cond first (suc (dueCount 1 ts)) 0) (c ∷ cs)) ≡ true
         → (pinOf c < lastPin → belowRes (take (dueCount 1 ts) cs) ≡ true
         → restRight lastPin 1 (pinOf c) (releaseClocks ts) (releaseCodes ts cs) ≡ restRight lastPin 1 (pinOf c) ts cs)
-        → restRight lastPin 1 pin (inserted (cond first (suc (dueCount 1 ts)) 0) 1 (t ∷ ts)) (inserted (cond first (suc (dueCount 1 ts)) 0) resHigh (c ∷ cs))
+        → restRight lastPin 1 pin (inserted (cond first (suc (dueCount 1 ts)) 0) 1 (t ∷ ts))
+        (inserted (cond first (suc (dueCount 1 ts)) 0) resHigh (c ∷ cs))
         ≡ (entryRight lastPin 1 pin t c && restRight lastPin t (pinOf c) ts cs)
     by-test true e below later =
         let is = eqb-true t 1 e in
-        let lower = ltb-true (pinOf c) lastPin (and-left (ltb (pinOf c) lastPin) (belowRes (take (dueCount 1 ts) cs)) below) in
-        rw is (ap (λ (r : Bool). entryRight lastPin 1 pin 1 c && r) (later lower (and-right (ltb (pinOf c) lastPin) (belowRes (take (dueCount 1 ts) cs)) below)))
+        let lower =
+        ltb-true (pinOf c) lastPin (and-left (ltb (pinOf c) lastPin) (belowRes (take (dueCount 1 ts) cs)) below) in
+        rw is (ap (λ (r : Bool). entryRight lastPin 1 pin 1 c && r)
+        (later lower (and-right (ltb (pinOf c) lastPin) (belowRes (take (dueCount 1 ts) cs)) below)))
     by-test false e below later = rw (entry-res pin h, entry-behind pin t c e)
 
 pub pins-same : (ts cs : List ℕ) → belowRes (take (dueCount 1 ts) cs) ≡ true
@@ -115,24 +121,29 @@ pins-same [] (c ∷ cs) b = refl
 pins-same (t ∷ ts) [] b = by-test (eqb t 1) refl
   where
     by-test : (first : Bool) → eqb t 1 ≡ first
-        → pinsRight lastPin 0 (inserted (cond first (suc (dueCount 1 ts)) 0) 1 (t ∷ ts)) (inserted (cond first (suc (dueCount 1 ts)) 0) resHigh []) ≡ false
+        → pinsRight lastPin 0 (inserted (cond first (suc (dueCount 1 ts)) 0) 1 (t ∷ ts))
+        (inserted (cond first (suc (dueCount 1 ts)) 0) resHigh []) ≡ false
     by-test true e = rw (no-codes t lastPin (dueCount 1 ts) 1 ts) (and-none (ltb 0 t))
     by-test false e = refl
 pins-same (t ∷ ts) (c ∷ cs) b = by-test (eqb t 1) refl b
   where
     by-test : (first : Bool) → eqb t 1 ≡ first → belowRes (take (cond first (suc (dueCount 1 ts)) 0) (c ∷ cs)) ≡ true
-        → pinsRight lastPin 0 (inserted (cond first (suc (dueCount 1 ts)) 0) 1 (t ∷ ts)) (inserted (cond first (suc (dueCount 1 ts)) 0) resHigh (c ∷ cs))
+        → pinsRight lastPin 0 (inserted (cond first (suc (dueCount 1 ts)) 0) 1 (t ∷ ts))
+        (inserted (cond first (suc (dueCount 1 ts)) 0) resHigh (c ∷ cs))
         ≡ (codeRight lastPin c && ltb 0 t && restRight lastPin t (pinOf c) ts cs)
     by-test true e below =
         let is = eqb-true t 1 e in
-        let lower = ltb-true (pinOf c) lastPin (and-left (ltb (pinOf c) lastPin) (belowRes (take (dueCount 1 ts) cs)) below) in
-        rw is (ap (λ (r : Bool). codeRight lastPin c && ltb 0 1 && r) (rest-same (pinOf c) ts cs lower (and-right (ltb (pinOf c) lastPin) (belowRes (take (dueCount 1 ts) cs)) below)))
+        let lower =
+        ltb-true (pinOf c) lastPin (and-left (ltb (pinOf c) lastPin) (belowRes (take (dueCount 1 ts) cs)) below) in
+        rw is (ap (λ (r : Bool). codeRight lastPin c && ltb 0 1 && r) (rest-same (pinOf c) ts cs lower
+        (and-right (ltb (pinOf c) lastPin) (belowRes (take (dueCount 1 ts) cs)) below)))
     by-test false e below = by-zero (ltb 0 t) refl
       where
         other : t ≡ 1 → ⊥
         other = eqb-false t 1 e
 
         by-zero : (some : Bool) → ltb 0 t ≡ some
-            → (entryRight lastPin 1 lastPin t c && restRight lastPin t (pinOf c) ts cs) ≡ (codeRight lastPin c && some && restRight lastPin t (pinOf c) ts cs)
+            → (entryRight lastPin 1 lastPin t c && restRight lastPin t (pinOf c) ts cs)
+            ≡ (codeRight lastPin c && some && restRight lastPin t (pinOf c) ts cs)
         by-zero true z = rw (lt-ltb 1 t (omega (arith, ltb-true 0 t z, other)))
         by-zero false z = rw (ne-eqb 1 t (λ y. other (sym y)), le-ltb 1 t (omega (arith, ltb-false 0 t z)))

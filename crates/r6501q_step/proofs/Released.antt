@@ -27,16 +27,20 @@ use Rattle.cpu_access.specs.Accesses.{peripheralsRead, performed}
 use Rattle.cpu.specs.Sequence.{resetAccesses}
 use Rattle.r6501q_cpu.specs.Processor.{resetStart, startOf, processorOf}
 use Rattle.r6501q_state.specs.Control.{modeA, modeB}
-use Rattle.r6501q_state.specs.Pins.{driveA, driveD, drivenWord, levelsOf, rose, fell, edges, withEdges, resetOf, sensedAt, sensed}
-use Rattle.r6501q_clock.specs.Clock.{withInputs, countA, countB, sentBy, heardBy, worked, workedState, readyOf, finished, recorded, clockOf}
+use Rattle.r6501q_state.specs.Pins.{driveA, driveD, drivenWord, levelsOf, rose, fell, edges, withEdges, resetOf}
+use Rattle.r6501q_state.specs.Pins.{sensedAt, sensed}
+use Rattle.r6501q_clock.specs.Clock.{withInputs, countA, countB, sentBy, heardBy, worked, workedState, readyOf}
+use Rattle.r6501q_clock.specs.Clock.{finished, recorded, clockOf}
 use Rattle.r6501q_clock.specs.Copies.{withExternal}
 use Rattle.r6501q_clock.specs.declared.Clocked.{Clocked}
-use Rattle.r6501q_gaps.specs.Events.{hasInput, sameLevels, levelsChange, underflowsA, underflowsB, resetChanges, cpuStarts, putsByte, eventOf}
+use Rattle.r6501q_gaps.specs.Events.{hasInput, sameLevels, levelsChange, underflowsA, underflowsB, resetChanges}
+use Rattle.r6501q_gaps.specs.Events.{cpuStarts, putsByte, eventOf}
 use Rattle.leaps.specs.Chip.{ClockOutcome, stopped, ended}
 use Rattle.leaps.specs.World.{after, outcomeIn, plainOf, isDone, doneIn, eventIn}
 use Rattle.leaps.specs.Calls.{callStart, refusalIn}
 use Rattle.r6501q_step.specs.R6501q.{World, clockOutcome, r6501q, plain}
-use Rattle.r6501q_step.proofs.ReleaseLists.{releaseClocks, releaseCodes, belowRes, inserted-take, inserted-drop, inserted-length, due-inserted, suc-same, pins-same}
+use Rattle.r6501q_step.proofs.ReleaseLists.{releaseClocks, releaseCodes, belowRes, inserted-take, inserted-drop}
+use Rattle.r6501q_step.proofs.ReleaseLists.{inserted-length, due-inserted, suc-same, pins-same}
 
 -- the old start: fresh with RES high in both its levels
 abbrev pub released : State
@@ -76,23 +80,27 @@ below-set ports nmi res (code ∷ codes) e =
     by-test : (t : Bool) → ltb (pinOf code) 32 ≡ t
         → To (withBit (pinOf code) (highOf code) ports) nmi res → To ports (highOf code) res
         → withInputs (withInput (levelsAt ports nmi res) code) codes
-        ≡ levelsAt (withInputs (withInput (levelsAt ports nmi true) code) codes .ports) (withInputs (withInput (levelsAt ports nmi true) code) codes .nmi) res
+        ≡ levelsAt (withInputs (withInput (levelsAt ports nmi true) code) codes .ports)
+        (withInputs (withInput (levelsAt ports nmi true) code) codes .nmi) res
     by-test true h a b = rw h a
     by-test false h a b =
         let below = ltb-true (pinOf code) lastPin (and-left (ltb (pinOf code) lastPin) (belowRes codes) e) in
         let above = ltb-false (pinOf code) 32 h in
         rw (h, eq-eqb (pinOf code) 32 (omega (arith, below, above))) b
 
-inputs-append : (l : Levels) (first later : List ℕ) → withInputs l (first ++ later) ≡ withInputs (withInputs l first) later
+inputs-append : (l : Levels) (first later : List ℕ)
+    → withInputs l (first ++ later) ≡ withInputs (withInputs l first) later
 unfolding withInputs
 inputs-append l [] later = refl
 inputs-append l (code ∷ first) later = inputs-append (withInput l code) first later
 
 -- RES high behind them: the levels of the old start after them
-released-levels : (codes : List ℕ) → belowRes codes ≡ true → withInputs freshLevels (codes ++ (resHigh ∷ [])) ≡ withInputs highLevels codes
+released-levels : (codes : List ℕ) → belowRes codes ≡ true
+    → withInputs freshLevels (codes ++ (resHigh ∷ [])) ≡ withInputs highLevels codes
 unfolding withInputs withInput
 released-levels codes e =
-    inputs-append freshLevels codes (resHigh ∷ []) ∙ ap (λ (l : Levels). withInput l resHigh) (below-set 0xFFFFFFFF true false codes e)
+    inputs-append freshLevels codes (resHigh ∷ [])
+    ∙ ap (λ (l : Levels). withInput l resHigh) (below-set 0xFFFFFFFF true false codes e)
     ∙ sym (below-set 0xFFFFFFFF true true codes e)
 
 -- an input of RES behind them: the levels are the same whatever RES was
@@ -100,7 +108,8 @@ given-levels : (codes : List ℕ) (code : ℕ) → belowRes codes ≡ true → p
     → withInputs freshLevels (codes ++ (code ∷ [])) ≡ withInputs highLevels (codes ++ (code ∷ []))
 unfolding withInputs withInput
 given-levels codes code e res =
-    inputs-append freshLevels codes (code ∷ []) ∙ ap (λ (l : Levels). withInput l code) (below-set 0xFFFFFFFF true false codes e)
+    inputs-append freshLevels codes (code ∷ [])
+    ∙ ap (λ (l : Levels). withInput l code) (below-set 0xFFFFFFFF true false codes e)
     ∙ rw res refl ∙ ap (λ (l : Levels). withInput l code) (sym (below-set 0xFFFFFFFF true true codes e))
     ∙ sym (inputs-append highLevels codes (code ∷ []))
 
@@ -109,13 +118,16 @@ given-levels codes code e res =
 -- by the levels that its inputs leave; no edge hangs on RES
 abbrev firstClock : Levels → List ℕ → Bool → Clocked
 firstClock l memory free =
-    recorded (drivenWord freshPeripherals) free (processorOf (workedState (highLevels .ports) (sensed (withExternal released 1 l))) memory)
+    recorded (drivenWord freshPeripherals) free
+    (processorOf (workedState (highLevels .ports) (sensed (withExternal released 1 l))) memory)
 
-first-fresh : (codes memory : List ℕ) (free : Bool) → clockOf fresh codes memory free ≡ firstClock (withInputs freshLevels codes) memory free
+first-fresh : (codes memory : List ℕ) (free : Bool)
+    → clockOf fresh codes memory free ≡ firstClock (withInputs freshLevels codes) memory free
 unfolding clockOf readyOf fresh sensed sensedAt withEdges resetOf levelsOf byteWaits
 first-fresh codes memory free = refl
 
-first-old : (codes memory : List ℕ) (free : Bool) → clockOf released codes memory free ≡ firstClock (withInputs highLevels codes) memory free
+first-old : (codes memory : List ℕ) (free : Bool)
+    → clockOf released codes memory free ≡ firstClock (withInputs highLevels codes) memory free
 unfolding clockOf readyOf
 first-old codes memory free = refl
 
@@ -127,18 +139,25 @@ clock-same codes codes' memory free e =
 -- it is done: the reset entry starts, or RES is low again, and no drive changes
 done-at : (halt : Halt) (ports : ℕ) (nmi res : Bool) (memory : List ℕ) (free : Bool)
     → isDone (clockOutcome halt memory (firstClock (levelsAt ports nmi res) memory free)) ≡ true
-unfolding sensed sensedAt levelsOf withEdges resetOf worked countA countB sentBy heardBy processorOf startOf resetStart resetAccesses performed peripheralsRead drivenWord driveA driveD finished clockA countsA downA clockB downB setWhere flipWhere modeA modeB inForce holdsA transmitterClock receiverClock ticksOf transmitterAsynchronous receiverAsynchronous receiverShifting byteWaits
+unfolding sensed sensedAt levelsOf withEdges resetOf worked countA countB sentBy heardBy processorOf startOf resetStart
+    resetAccesses performed peripheralsRead drivenWord driveA driveD finished clockA countsA downA clockB downB setWhere
+    flipWhere modeA modeB inForce holdsA transmitterClock receiverClock ticksOf transmitterAsynchronous
+    receiverAsynchronous receiverShifting byteWaits
 done-at halt ports nmi true memory free = refl
 done-at halt ports nmi false memory free = refl
 
-first-done : (halt : Halt) (codes memory : List ℕ) (free : Bool) → isDone (clockOutcome halt memory (clockOf released codes memory free)) ≡ true
+first-done : (halt : Halt) (codes memory : List ℕ) (free : Bool)
+    → isDone (clockOutcome halt memory (clockOf released codes memory free)) ≡ true
 first-done halt codes memory free =
     let l = withInputs highLevels codes in
-    ap (λ (c : Clocked). isDone (clockOutcome halt memory c)) (first-old codes memory free) ∙ done-at halt (l .ports) (l .nmi) (l .res) memory free
+    ap (λ (c : Clocked). isDone (clockOutcome halt memory c)) (first-old codes memory free)
+    ∙ done-at halt (l .ports) (l .nmi) (l .res) memory free
 
 -- and is an event clock: it has an input, or the CPU starts
 event-old : (codes : List ℕ) → eventOf released codes ≡ true
-unfolding eventOf hasInput withInputs levelsChange sameLevels levelsOf drivenWord driveA driveD sensed sensedAt withEdges edges setWhere rose fell underflowsA underflowsB resetChanges cpuStarts putsByte clockA countsA downA clockB downB modeA modeB inForce holdsA receiverAsynchronous byteWaits
+unfolding eventOf hasInput withInputs levelsChange sameLevels levelsOf drivenWord driveA driveD sensed sensedAt
+    withEdges edges setWhere rose fell underflowsA underflowsB resetChanges cpuStarts putsByte clockA countsA downA
+    clockB downB modeA modeB inForce holdsA receiverAsynchronous byteWaits
 event-old [] = refl
 event-old (code ∷ codes) = refl
 
@@ -165,16 +184,20 @@ oneMoreRead w = record {
 
 -- a call's start: from fresh with that input, and from the old start
 abbrev pub releasedStart : List ℕ → List ℕ → List ℕ → List ℕ → List ℕ → World
-releasedStart memory clocks codes times words = callStart fresh memory (releaseClocks clocks) (releaseCodes clocks codes) times words
+releasedStart memory clocks codes times words =
+    callStart fresh memory (releaseClocks clocks) (releaseCodes clocks codes) times words
 
 abbrev pub oldStart : List ℕ → List ℕ → List ℕ → List ℕ → List ℕ → World
 oldStart memory clocks codes times words = callStart released memory clocks codes times words
 
-pub old-done : (halt : Halt) (memory clocks codes times words : List ℕ) → doneIn (r6501q halt) (oldStart memory clocks codes times words) ≡ true
+pub old-done : (halt : Halt) (memory clocks codes times words : List ℕ)
+    → doneIn (r6501q halt) (oldStart memory clocks codes times words) ≡ true
 unfolding doneIn
-old-done halt memory clocks codes times words = first-done halt (take (dueCount 1 clocks) codes) memory (ltb 0 (length times))
+old-done halt memory clocks codes times words =
+    first-done halt (take (dueCount 1 clocks) codes) memory (ltb 0 (length times))
 
-module _ (halt : Halt) (memory clocks codes times words : List ℕ) (below : belowRes (take (dueCount 1 clocks) codes) ≡ true)
+module _ (halt : Halt) (memory clocks codes times words : List ℕ)
+    (below : belowRes (take (dueCount 1 clocks) codes) ≡ true)
     (within : dueCount 1 clocks ≤ length codes) where
   abbrev start : World
   start = releasedStart memory clocks codes times words
@@ -192,12 +215,18 @@ module _ (halt : Halt) (memory clocks codes times words : List ℕ) (below : bel
   outcome = outcomeIn (r6501q halt) old due
 
   outcome-same : outcomeIn (r6501q halt) start (dueCount 1 (releaseClocks clocks)) ≡ outcome
-  outcome-same = rw (codes-due, clock-same (take due codes ++ (resHigh ∷ [])) (take due codes) memory (ltb 0 (length times)) (released-levels (take due codes) below))
+  outcome-same =
+      rw (
+        codes-due,
+        clock-same (take due codes ++ (resHigh ∷ [])) (take due codes) memory (ltb 0 (length times))
+            (released-levels (take due codes) below),
+      )
 
   outcome-done : isDone outcome ≡ true
   outcome-done = first-done halt (take due codes) memory (ltb 0 (length times))
 
-  after-same : (o : ClockOutcome State) → isDone o ≡ true → after (r6501q halt) start (suc due) o ≡ oneMoreRead (after (r6501q halt) old due o)
+  after-same : (o : ClockOutcome State) → isDone o ≡ true
+      → after (r6501q halt) start (suc due) o ≡ oneMoreRead (after (r6501q halt) old due o)
   after-same (stopped number) e = absurd (false≢true e)
   after-same (ended end) e =
       let read : 0 + suc due ≡ 0 + due + 1 = omega arith in
@@ -217,11 +246,17 @@ module _ (halt : Halt) (memory clocks codes times words : List ℕ) (below : bel
 
 -- A list that sets RES on clock 1 itself, the last of that clock's pins, needs no other input: the first clock is the
 -- old start's in all
-module _ (halt : Halt) (memory clocks codes times words front : List ℕ) (code : ℕ) (given : take (dueCount 1 clocks) codes ≡ front ++ (code ∷ []))
+module _ (halt : Halt) (memory clocks codes times words front : List ℕ) (code : ℕ)
+    (given : take (dueCount 1 clocks) codes ≡ front ++ (code ∷ []))
     (below : belowRes front ≡ true) (res : pinOf code ≡ lastPin) where
   given-outcome : outcomeIn (r6501q halt) (callStart fresh memory clocks codes times words) (dueCount 1 clocks)
       ≡ outcomeIn (r6501q halt) (oldStart memory clocks codes times words) (dueCount 1 clocks)
-  given-outcome = rw (given, clock-same (front ++ (code ∷ [])) (front ++ (code ∷ [])) memory (ltb 0 (length times)) (given-levels front code below res))
+  given-outcome =
+      rw (
+        given,
+        clock-same (front ++ (code ∷ [])) (front ++ (code ∷ [])) memory (ltb 0 (length times))
+            (given-levels front code below res),
+      )
 
   given-after : (o : ClockOutcome State) → isDone o ≡ true
       → after (r6501q halt) (callStart fresh memory clocks codes times words) (dueCount 1 clocks) o
@@ -229,14 +264,16 @@ module _ (halt : Halt) (memory clocks codes times words front : List ℕ) (code 
   given-after (stopped number) e = absurd (false≢true e)
   given-after (ended end) e = refl
 
-  pub given-plain : plain halt (callStart fresh memory clocks codes times words) ≡ plain halt (oldStart memory clocks codes times words)
+  pub given-plain : plain halt (callStart fresh memory clocks codes times words)
+      ≡ plain halt (oldStart memory clocks codes times words)
   unfolding plainOf fresh
   given-plain =
       rw given-outcome
       (given-after (outcomeIn (r6501q halt) (oldStart memory clocks codes times words) (dueCount 1 clocks))
       (first-done halt (take (dueCount 1 clocks) codes) memory (ltb 0 (length times))))
 
-  pub given-event : eventIn (r6501q halt) (callStart fresh memory clocks codes times words) ≡ eventIn (r6501q halt) (oldStart memory clocks codes times words)
+  pub given-event : eventIn (r6501q halt) (callStart fresh memory clocks codes times words)
+      ≡ eventIn (r6501q halt) (oldStart memory clocks codes times words)
   unfolding eventIn fresh
   given-event = rw given (event-new front code ∙ sym (event-old (front ++ (code ∷ []))))
 
@@ -245,8 +282,10 @@ module _ (halt : Halt) (memory clocks codes times words front : List ℕ) (code 
   given-done = rw given-outcome (first-done halt (take (dueCount 1 clocks) codes) memory (ltb 0 (length times)))
 
 -- a call for any number of clocks is refused just where it was, with the same number
-pub refusal-same : (halt : Halt) (n : ℕ) (memory clocks codes times words : List ℕ) → belowRes (take (dueCount 1 clocks) codes) ≡ true
-    → refusalIn (r6501q halt) n (releasedStart memory clocks codes times words) ≡ refusalIn (r6501q halt) n (oldStart memory clocks codes times words)
+pub refusal-same : (halt : Halt) (n : ℕ) (memory clocks codes times words : List ℕ)
+    → belowRes (take (dueCount 1 clocks) codes) ≡ true
+    → refusalIn (r6501q halt) n (releasedStart memory clocks codes times words)
+    ≡ refusalIn (r6501q halt) n (oldStart memory clocks codes times words)
 unfolding refusalOf fresh wellFormed
 refusal-same halt n memory clocks codes times words below =
     rw (

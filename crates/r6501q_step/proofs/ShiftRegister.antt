@@ -8,10 +8,15 @@ use Rattle.bits.specs.Bits.{bit}
 use Rattle.bits.specs.Lists.{tabulate}
 use Rattle.bits.specs.Bits.{withBit, setWhere, flipWhere}
 use Rattle.pin_lists.specs.PinLists.{dueCount}
-use Rattle.counters.specs.Counters.{ticksOf, inForce, downA, countsA, clockA, lowerA, upperA, loadCounterA, reloadB, downB, clockB, lowerB, upperB, copyB, loadCounterB, turnToC}
-use Rattle.serial.specs.Format.{transmitterAsynchronous, receiverAsynchronous, receiverShifting, holdsA, keepsTransmitter, keepsReceiver, parityBit, frameBits, sentBits, pace}
-use Rattle.serial.specs.Receiver.{startDetected, withLevel, receivedByte, wrongParity, statusAfter, keptWith, frameEnded, lookTaken, looked, receiveTick, shiftedAtRise, byteEnded, receiveRise, receiverClock, receiverWithSccr}
-use Rattle.serial.specs.Transmitter.{framed, taken, idleTick, frameEnd, nextPhase, ticked, bitTick, sendTick, transmitterClock, line, shiftClock, transmitterWithSccr}
+use Rattle.counters.specs.Counters.{ticksOf, inForce, downA, countsA, clockA, lowerA, upperA, loadCounterA, reloadB}
+use Rattle.counters.specs.Counters.{downB, clockB, lowerB, upperB, copyB, loadCounterB, turnToC}
+use Rattle.serial.specs.Format.{transmitterAsynchronous, receiverAsynchronous, receiverShifting, holdsA}
+use Rattle.serial.specs.Format.{keepsTransmitter, keepsReceiver, parityBit, frameBits, sentBits, pace}
+use Rattle.serial.specs.Receiver.{startDetected, withLevel, receivedByte, wrongParity, statusAfter, keptWith}
+use Rattle.serial.specs.Receiver.{frameEnded, lookTaken, looked, receiveTick, shiftedAtRise, byteEnded, receiveRise}
+use Rattle.serial.specs.Receiver.{receiverClock, receiverWithSccr}
+use Rattle.serial.specs.Transmitter.{framed, taken, idleTick, frameEnd, nextPhase, ticked, bitTick, sendTick}
+use Rattle.serial.specs.Transmitter.{transmitterClock, line, shiftClock, transmitterWithSccr}
 use Rattle.cpu_opcodes.specs.Decode.{decodeOf}
 use Rattle.cpu_alu.specs.Status.{packed, unpacked, pushed}
 use Rattle.cpu_access.specs.declared.halt.Halt.the-variants.{Nowhere, At}
@@ -24,12 +29,17 @@ use Rattle.cpu_access.specs.Waiting.{byteWaits}
 use Rattle.cpu_access.specs.Accesses.{byteAfter, peripheralsRead, peripheralsWritten, valueRead, performed, inOrder}
 use Rattle.cpu_access.specs.Operands.{located}
 use Rattle.cpu_access.specs.Modes.{displacement}
-use Rattle.cpu_operations.specs.Kinds.{withRead, changedBy, byteToStore, branchTaken, bitBranchTaken, byteToPush, withPulled, withRegister, withFlag}
-use Rattle.cpu.specs.Sequence.{completion, storeAt, modifyAccesses, branchOn, bitBranchAccesses, jumpTo, pushAccesses, pullAccesses, returnAccesses, interruptReturnAccesses, entryAccesses, breakAccesses, callAccesses, operationAccesses, instructionAccesses, resetAccesses, interruptAccesses}
-use Rattle.r6501q_cpu.specs.Processor.{wholeInstruction, irqDue, resetStart, nmiStart, irqStart, startOf, bytePut, processorOf}
+use Rattle.cpu_operations.specs.Kinds.{withRead, changedBy, byteToStore, branchTaken, bitBranchTaken, byteToPush}
+use Rattle.cpu_operations.specs.Kinds.{withPulled, withRegister, withFlag}
+use Rattle.cpu.specs.Sequence.{completion, storeAt, modifyAccesses, branchOn, bitBranchAccesses, jumpTo, pushAccesses}
+use Rattle.cpu.specs.Sequence.{pullAccesses, returnAccesses, interruptReturnAccesses, entryAccesses, breakAccesses}
+use Rattle.cpu.specs.Sequence.{callAccesses, operationAccesses, instructionAccesses, resetAccesses, interruptAccesses}
+use Rattle.r6501q_cpu.specs.Processor.{wholeInstruction, irqDue, resetStart, nmiStart, irqStart, startOf, bytePut}
+use Rattle.r6501q_cpu.specs.Processor.{processorOf}
 use Rattle.r6501q_state.specs.Control.{flagsOf, modeA, modeB}
 use Rattle.r6501q_state.specs.Inputs.{withInput}
-use Rattle.r6501q_state.specs.Pins.{driveA, driveD, drivenWord, levelsOf, rose, fell, edges, withEdges, resetOf, sensedAt, sensed}
+use Rattle.r6501q_state.specs.Pins.{driveA, driveD, drivenWord, levelsOf, rose, fell, edges, withEdges, resetOf}
+use Rattle.r6501q_state.specs.Pins.{sensedAt, sensed}
 use Rattle.r6501q_state.specs.State.{fresh}
 use Rattle.r6501q_registers.specs.Read.{portValue, registerValue, afterRead}
 use Rattle.r6501q_registers.specs.Write.{startB, startA, entering, keptFlag, keptFlags, writeOf}
@@ -43,7 +53,9 @@ use Rattle.serial.specs.Transmitter.{idleTransmitter}
 use Rattle.r6501q_clock.specs.Clock.{inputsSet}
 use Rattle.leaps.specs.Leaps.{eventsIn, quietEnd, plains, trace, leapCount}
 use Rattle.leaps.specs.World.{putRecord, plainOf, doneIn, eventIn}
-use Rattle.r6501q_gaps.specs.Events.{hasInput, sameLevels, levelsChange, underflowsA, underflowsB, portsFresh, controlFresh, transmitterIdle, receiverIdle, isReset, resetChanges, cpuStarts, putsByte, eventOf}
+use Rattle.r6501q_gaps.specs.Events.{hasInput, sameLevels, levelsChange, underflowsA, underflowsB, portsFresh}
+use Rattle.r6501q_gaps.specs.Events.{controlFresh, transmitterIdle, receiverIdle, isReset, resetChanges, cpuStarts}
+use Rattle.r6501q_gaps.specs.Events.{putsByte, eventOf}
 use Rattle.r6501q_step.specs.R6501q.{World, plain, chip}
 use Rattle.r6501q_step.proofs.Halted.{toldBy, clockIn}
 use lib.ListN.{replicate}
@@ -101,26 +113,45 @@ pub record ShiftRegister : Type 0 where
   -- for each bit; after clock 35 an under-run, both lines high
   pub sent-clocks : plains (chip Nowhere) 35 (shiftStart thenNothing) .outputClocks ≡ tabulate (λ k. k) 17 19
   pub sent-words : plains (chip Nowhere) 35 (shiftStart thenNothing) .outputWords
-      ≡ drivenA 0xEF ∷ drivenA 0xFF ∷ drivenA 0xAF ∷ drivenA 0xBF ∷ drivenA 0xAF ∷ drivenA 0xBF ∷ drivenA 0xAF ∷ drivenA 0xBF
-      ∷ drivenA 0xAF ∷ drivenA 0xBF ∷ drivenA 0xAF ∷ drivenA 0xBF ∷ drivenA 0xEF ∷ drivenA 0xFF ∷ drivenA 0xAF ∷ drivenA 0xBF
+      ≡ drivenA 0xEF ∷ drivenA 0xFF ∷ drivenA 0xAF ∷ drivenA 0xBF ∷ drivenA 0xAF ∷ drivenA 0xBF ∷ drivenA 0xAF
+      ∷ drivenA 0xBF
+      ∷ drivenA 0xAF ∷ drivenA 0xBF ∷ drivenA 0xAF ∷ drivenA 0xBF ∷ drivenA 0xEF ∷ drivenA 0xFF ∷ drivenA 0xAF
+      ∷ drivenA 0xBF
       ∷ drivenA 0xFF ∷ []
   pub under-run : plains (chip Nowhere) 35 (shiftStart thenNothing) .state .peripherals .control .scsr ≡ 0xC0
   -- "it takes the next data that tick": 17h written again meanwhile, PA4 is low and PA6 the next byte's first bit
-  pub next-taken : plains (chip Nowhere) 35 (shiftStart thenAnother) .state .peripherals .transmitter ≡ record { left = 8; phase = 0; register = 0x41 }
+  pub next-taken : plains (chip Nowhere) 35 (shiftStart thenAnother) .state .peripherals .transmitter
+      ≡ record { left = 8; phase = 0; register = 0x41 }
   pub next-driven : drivenWord (plains (chip Nowhere) 35 (shiftStart thenAnother) .state .peripherals) ≡ drivenA 0xEF
   -- SCCR written with the same A0h ends the byte: PA4 and PA6 go high
-  pub sccr-again : plains (chip Nowhere) 23 (shiftStart thenSccrAgain) .state .peripherals .transmitter ≡ idleTransmitter
+  pub sccr-again : plains (chip Nowhere) 23 (shiftStart thenSccrAgain) .state .peripherals .transmitter
+      ≡ idleTransmitter
   pub sccr-driven : drivenWord (plains (chip Nowhere) 22 (shiftStart thenSccrAgain) .state .peripherals) ≡ drivenA 0xBF
   pub sccr-high : drivenWord (plains (chip Nowhere) 23 (shiftStart thenSccrAgain) .state .peripherals) ≡ drivenA 0xFF
   -- PA7 1, 0, 0, 0, 0, 0, 1, 0 at rises of PA4, SCCR 50h: 7 bits left and 400h after the first, 208h and the byte 41h
   -- at the last
-  pub first-rise : plains (chip Nowhere) 2 receiverStart .state .peripherals .receiver ≡ record { subinterval = 0; half = false; left = 7; register = 0x400 }
-  pub last-rise : plains (chip Nowhere) 16 receiverStart .state .peripherals .receiver ≡ record { subinterval = 0; half = false; left = 0; register = 0x208 }
+  pub first-rise : plains (chip Nowhere) 2 receiverStart .state .peripherals .receiver
+      ≡ record { subinterval = 0; half = false; left = 7; register = 0x400 }
+  pub last-rise : plains (chip Nowhere) 16 receiverStart .state .peripherals .receiver
+      ≡ record { subinterval = 0; half = false; left = 0; register = 0x208 }
   pub byte-received : plains (chip Nowhere) 16 receiverStart .state .peripherals .serial .received ≡ 0x41
   pub byte-full : plains (chip Nowhere) 16 receiverStart .state .peripherals .control .scsr ≡ 0x41
 
 pub shift-register : ShiftRegister
-unfolding withBit setWhere flipWhere dueCount ticksOf inForce downA countsA clockA lowerA upperA loadCounterA reloadB downB clockB lowerB upperB copyB loadCounterB turnToC transmitterAsynchronous receiverAsynchronous receiverShifting holdsA keepsTransmitter keepsReceiver parityBit frameBits sentBits pace startDetected withLevel receivedByte wrongParity statusAfter keptWith frameEnded lookTaken looked receiveTick shiftedAtRise byteEnded receiveRise receiverClock receiverWithSccr framed taken idleTick frameEnd nextPhase ticked bitTick sendTick transmitterClock line shiftClock transmitterWithSccr decodeOf packed unpacked pushed memoryByte displacement flagsOf modeA modeB withInput driveA driveD drivenWord levelsOf rose fell edges withEdges resetOf sensedAt sensed fresh portValue registerValue afterRead startB startA entering keptFlag keptFlags writeOf wholeInstruction irqDue resetStart nmiStart irqStart startOf bytePut processorOf withInputs countA countB sentBy heardBy worked readyOf finished clockOf halts putWrite committed plainOf plains putRecord located byteAfter peripheralsRead peripheralsWritten valueRead performed inOrder completion storeAt modifyAccesses branchOn bitBranchAccesses jumpTo pushAccesses pullAccesses returnAccesses interruptReturnAccesses entryAccesses breakAccesses callAccesses operationAccesses withRead changedBy byteToStore branchTaken bitBranchTaken byteToPush withPulled withRegister withFlag instructionAccesses resetAccesses interruptAccesses
+unfolding withBit setWhere flipWhere dueCount ticksOf inForce downA countsA clockA lowerA upperA loadCounterA reloadB
+    downB clockB lowerB upperB copyB loadCounterB turnToC transmitterAsynchronous receiverAsynchronous receiverShifting
+    holdsA keepsTransmitter keepsReceiver parityBit frameBits sentBits pace startDetected withLevel receivedByte
+    wrongParity statusAfter keptWith frameEnded lookTaken looked receiveTick shiftedAtRise byteEnded receiveRise
+    receiverClock receiverWithSccr framed taken idleTick frameEnd nextPhase ticked bitTick sendTick transmitterClock
+    line shiftClock transmitterWithSccr decodeOf packed unpacked pushed memoryByte displacement flagsOf modeA modeB
+    withInput driveA driveD drivenWord levelsOf rose fell edges withEdges resetOf sensedAt sensed fresh portValue
+    registerValue afterRead startB startA entering keptFlag keptFlags writeOf wholeInstruction irqDue resetStart
+    nmiStart irqStart startOf bytePut processorOf withInputs countA countB sentBy heardBy worked readyOf finished
+    clockOf halts putWrite committed plainOf plains putRecord located byteAfter peripheralsRead peripheralsWritten
+    valueRead performed inOrder completion storeAt modifyAccesses branchOn bitBranchAccesses jumpTo pushAccesses
+    pullAccesses returnAccesses interruptReturnAccesses entryAccesses breakAccesses callAccesses operationAccesses
+    withRead changedBy byteToStore branchTaken bitBranchTaken byteToPush withPulled withRegister withFlag
+    instructionAccesses resetAccesses interruptAccesses
 shift-register = record {
   sent-clocks = refl;
   sent-words = refl;

@@ -33,10 +33,12 @@ use Rattle.r6501q_state.specs.Pins.{drivenWord, levelsOf, withEdges, resetOf, s
 use Rattle.r6501q_cpu.specs.declared.Next.{Next}
 use Rattle.r6501q_cpu.specs.declared.Processed.{Processed}
 use Rattle.r6501q_cpu.specs.declared.Processed.the-variants as processed
-use Rattle.r6501q_cpu.specs.Processor.{registersOf, performedIn, processedBy, irqDue, wholeInstruction, resetStart, nmiStart, irqStart, startOf, withoutWrites, bytePut, waitedBy, processorOf}
+use Rattle.r6501q_cpu.specs.Processor.{registersOf, performedIn, processedBy, irqDue, wholeInstruction, resetStart}
+use Rattle.r6501q_cpu.specs.Processor.{nmiStart, irqStart, startOf, withoutWrites, bytePut, waitedBy, processorOf}
 use Rattle.r6501q_clock.specs.declared.Clocked.the-variants.{Stopped, Done}
 use Rattle.r6501q_clock.specs.Clock.{inputsSet, readyOf, fullStop, endedWith, finished, recorded, clockOf}
-use Rattle.r6501q_gaps.specs.Events.{levelsChange, underflowsA, underflowsB, resetChanges, cpuStarts, putsByte, isReset, eventOf}
+use Rattle.r6501q_gaps.specs.Events.{levelsChange, underflowsA, underflowsB, resetChanges, cpuStarts, putsByte, isReset}
+use Rattle.r6501q_gaps.specs.Events.{eventOf}
 use Rattle.r6501q_gaps.specs.Gaps.{toInput, toChange, toUnderflowA, toUnderflowB, toReset, toCpu, gapOf, passOf}
 use Rattle.r6501q_step.specs.R6501q.{World, clockOutcome, r6501q, chip, machine}
 use Rattle.r6501q_step.specs.Shifted.{shiftedState}

@@ -35,36 +35,44 @@ isUndefined (decoded.Defined e) = false
 -- undefined
 abbrev pub startsUndefined : State → List ℕ → Bool
 startsUndefined s memory =
-    s .last .res && not (ltb 0 (s .cpu .wait)) && not (s .due .reset) && not (s .due .nmi) && not (irqDue s) && isUndefined (decodeOf (opcodeAt s memory))
+    s .last .res && not (ltb 0 (s .cpu .wait)) && not (s .due .reset) && not (s .due .nmi) && not (irqDue s)
+    && isUndefined (decodeOf (opcodeAt s memory))
 
 abbrev stopsWithSix : Processed → Bool
 stopsWithSix (processed.Stopped number) = eqb number 6
 stopsWithSix (processed.Done n) = false
 
-instruction-undefined : (s : State) (memory : List ℕ) → stopsWithSix (wholeInstruction s memory) ≡ isUndefined (decodeOf (opcodeAt s memory))
+instruction-undefined : (s : State) (memory : List ℕ)
+    → stopsWithSix (wholeInstruction s memory) ≡ isUndefined (decodeOf (opcodeAt s memory))
 instruction-undefined s memory = by-opcode (decodeOf (opcodeAt s memory)) refl
   where
-    done : (e : Entry) → decodeOf (opcodeAt s memory) ≡ decoded.Defined e → (p : Processed) → wholeInstruction s memory ≡ p → stopsWithSix p ≡ false
+    done : (e : Entry) → decodeOf (opcodeAt s memory) ≡ decoded.Defined e → (p : Processed)
+        → wholeInstruction s memory ≡ p → stopsWithSix p ≡ false
     done e d (processed.Stopped number) u = absurd (defined-opcode s memory e number d u)
     done e d (processed.Done n) u = refl
 
-    by-opcode : (d : Decoded) → decodeOf (opcodeAt s memory) ≡ d → stopsWithSix (wholeInstruction s memory) ≡ isUndefined d
+    by-opcode : (d : Decoded) → decodeOf (opcodeAt s memory) ≡ d
+        → stopsWithSix (wholeInstruction s memory) ≡ isUndefined d
     by-opcode decoded.Undefined d = ap stopsWithSix (undefined-opcode s memory d)
     by-opcode (decoded.Defined e) d = done e d (wholeInstruction s memory) refl
 
 -- a clock after the first is done
 waited-done : (s : State) (v : Waiting) → stopsWithSix (waitedBy s v) ≡ false
 waited-done s Nothing = refl
-waited-done s (Byte w) = cond-both (λ (p : Processed). stopsWithSix p ≡ false) (eqb (s .cpu .wait) 1) _ _ (λ _. refl) (λ _. refl)
+waited-done s (Byte w) =
+    cond-both (λ (p : Processed). stopsWithSix p ≡ false) (eqb (s .cpu .wait) 1) _ _ (λ _. refl) (λ _. refl)
 
 processor-undefined : (s : State) (memory : List ℕ) → stopsWithSix (processorOf s memory) ≡ startsUndefined s memory
 unfolding processorOf startOf
 processor-undefined s memory =
-    by-tests (s .last .res) (ltb 0 (s .cpu .wait)) (s .due .reset) (s .due .nmi) (irqDue s) _ (waited-done s (s .cpu .waiting)) _ _ _ _
+    by-tests (s .last .res) (ltb 0 (s .cpu .wait)) (s .due .reset) (s .due .nmi) (irqDue s) _
+    (waited-done s (s .cpu .waiting)) _ _ _ _
     (wholeInstruction s memory) (instruction-undefined s memory)
   where
-    by-tests : (h z r m q : Bool) (x : Processed) → stopsWithSix x ≡ false → (b c d e : Next) (i : Processed) → stopsWithSix i ≡ isUndefined (decodeOf (opcodeAt s memory))
-        → stopsWithSix (cond h (cond z x (cond r (processed.Done b) (cond m (processed.Done c) (cond q (processed.Done d) i)))) (processed.Done e))
+    by-tests : (h z r m q : Bool) (x : Processed) → stopsWithSix x ≡ false → (b c d e : Next) (i : Processed)
+        → stopsWithSix i ≡ isUndefined (decodeOf (opcodeAt s memory))
+        → stopsWithSix (cond h (cond z x (cond r (processed.Done b)
+        (cond m (processed.Done c) (cond q (processed.Done d) i)))) (processed.Done e))
         ≡ (h && not z && not r && not m && not q && isUndefined (decodeOf (opcodeAt s memory)))
     by-tests false z r m q x done b c d e i u = refl
     by-tests true true r m q x done b c d e i u = done
@@ -86,18 +94,21 @@ by-record halt w due n word true false = refl
 by-record halt w due n word false free = halt-not-six (halts halt (n .writes))
 
 by-end : (halt : Halt) (w : World) (due : ℕ) (free : Bool) (p : Processed)
-    → eqb (after (r6501q halt) w due (clockOutcome halt (w .memory) (recorded (drivenWord (w .state .peripherals)) free p)) .stop) 6 ≡ stopsWithSix p
+    → eqb (after (r6501q halt) w due
+    (clockOutcome halt (w .memory) (recorded (drivenWord (w .state .peripherals)) free p)) .stop) 6 ≡ stopsWithSix p
 by-end halt w due free (processed.Stopped number) = refl
 by-end halt w due free (processed.Done n) = by-record halt w due n _ _ free
 
 -- A plain clock stops with 6 just where its steps 1 to 3 leave such a state.
 pub stop-six : (halt : Halt) (w : World) → w .stop ≡ 0
-    → eqb (plain halt w .stop) 6 ≡ startsUndefined (readyOf (w .state) (take (dueIn (r6501q halt) w) (w .inputCodes))) (w .memory)
+    → eqb (plain halt w .stop) 6
+    ≡ startsUndefined (readyOf (w .state) (take (dueIn (r6501q halt) w) (w .inputCodes))) (w .memory)
 unfolding plainOf clockOf
 stop-six halt w running =
     let due = dueIn (r6501q halt) w in
     let free = ltb (w .written) (length (w .outputClocks)) in
     let s = readyOf (w .state) (take due (w .inputCodes)) in
     let clocked = clockOf (w .state) (take due (w .inputCodes)) (w .memory) free in
-    ap (λ (v : World). eqb (v .stop) 6) (cond-yes (runningIn w) (after (r6501q halt) w due (clockOutcome halt (w .memory) clocked)) w (eq-eqb (w .stop) 0 running))
+    ap (λ (v : World). eqb (v .stop) 6) (cond-yes (runningIn w)
+    (after (r6501q halt) w due (clockOutcome halt (w .memory) clocked)) w (eq-eqb (w .stop) 0 running))
     ∙ by-end halt w due free (processorOf s (w .memory)) ∙ processor-undefined s (w .memory)

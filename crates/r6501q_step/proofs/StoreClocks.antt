@@ -22,7 +22,8 @@ use Rattle.r6501q_cpu.specs.declared.Next.{Next}
 use Rattle.r6501q_cpu.specs.declared.Processed.{Processed}
 use Rattle.r6501q_cpu.specs.declared.Processed.the-variants as processed
 use Rattle.r6501q_cpu.specs.Processor.{irqDue, opcodeAt, bytePut, processorOf}
-use Rattle.r6501q_cpu.proofs.Stores.{instruction-starts, instruction-begun, clock-waits, waited-less, byte-put, held-writes}
+use Rattle.r6501q_cpu.proofs.Stores.{instruction-starts, instruction-begun, clock-waits, waited-less, byte-put}
+use Rattle.r6501q_cpu.proofs.Stores.{held-writes}
 use Rattle.r6501q_clock.specs.Clock.{readyOf, finished, recorded, clockOf}
 use Rattle.r6501q_step.specs.R6501q.{World}
 use Rattle.r6501q_step.proofs.Halted.{toldBy, clockIn}
@@ -43,21 +44,27 @@ never-told false = refl
 
 module _ (w : World) where
   -- a clock tells what step 4 writes, unless it is not done
-  pub told-by : (n : Next) → processorOf (readyIn w) (w .memory) ≡ processed.Done n → toldBy (clockIn w) ≡ cond (fullIn w n) noWrites (n .writes)
+  pub told-by : (n : Next) → processorOf (readyIn w) (w .memory) ≡ processed.Done n
+      → toldBy (clockIn w) ≡ cond (fullIn w n) noWrites (n .writes)
   unfolding clockOf finished
   told-by n e =
-      ap (λ (x : Processed). toldBy (recorded (drivenWord (w .state .peripherals)) (ltb (w .written) (length (w .outputClocks))) x)) e
+      ap (λ (x : Processed). toldBy
+      (recorded (drivenWord (w .state .peripherals)) (ltb (w .written) (length (w .outputClocks))) x)) e
       ∙ cond-map toldBy (fullIn w n) _ _
 
-  untold : (n : Next) → processorOf (readyIn w) (w .memory) ≡ processed.Done n → n .writes ≡ noWrites → toldBy (clockIn w) ≡ noWrites
+  untold : (n : Next) → processorOf (readyIn w) (w .memory) ≡ processed.Done n → n .writes ≡ noWrites
+      → toldBy (clockIn w) ≡ noWrites
   untold n e none = told-by n e ∙ ap (λ (x : Writes). cond (fullIn w n) noWrites x) none ∙ never-told (fullIn w n)
 
   -- "A store's start": its row is e
-  pub start-untold : (e : Entry) → readyIn w .last .res ≡ true → readyIn w .cpu .wait ≡ 0 → readyIn w .due .reset ≡ false → readyIn w .due .nmi ≡ false
-      → irqDue (readyIn w) ≡ false → decodeOf (opcodeAt (readyIn w) (w .memory)) ≡ Defined e → storesOf e ≡ true → toldBy (clockIn w) ≡ noWrites
+  pub start-untold : (e : Entry) → readyIn w .last .res ≡ true → readyIn w .cpu .wait ≡ 0
+      → readyIn w .due .reset ≡ false → readyIn w .due .nmi ≡ false
+      → irqDue (readyIn w) ≡ false → decodeOf (opcodeAt (readyIn w) (w .memory)) ≡ Defined e → storesOf e ≡ true
+      → toldBy (clockIn w) ≡ noWrites
   start-untold e high over reset nmi irq d store =
       let begun = instruction-begun (readyIn w) (w .memory) e d in
-      untold (begun .next) (instruction-starts (readyIn w) (w .memory) high over reset nmi irq ∙ begun .done) (begun .writes store)
+      untold (begun .next) (instruction-starts (readyIn w) (w .memory) high over reset nmi irq ∙ begun .done)
+      (begun .writes store)
 
   -- the clocks between
   pub between-untold : readyIn w .last .res ≡ true → 0 < readyIn w .cpu .wait

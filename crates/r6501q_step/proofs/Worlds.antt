@@ -20,7 +20,8 @@ use Rattle.r6501q_step.specs.declared.Progress.{Progress}
 use Rattle.r6501q_step.specs.R6501q.{World, stopAfter, r6501q, endOf}
 use Rattle.r6501q_step.specs.World.{progressTo}
 
-module _ (halt : Halt) (w : World) (due : ℕ) (free : Bool) (on : w .stop ≡ 0) (counted : due ≡ dueIn (r6501q halt) w) where
+module _ (halt : Halt) (w : World) (due : ℕ) (free : Bool) (on : w .stop ≡ 0)
+    (counted : due ≡ dueIn (r6501q halt) w) where
   -- a clock that stops
   pub plain-stops : (number : ℕ) → clockOf (w .state) (take due (w .inputCodes)) (w .memory) free ≡ Stopped number
       → free ≡ ltb (w .written) (length (w .outputClocks)) → stoppedAt number w ≡ plainOf (r6501q halt) w
@@ -29,7 +30,8 @@ module _ (halt : Halt) (w : World) (due : ℕ) (free : Bool) (on : w .stop ≡ 0
 
   -- a clock that is done
   pub plain-moves : (e : Ended) → clockOf (w .state) (take due (w .inputCodes)) (w .memory) free ≡ Done e
-      → free ≡ ltb (w .written) (length (w .outputClocks)) → movedTo (r6501q halt) (endOf halt (w .memory) e) due w ≡ plainOf (r6501q halt) w
+      → free ≡ ltb (w .written) (length (w .outputClocks))
+      → movedTo (r6501q halt) (endOf halt (w .memory) e) due w ≡ plainOf (r6501q halt) w
   unfolding plainOf
   plain-moves ended e room = rw (eq-eqb (w .stop) 0 on, ← counted, ← room, e)
 

@@ -19,9 +19,11 @@ use Rattle.r6501q_state.specs.Pins.{rose, driveA, driveD, drivenWord}
 use Rattle.r6501q_clock.specs.Clock.{countA, countB, sentBy, heardBy, worked}
 use Rattle.r6501q_gaps.specs.Gaps.{clocksOf, runningA, runningB}
 use Rattle.r6501q_gaps.proofs.Quiet.{no-rise, above-zero, counted-b-quiet, worked-quiet}
-use Rattle.r6501q_unseen.specs.Ticks.{underflowsIn, counterAfter, unseenSends, sentAfter, unseenListens, heardAfter, underflowUnseen, unseenTicks}
+use Rattle.r6501q_unseen.specs.Ticks.{underflowsIn, counterAfter, unseenSends, sentAfter, unseenListens}
+use Rattle.r6501q_unseen.specs.Ticks.{heardAfter, underflowUnseen, unseenTicks}
 use Rattle.r6501q_unseen.specs.Unseen.{workedFor, ticksNext, ticksIn, SameSeen, Unseen}
-use Rattle.r6501q_unseen.proofs.CounterA.{stepA, counter-more, counter-same, ticks-closed, ticks-fewer, ticks-within}
+use Rattle.r6501q_unseen.proofs.CounterA.{stepA, counter-more, counter-same, ticks-closed, ticks-fewer}
+use Rattle.r6501q_unseen.proofs.CounterA.{ticks-within}
 use Rattle.r6501q_unseen.proofs.Transmission.{send-tick, send-less, send-more, send-none, send-drive}
 use Rattle.r6501q_unseen.proofs.Reception.{heardNext, hear-tick, hear-less, hear-more, hear-none}
 
@@ -55,12 +57,14 @@ quietStep ports p =
     withCounterB (withCounterA p (stepA (runningA (p .control) ports) (p .countera)))
     (passB (p .counterb) (runningB (p .control)) (clocksOf 1))
 
-stepped-quiet : (running : Bool) (c : CounterA) → (running && eqb (c .count) 0) ≡ false → passA c running (clocksOf 1) ≡ stepA running c
+stepped-quiet : (running : Bool) (c : CounterA) → (running && eqb (c .count) 0) ≡ false
+    → passA c running (clocksOf 1) ≡ stepA running c
 unfolding passA downA
 stepped-quiet true c e = rw e
 stepped-quiet false c e = refl
 
-quiet-clock : (ports : ℕ) (p : Peripherals) → ticksNext ports p ≡ false → (runningB (p .control) ≡ true → 0 < p .counterb .count)
+quiet-clock : (ports : ℕ) (p : Peripherals) → ticksNext ports p ≡ false
+    → (runningB (p .control) ≡ true → 0 < p .counterb .count)
     → worked p ports ports ≡ quietStep ports p
 unfolding ticksNext
 quiet-clock ports p e b =
@@ -91,8 +95,10 @@ counted-a-tick ports p e u =
     let running : countsA (modeA (p .control .mcr) (p .control .sccr)) false (not (bit 4 ports)) ≡ true =
     and-left _ (eqb (p .countera .count) 0) e in
     let zero-count : eqb (p .countera .count) 0 ≡ true = and-right (runningA (p .control) ports) _ e in
-    let flag : bit 4 (p .control .ifr) ≡ true = and-left _ (not (eqb (modeA (p .control .mcr) (p .control .sccr)) 1)) u in
-    let mode : eqb (modeA (p .control .mcr) (p .control .sccr)) 1 ≡ false = not-true _ (and-right (bit 4 (p .control .ifr)) _ u) in
+    let flag : bit 4 (p .control .ifr) ≡ true =
+    and-left _ (not (eqb (modeA (p .control .mcr) (p .control .sccr)) 1)) u in
+    let mode : eqb (modeA (p .control .mcr) (p .control .sccr)) 1 ≡ false =
+    not-true _ (and-right (bit 4 (p .control .ifr)) _ u) in
     rw (no-rise 4 ports, running, zero-count, mode, set-already (p .control .ifr) flag)
 
 sent-tick : (p : Peripherals) → 0 < unseenSends (p .transmitter) (p .control .sccr) (p .control .scsr)
@@ -122,7 +128,10 @@ heard-tick : (ports : ℕ) (p : Peripherals) → 0 < unseenListens (p .receiver)
     }
 unfolding heardBy
 heard-tick ports p h =
-    rw (no-rise 4 ports, hear-tick (p .receiver) (p .control .sccr) (p .control .scsr) (p .serial .received) (bit 7 ports) h)
+    rw (
+      no-rise 4 ports,
+      hear-tick (p .receiver) (p .control .sccr) (p .control .scsr) (p .serial .received) (bit 7 ports) h,
+    )
 
 tick-clock : (ticks ports : ℕ) (p : Peripherals) → ticksNext ports p ≡ true → Hidden (suc ticks) ports p
     → (runningB (p .control) ≡ true → 0 < p .counterb .count) → worked p ports ports ≡ tickStep ports p
@@ -130,8 +139,10 @@ unfolding worked
 tick-clock ticks ports p e h b =
     let a = withCounterA p (stepA (runningA (p .control) ports) (p .countera)) in
     let c = withCounterB a (passB (p .counterb) (runningB (p .control)) (clocksOf 1)) in
-    let sends : 0 < unseenSends (p .transmitter) (p .control .sccr) (p .control .scsr) = let k = h .sends in omega arith in
-    let listens : 0 < unseenListens (p .receiver) (p .control .sccr) (bit 7 ports) = let k = h .listens in omega arith in
+    let sends : 0 < unseenSends (p .transmitter) (p .control .sccr) (p .control .scsr) = let k = h .sends in
+    omega arith in
+    let listens : 0 < unseenListens (p .receiver) (p .control .sccr) (bit 7 ports) = let k = h .listens in
+    omega arith in
     rw (counted-a-tick ports p e (h .flag (omega arith)), counted-b-quiet a ports b, sent-tick c sends)
     (heard-tick ports _ listens)
 
@@ -162,12 +173,14 @@ after-none ports p =
       hear-none (p .receiver) (p .control .sccr) (bit 7 ports),
     )
 
-pass-more : (n : ℕ) (c : CounterB) (running : Bool) → passB (passB c running (clocksOf 1)) running (clocksOf n) ≡ passB c running (clocksOf (suc n))
+pass-more : (n : ℕ) (c : CounterB) (running : Bool)
+    → passB (passB c running (clocksOf 1)) running (clocksOf n) ≡ passB c running (clocksOf (suc n))
 pass-more n c running =
     let e : 1 + n ≡ suc n = omega arith in
     pass-add-b c running 1 n ∙ ap (λ (k : ℕ). passB c running (clocksOf k)) e
 
-after-quiet : (n ticks ports : ℕ) (p : Peripherals) → afterClocks n ticks ports (quietStep ports p) ≡ afterClocks (suc n) ticks ports p
+after-quiet : (n ticks ports : ℕ) (p : Peripherals)
+    → afterClocks n ticks ports (quietStep ports p) ≡ afterClocks (suc n) ticks ports p
 after-quiet n ticks ports p =
     rw (counter-more n (runningA (p .control) ports) (p .countera), pass-more n (p .counterb) (runningB (p .control)))
 
@@ -181,7 +194,8 @@ after-tick n ticks ports p h =
       hear-more ticks (p .receiver) (p .control .sccr) (bit 7 ports) h,
     )
 
-passed-left : (n : ℕ) (c : CounterB) (running : Bool) → running ≡ true → suc n ≤ c .count → n ≤ passB c running (clocksOf 1) .count
+passed-left : (n : ℕ) (c : CounterB) (running : Bool) → running ≡ true → suc n ≤ c .count
+    → n ≤ passB c running (clocksOf 1) .count
 unfolding passB
 passed-left n c running e h = rw e (omega arith)
 
@@ -200,7 +214,8 @@ hidden-less ticks ports p h = record {
 
 -- the closed form of n clocks whose ticks cannot be seen, and in which B does not underflow
 pub worked-closed : (n ports : ℕ) (p : Peripherals) → Hidden (ticksIn n ports p) ports p
-    → (runningB (p .control) ≡ true → n ≤ p .counterb .count) → workedFor n ports p ≡ afterClocks n (ticksIn n ports p) ports p
+    → (runningB (p .control) ≡ true → n ≤ p .counterb .count)
+    → workedFor n ports p ≡ afterClocks n (ticksIn n ports p) ports p
 unfolding workedFor ticksIn
 worked-closed zero ports p = λ h b. sym (after-none ports p)
 worked-closed (suc n) ports p = by-test (λ q. worked-closed n ports q) (ticksNext ports p) refl
@@ -208,14 +223,16 @@ worked-closed (suc n) ports p = by-test (λ q. worked-closed n ports q) (ticksNe
     Closed : Type 0
     Closed = workedFor (suc n) ports p ≡ afterClocks (suc n) (ticksIn (suc n) ports p) ports p
 
-    above-b : (runningB (p .control) ≡ true → suc n ≤ p .counterb .count) → runningB (p .control) ≡ true → 0 < p .counterb .count
+    above-b : (runningB (p .control) ≡ true → suc n ≤ p .counterb .count) → runningB (p .control) ≡ true
+        → 0 < p .counterb .count
     above-b b r = let k = b r in omega arith
 
     left-b : (runningB (p .control) ≡ true → suc n ≤ p .counterb .count) → runningB (p .control) ≡ true
         → n ≤ passB (p .counterb) (runningB (p .control)) (clocksOf 1) .count
     left-b b r = passed-left n (p .counterb) (runningB (p .control)) r (b r)
 
-    by-test : ((q : Peripherals) → Hidden (ticksIn n ports q) ports q → (runningB (q .control) ≡ true → n ≤ q .counterb .count)
+    by-test : ((q : Peripherals) → Hidden (ticksIn n ports q) ports q
+        → (runningB (q .control) ≡ true → n ≤ q .counterb .count)
         → workedFor n ports q ≡ afterClocks n (ticksIn n ports q) ports q)
         → (t : Bool) → ticksNext ports p ≡ t → Hidden (ticksIn (suc n) ports p) ports p
         → (runningB (p .control) ≡ true → suc n ≤ p .counterb .count) → Closed
@@ -276,15 +293,18 @@ unseen-fewer k n ports p h u = record {
 pub hidden-in : (n ports : ℕ) (p : Peripherals) → Unseen n ports p → Hidden (ticksIn n ports p) ports p
 hidden-in n ports p u = hidden (ticksIn n ports p) ports p (u .ticks)
 
-pub unseen-closed : (n ports : ℕ) (p : Peripherals) → Unseen n ports p → workedFor n ports p ≡ afterClocks n (ticksIn n ports p) ports p
+pub unseen-closed : (n ports : ℕ) (p : Peripherals) → Unseen n ports p
+    → workedFor n ports p ≡ afterClocks n (ticksIn n ports p) ports p
 unseen-closed n ports p u = worked-closed n ports p (hidden-in n ports p u) (u .countB)
 
 -- the clocks before the tick that follows those which cannot be seen, and before B's underflow
 pub unseen-before : (n ports : ℕ) (p : Peripherals)
     → (runningA (p .control) ports ≡ true → n ≤ p .countera .count + unseenTicks ports p * (p .countera .latch + 1))
     → (runningB (p .control) ≡ true → n ≤ p .counterb .count) → Unseen n ports p
-unseen-before n ports p a b = unseen n ports p (rw (ticks-closed n ports p) (by-test (runningA (p .control) ports) refl)) b
+unseen-before n ports p a b =
+    unseen n ports p (rw (ticks-closed n ports p) (by-test (runningA (p .control) ports) refl)) b
   where
-    by-test : (t : Bool) → runningA (p .control) ports ≡ t → cond t (underflowsIn n (p .countera)) 0 ≤ unseenTicks ports p
+    by-test : (t : Bool) → runningA (p .control) ports ≡ t
+        → cond t (underflowsIn n (p .countera)) 0 ≤ unseenTicks ports p
     by-test true e = ticks-within n (unseenTicks ports p) (p .countera) (a e)
     by-test false e = omega arith

@@ -2,7 +2,8 @@
 use mathlib.Core.Path.{_≡_, refl, sym, ap, _∙_}
 use mathlib.Core.Bool.{Bool, true, false, _&&_, not, cond}
 use Prim.Native.Nat.{ℕ, zero, suc, _+_, _-_, _*_, _/_, _%_, _≤_, _<_}
-use native.Mathlib.Nat.{div-eq-of-lt, div-eq-sub-div, mod-eq-of-lt, mod-eq-sub-mod, zero-add, sub-zero, div-lt-iff-lt-mul}
+use native.Mathlib.Nat.{div-eq-of-lt, div-eq-sub-div, mod-eq-of-lt, mod-eq-sub-mod, zero-add, sub-zero}
+use native.Mathlib.Nat.{div-lt-iff-lt-mul}
 use native.Mathlib.Omega.{arith}
 use lib.Dec.{leb, eqb}
 use borrow.Author.Tests.{leb-true, leb-false, le-leb, lt-leb, eqb-true, eqb-false}
@@ -101,7 +102,8 @@ pub stepped-a : (p : Peripherals) (x : ℕ) → worked p x x .countera ≡ stepA
 unfolding worked countA countB sentBy heardBy clockA runningA runsA
 stepped-a p x = rw (no-rise 4 x) (cond-counter (runningA (p .control) x) (p .countera) (downA (p .countera)))
   where
-    cond-counter : (t : Bool) (c : CounterA) (d : CountedA) → cond t d (record { counter = c; underflow = false }) .counter ≡ cond t (d .counter) c
+    cond-counter : (t : Bool) (c : CounterA) (d : CountedA)
+        → cond t d (record { counter = c; underflow = false }) .counter ≡ cond t (d .counter) c
     cond-counter true c d = refl
     cond-counter false c d = refl
 
@@ -113,11 +115,13 @@ down-latch : (c : CounterA) → downA c .counter .latch ≡ c .latch
 unfolding downA
 down-latch c = by-test (eqb (c .count) 0)
   where
-    by-test : (t : Bool) → cond t (countedA (atA c (c .latch)) true) (countedA (atA c (c .count - 1)) false) .counter .latch ≡ c .latch
+    by-test : (t : Bool)
+        → cond t (countedA (atA c (c .latch)) true) (countedA (atA c (c .count - 1)) false) .counter .latch ≡ c .latch
     by-test true = refl
     by-test false = refl
 
-pub counter-more : (n : ℕ) (running : Bool) (c : CounterA) → counterAfter n running (stepA running c) ≡ counterAfter (suc n) running c
+pub counter-more : (n : ℕ) (running : Bool) (c : CounterA)
+    → counterAfter n running (stepA running c) ≡ counterAfter (suc n) running c
 counter-more n true c = rw (down-latch c, next-count n c)
 counter-more n false c = refl
 
@@ -155,7 +159,8 @@ pub ticks-fewer : (k n ports : ℕ) (p : Peripherals) → k ≤ n → ticksIn k 
 unfolding ticksIn
 ticks-fewer zero n ports p h = omega arith
 ticks-fewer (suc k) zero ports p h = absurd (omega arith)
-ticks-fewer (suc k) (suc n) ports p h = let less = ticks-fewer k n ports (worked p ports ports) (omega arith) in omega arith
+ticks-fewer (suc k) (suc n) ports p h =
+    let less = ticks-fewer k n ports (worked p ports ports) (omega arith) in omega arith
 
 -- the counter and whether it runs
 pub counter-closed : (n ports : ℕ) (p : Peripherals)
@@ -166,7 +171,8 @@ counter-closed (suc n) ports p =
     counter-closed n ports (worked p ports ports)
     ∙ rw (stepped-running p ports, stepped-a p ports) (counter-more n (runningA (p .control) ports) (p .countera))
 
-pub running-closed : (n ports : ℕ) (p : Peripherals) → runningA (workedFor n ports p .control) ports ≡ runningA (p .control) ports
+pub running-closed : (n ports : ℕ) (p : Peripherals)
+    → runningA (workedFor n ports p .control) ports ≡ runningA (p .control) ports
 unfolding workedFor
 running-closed zero ports p = refl
 running-closed (suc n) ports p = running-closed n ports (worked p ports ports) ∙ stepped-running p ports
@@ -177,7 +183,9 @@ unfolding underflowsIn
 ticks-within n ticks c h = by-test (leb n (c .count)) refl
   where
     periods : (m l : ℕ) → m < ticks * (l + 1) → m / (l + 1) + 1 ≤ ticks
-    periods m l k = let less : m / (l + 1) < ticks = div-lt-iff-lt-mul {k = l + 1} {x = m} {y = ticks} (omega arith) .1 k in omega arith
+    periods m l k =
+        let less : m / (l + 1) < ticks = div-lt-iff-lt-mul {k = l + 1} {x = m} {y = ticks} (omega arith) .1 k in
+        omega arith
 
     by-test : (t : Bool) → leb n (c .count) ≡ t → underflowsIn n c ≤ ticks
     by-test true e = rw e (omega arith)

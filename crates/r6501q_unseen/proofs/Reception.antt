@@ -11,7 +11,8 @@ use Rattle.bits.proofs.Cond.{digit-le, and-left, and-right}
 use Rattle.counters.specs.Counters.{ticksOf}
 use Rattle.serial.specs.declared.receiver.Receiver.{Receiver}
 use Rattle.serial.specs.Format.{receiverAsynchronous}
-use Rattle.serial.specs.Receiver.{receiving, atHalf, withLevel, startDetected, lookTaken, looked, receiveTick, receiverClock}
+use Rattle.serial.specs.Receiver.{receiving, atHalf, withLevel, startDetected, lookTaken, looked, receiveTick}
+use Rattle.serial.specs.Receiver.{receiverClock}
 use Rattle.r6501q_unseen.specs.Ticks.{unseenLooks, unseenListens, withLevels, waitedLooks, lookedFor, heardAfter}
 
 -- ---- one look
@@ -29,7 +30,8 @@ lookNext r high = record {
   register = cond (ends r) (withLevel (r .register) high) (r .register);
 }
 
--- where a look cannot be seen: with no bits left and the line high or low, within a bit, or at the end of a bit that is not the last
+-- where a look cannot be seen: with no bits left and the line high or low, within a bit, or at the end of a bit that is
+-- not the last
 data LookKind (r : Receiver) (high : Bool) : Type 0 where
   idle : eqb (r .left) 0 ≡ true → high ≡ true → LookKind r high
   lows : eqb (r .left) 0 ≡ true → high ≡ false → r .subinterval < 3 → LookKind r high
@@ -61,7 +63,8 @@ look-taken r sccr scsr received high (bitEnd e f k) =
     rw (e, f, ne-eqb (r .left - 1) 0 (λ z. omega arith))
 
 -- one look fewer is left, and the sub-interval stays in range
-look-less : (r : Receiver) (high : Bool) → LookKind r high → unseenLooks r high ≤ suc (unseenLooks (lookNext r high) high)
+look-less : (r : Receiver) (high : Bool) → LookKind r high
+    → unseenLooks r high ≤ suc (unseenLooks (lookNext r high) high)
 unfolding unseenLooks
 look-less r high (idle e f) = rw (e, f, e) (omega arith)
 look-less r high (lows e f k) = rw (e, f, e) (omega arith)
@@ -100,7 +103,12 @@ unfolding lookedFor waitedLooks withLevels
 look-none r high s = by-tests (eqb (r .left) 0) high
   where
     by-tests : (none h : Bool)
-        → cond none (record { subinterval = cond h (r .subinterval) (r .subinterval + 0); half = r .half; left = r .left; register = r .register })
+        → cond none (record {
+          subinterval = cond h (r .subinterval) (r .subinterval + 0);
+          half = r .half;
+          left = r .left;
+          register = r .register;
+        })
         (record {
           subinterval = (r .subinterval + 0) % 8;
           half = r .half;
@@ -160,7 +168,8 @@ hear-less r sccr high h = by-kind (tick-kind r sccr high h)
     by-kind (half e s g) = rw (e, g, le-leb (r .subinterval) 7 s) (omega arith)
     by-kind (look e s g k) =
         let less = look-less r high k in
-        rw (e, g, le-leb (r .subinterval) 7 s, le-leb (lookNext r high .subinterval) 7 (look-range r high k)) (omega arith)
+        rw (e, g, le-leb (r .subinterval) 7 s, le-leb (lookNext r high .subinterval) 7 (look-range r high k))
+        (omega arith)
 
 pub hear-more : (n : ℕ) (r : Receiver) (sccr : ℕ) (high : Bool) → 0 < unseenListens r sccr high
     → heardAfter n (heardNext r sccr high) sccr high ≡ heardAfter (suc n) r sccr high
@@ -186,14 +195,16 @@ hear-none r sccr high = by-tests (receiverAsynchronous sccr) (leb (r .subinterva
     since-look true = refl
     since-look false = refl
 
-    by-tests : (on fits : Bool) → receiverAsynchronous sccr ≡ on → leb (r .subinterval) 7 ≡ fits → heardAfter 0 r sccr high ≡ r
+    by-tests : (on fits : Bool) → receiverAsynchronous sccr ≡ on → leb (r .subinterval) 7 ≡ fits
+        → heardAfter 0 r sccr high ≡ r
     by-tests false fits e f = rw e
     by-tests true false e f = rw (e, f)
     by-tests true true e f = rw (e, f) (since-look (r .half) ∙ look-none r high (leb-true (r .subinterval) 7 f))
 
 -- ---- bits that end
 
-pub levels-less : (n register : ℕ) (high : Bool) → 0 < n → withLevels (n - 1) (withLevel register high) high ≡ withLevels n register high
+pub levels-less : (n register : ℕ) (high : Bool) → 0 < n
+    → withLevels (n - 1) (withLevel register high) high ≡ withLevels n register high
 unfolding withLevels
 levels-less zero register high h = absurd (omega arith)
 levels-less (suc n) register high h = let e : suc n - 1 ≡ n = omega arith in rw e
@@ -207,7 +218,8 @@ levels-none n register high h = let e : n ≡ 0 = omega arith in rw e
 abbrev listens : Receiver → ℕ → Bool
 listens r sccr = receiverAsynchronous sccr && leb (r .subinterval) 7
 
-looks-within : (ticks : ℕ) (r : Receiver) (sccr : ℕ) (high : Bool) → listens r sccr ≡ true → ticks ≤ unseenListens r sccr high
+looks-within : (ticks : ℕ) (r : Receiver) (sccr : ℕ) (high : Bool) → listens r sccr ≡ true
+    → ticks ≤ unseenListens r sccr high
     → (ticks + digit (r .half)) / 2 ≤ unseenLooks r high
 unfolding unseenListens
 looks-within ticks r sccr high on h =
@@ -219,7 +231,8 @@ looks-within ticks r sccr high on h =
     by-half one looks s k = omega arith
 
 -- with no bits left and the line low the sub-interval stays in range
-pub waits-within : (ticks : ℕ) (r : Receiver) (sccr : ℕ) (high : Bool) → listens r sccr ≡ true → ticks ≤ unseenListens r sccr high
+pub waits-within : (ticks : ℕ) (r : Receiver) (sccr : ℕ) (high : Bool) → listens r sccr ≡ true
+    → ticks ≤ unseenListens r sccr high
     → r .left ≡ 0 → high ≡ false → r .subinterval + (ticks + digit (r .half)) / 2 ≤ 7
 unfolding unseenLooks
 waits-within ticks r sccr high on h z l =
@@ -232,7 +245,8 @@ waits-within ticks r sccr high on h z l =
     in-range s n a b = omega arith
 
 -- with bits left the last one does not end
-pub takes-within : (ticks : ℕ) (r : Receiver) (sccr : ℕ) (high : Bool) → listens r sccr ≡ true → ticks ≤ unseenListens r sccr high
+pub takes-within : (ticks : ℕ) (r : Receiver) (sccr : ℕ) (high : Bool) → listens r sccr ≡ true
+    → ticks ≤ unseenListens r sccr high
     → (r .left ≡ 0 → ⊥) → r .subinterval + (ticks + digit (r .half)) / 2 < r .left * 8
 unfolding unseenLooks
 takes-within ticks r sccr high on h z =

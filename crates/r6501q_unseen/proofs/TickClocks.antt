@@ -21,14 +21,16 @@ tickingA c = record { first = c .count + 1; period = c .latch + 1 }
 
 -- a reload begins a period
 reload-on : (g l : ℕ)
-    → (leb (l + 1) (g + 1) && eqb ((g + 1 - (l + 1)) % (l + 1)) 0) ≡ (leb (0 + 1) (suc g + 1) && eqb ((suc g + 1 - (0 + 1)) % (l + 1)) 0)
+    → (leb (l + 1) (g + 1) && eqb ((g + 1 - (l + 1)) % (l + 1)) 0)
+    ≡ (leb (0 + 1) (suc g + 1) && eqb ((suc g + 1 - (0 + 1)) % (l + 1)) 0)
 reload-on g l = by-test (leb (l + 1) (g + 1)) refl
   where
     later : suc g + 1 - (0 + 1) ≡ g + 1
     later = omega arith
 
     by-test : (t : Bool) → leb (l + 1) (g + 1) ≡ t
-        → (leb (l + 1) (g + 1) && eqb ((g + 1 - (l + 1)) % (l + 1)) 0) ≡ (leb (0 + 1) (suc g + 1) && eqb ((suc g + 1 - (0 + 1)) % (l + 1)) 0)
+        → (leb (l + 1) (g + 1) && eqb ((g + 1 - (l + 1)) % (l + 1)) 0)
+        ≡ (leb (0 + 1) (suc g + 1) && eqb ((suc g + 1 - (0 + 1)) % (l + 1)) 0)
     by-test true e =
         let k = leb-true (l + 1) (g + 1) e in
         let m : (g + 1) % (l + 1) ≡ (g + 1 - (l + 1)) % (l + 1) = mod-eq-sub-mod k in
@@ -53,7 +55,8 @@ on-next : (g : ℕ) (c : CounterA) → onTick (tickingA (downA c .counter)) (g +
 unfolding onTick downA
 on-next g c = by-test (eqb (c .count) 0) refl
   where
-    by-test : (t : Bool) → eqb (c .count) 0 ≡ t → onTick (tickingA (downA c .counter)) (g + 1) ≡ onTick (tickingA c) (suc g + 1)
+    by-test : (t : Bool) → eqb (c .count) 0 ≡ t
+        → onTick (tickingA (downA c .counter)) (g + 1) ≡ onTick (tickingA c) (suc g + 1)
     by-test true e = let z = eqb-true (c .count) 0 e in rw (e, z) (reload-on g (c .latch))
     by-test false e =
         let z = eqb-false (c .count) 0 e in
@@ -69,7 +72,8 @@ on-first c = by-test (eqb (c .count) 0) refl
         let z = eqb-false (c .count) 0 e in
         rw (e, lt-leb (c .count + 1) (0 + 1) (omega arith))
 
-ticking-a : (ports : ℕ) (p : Peripherals) → runningA (p .control) ports ≡ true → tickingOf ports p ≡ tickingA (p .countera)
+ticking-a : (ports : ℕ) (p : Peripherals) → runningA (p .control) ports ≡ true
+    → tickingOf ports p ≡ tickingA (p .countera)
 unfolding tickingOf
 ticking-a ports p e = rw e
 
@@ -81,7 +85,8 @@ on-tick-runs zero ports p e = rw (e, ticking-a ports p e) (on-first (p .countera
 on-tick-runs (suc g) ports p e =
     let runs : runningA (worked p ports ports .control) ports ≡ true = stepped-running p ports ∙ e in
     on-tick-runs g ports (worked p ports ports) runs
-    ∙ rw (ticking-a ports (worked p ports ports) runs, ticking-a ports p e, stepped-a p ports, e) (on-next g (p .countera))
+    ∙ rw (ticking-a ports (worked p ports ports) runs, ticking-a ports p e, stepped-a p ports, e)
+    (on-next g (p .countera))
 
 -- and where it does not, none
 pub on-tick-none : (g ports : ℕ) (p : Peripherals) → runningA (p .control) ports ≡ false → g + 1 < 4294967295
@@ -94,7 +99,8 @@ pub on-tick : (g ports : ℕ) (p : Peripherals) → g + 1 < 4294967295
     → ticksNext ports (workedFor g ports p) ≡ onTick (tickingOf ports p) (g + 1)
 on-tick g ports p h = by-test (runningA (p .control) ports) refl
   where
-    by-test : (t : Bool) → runningA (p .control) ports ≡ t → ticksNext ports (workedFor g ports p) ≡ onTick (tickingOf ports p) (g + 1)
+    by-test : (t : Bool) → runningA (p .control) ports ≡ t
+        → ticksNext ports (workedFor g ports p) ≡ onTick (tickingOf ports p) (g + 1)
     by-test true e = on-tick-runs g ports p e
     by-test false e = on-tick-none g ports p e h
 
@@ -103,9 +109,11 @@ on-tick g ports p h = by-test (runningA (p .control) ports) refl
 pub worked-add : (m n ports : ℕ) (p : Peripherals) → workedFor (m + n) ports p ≡ workedFor n ports (workedFor m ports p)
 unfolding workedFor
 worked-add zero n ports p = rw (zero-add n)
-worked-add (suc m) n ports p = let e : suc m + n ≡ suc (m + n) = omega arith in rw e (worked-add m n ports (worked p ports ports))
+worked-add (suc m) n ports p =
+    let e : suc m + n ≡ suc (m + n) = omega arith in rw e (worked-add m n ports (worked p ports ports))
 
-pub ticks-add : (m n ports : ℕ) (p : Peripherals) → ticksIn (m + n) ports p ≡ ticksIn m ports p + ticksIn n ports (workedFor m ports p)
+pub ticks-add : (m n ports : ℕ) (p : Peripherals)
+    → ticksIn (m + n) ports p ≡ ticksIn m ports p + ticksIn n ports (workedFor m ports p)
 unfolding workedFor ticksIn
 ticks-add zero n ports p = rw (zero-add n) (sym (zero-add _))
 ticks-add (suc m) n ports p =

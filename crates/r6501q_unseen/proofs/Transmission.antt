@@ -10,7 +10,8 @@ use Rattle.bits.specs.Bits.{bit, withBit}
 use Rattle.counters.specs.Counters.{ticksOf}
 use Rattle.serial.specs.declared.transmitter.Transmitter.{Transmitter}
 use Rattle.serial.specs.Format.{pace}
-use Rattle.serial.specs.Transmitter.{sending, idleTick, nextPhase, ticked, bitTick, sendTick, transmitterClock, line, shiftClock}
+use Rattle.serial.specs.Transmitter.{sending, idleTick, nextPhase, ticked, bitTick, sendTick, transmitterClock, line}
+use Rattle.serial.specs.Transmitter.{shiftClock}
 use Rattle.r6501q_state.specs.Pins.{withShiftClock}
 use Rattle.r6501q_unseen.specs.Ticks.{mostTicks, unseenSends, atPhase, sends, sentAfter}
 
@@ -30,8 +31,10 @@ pub send-tick : (t : Transmitter) (sccr scsr sent : ℕ) → 0 < unseenSends t s
 unfolding transmitterClock ticksOf unseenSends sentAfter sendTick idleTick bitTick ticked pace
 send-tick t sccr scsr sent = by-tests (bit 7 sccr) (eqb (t .left) 0) (bit 6 scsr) (bit 5 sccr) refl refl refl refl
   where
-    by-tests : (on none empty shifts : Bool) → bit 7 sccr ≡ on → eqb (t .left) 0 ≡ none → bit 6 scsr ≡ empty → bit 5 sccr ≡ shifts
-        → 0 < unseenSends t sccr scsr → transmitterClock t (ticksOf true) sccr scsr sent ≡ sending (sentAfter 1 t sccr) scsr
+    by-tests : (on none empty shifts : Bool) → bit 7 sccr ≡ on → eqb (t .left) 0 ≡ none → bit 6 scsr ≡ empty
+        → bit 5 sccr ≡ shifts
+        → 0 < unseenSends t sccr scsr
+        → transmitterClock t (ticksOf true) sccr scsr sent ≡ sending (sentAfter 1 t sccr) scsr
     by-tests false none empty shifts e f g s h = rw e
     by-tests true true true shifts e f g s h = rw (e, f, g)
     by-tests true true false shifts e f g s h = let k : 0 < 0 = rw (e, f, g) at h in absurd (omega arith)
@@ -58,7 +61,8 @@ pub send-more : (n : ℕ) (t : Transmitter) (sccr : ℕ) → sentAfter n (sentAf
 unfolding sentAfter
 send-more n t sccr = by-test (bit 7 sccr && not (eqb (t .left) 0)) refl
   where
-    by-test : (b : Bool) → (bit 7 sccr && not (eqb (t .left) 0)) ≡ b → sentAfter n (sentAfter 1 t sccr) sccr ≡ sentAfter (suc n) t sccr
+    by-test : (b : Bool) → (bit 7 sccr && not (eqb (t .left) 0)) ≡ b
+        → sentAfter n (sentAfter 1 t sccr) sccr ≡ sentAfter (suc n) t sccr
     by-test true e = let d : t .phase + 1 + n ≡ t .phase + suc n = omega arith in rw (e, e, d)
     by-test false e = rw (e, e)
 
@@ -74,7 +78,8 @@ send-none t sccr = by-test (bit 7 sccr && not (eqb (t .left) 0))
 abbrev pub driven : Transmitter → ℕ → ℕ → ℕ
 driven t sccr a = cond (bit 7 sccr) (withShiftClock sccr t (withBit 6 (line t) a)) a
 
-pub send-drive : (n : ℕ) (t : Transmitter) (sccr scsr a : ℕ) → n ≤ unseenSends t sccr scsr → driven (sentAfter n t sccr) sccr a ≡ driven t sccr a
+pub send-drive : (n : ℕ) (t : Transmitter) (sccr scsr a : ℕ) → n ≤ unseenSends t sccr scsr
+    → driven (sentAfter n t sccr) sccr a ≡ driven t sccr a
 unfolding unseenSends sentAfter line
 send-drive n t sccr scsr a = by-tests (bit 7 sccr) (eqb (t .left) 0) (bit 5 sccr) refl refl refl
   where

@@ -33,7 +33,8 @@ pub record SameSeen (p q : Peripherals) : Type 0 where
   pub serial : q .serial ≡ p .serial
   pub word : drivenWord q ≡ drivenWord p
 
--- of n clocks nothing is seen, and counter B does not underflow in them; nor have they more ticks than have a closed form
+-- of n clocks nothing is seen, and counter B does not underflow in them; nor have they more ticks than have a closed
+-- form
 pub record Unseen (n ports : ℕ) (p : Peripherals) : Type 0 where
   pub same : (k : ℕ) → k ≤ n → SameSeen p (workedFor k ports p)
   pub countB : runningB (p .control) ≡ true → n ≤ p .counterb .count

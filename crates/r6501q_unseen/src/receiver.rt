@@ -2,7 +2,8 @@
 ghost use mathlib.Core.Path.{_≡_};
 ghost use mathlib.Core.Bool.{true, false};
 ghost use Prim.Native.Nat.{_+_, _-_, _*_, _≤_, _<_};
-ghost use Rattle.r6501q_unseen.specs.Ticks.{mostTicks, mostLooks, unseenLooks, unseenListens, withLevels, waitedFor, takenFor, heardAfter};
+ghost use Rattle.r6501q_unseen.specs.Ticks.{mostTicks, mostLooks, unseenLooks, unseenListens, withLevels};
+ghost use Rattle.r6501q_unseen.specs.Ticks.{waitedFor, takenFor, heardAfter};
 use serial::format::receiver_asynchronous;
 use serial::receiver::Receiver;
 use serial::receiver::with_level;

@@ -53,35 +53,43 @@ put-none : (w : Written) → putOf [] w ≡ w
 put-none w = rw (add-zero (w .place))
 
 -- four in a row, and five
-pub put-four : (a b c d : List ℕ) (w : Written) → putOf d (putOf c (putOf b (putOf a w))) ≡ putOf (a ++ (b ++ (c ++ d))) w
-put-four a b c d w = put-append c d (putOf b (putOf a w)) ∙ put-append b (c ++ d) (putOf a w) ∙ put-append a (b ++ (c ++ d)) w
+pub put-four : (a b c d : List ℕ) (w : Written)
+    → putOf d (putOf c (putOf b (putOf a w))) ≡ putOf (a ++ (b ++ (c ++ d))) w
+put-four a b c d w =
+    put-append c d (putOf b (putOf a w)) ∙ put-append b (c ++ d) (putOf a w) ∙ put-append a (b ++ (c ++ d)) w
 
-pub put-five : (a b c d e : List ℕ) (w : Written) → putOf e (putOf d (putOf c (putOf b (putOf a w)))) ≡ putOf (a ++ (b ++ (c ++ (d ++ e)))) w
+pub put-five : (a b c d e : List ℕ) (w : Written)
+    → putOf e (putOf d (putOf c (putOf b (putOf a w)))) ≡ putOf (a ++ (b ++ (c ++ (d ++ e)))) w
 put-five a b c d e w = put-append d e (putOf c (putOf b (putOf a w))) ∙ put-four a b c (d ++ e) w
 
 -- where a put leaves off, and the text's length
 pub place-of : {v w : Written} → v ≡ w → v .place ≡ w .place
 place-of e = ap (λ (u : Written). u .place) e
 
-put-kept : {v : Written} (characters : List ℕ) (w : Written) → v ≡ putOf characters w → length (v .text) ≡ length (w .text)
+put-kept : {v : Written} (characters : List ℕ) (w : Written) → v ≡ putOf characters w
+    → length (v .text) ≡ length (w .text)
 put-kept characters w e = ap (λ (u : Written). length (u .text)) e ∙ length-sets (w .text) (w .place) characters
 
 -- what is put from the start of a text on can be read off it
-pub put-taken : (characters text₀ text : List ℕ) (place : ℕ) → written place text ≡ putOf characters (written 0 text₀) → length characters ≤ length text₀
+pub put-taken : (characters text₀ text : List ℕ) (place : ℕ) → written place text ≡ putOf characters (written 0 text₀)
+    → length characters ≤ length text₀
     → take place text ≡ characters
 put-taken characters text₀ text place e h =
     let n : place ≡ length characters = omega (arith, place-of e) in
-    rw (n, ap (λ (u : Written). u .text) e, sets-eq characters text₀ 0 (omega arith)) (take-append-seam characters (drop (0 + length characters) text₀))
+    rw (n, ap (λ (u : Written). u .text) e, sets-eq characters text₀ 0 (omega arith))
+    (take-append-seam characters (drop (0 + length characters) text₀))
 
 -- a store before all the others
 set-before : (vs l : List ℕ) (i j a : ℕ) → i < j → set (sets l j vs) i a ≡ sets (set l i a) j vs
 set-before [] l i j a h = refl
 set-before (v ∷ vs) l i j a h =
     let other : j ≡ i → ⊥ = λ e. omega arith in
-    set-before vs (set l j v) i (suc j) a (omega arith) ∙ ap (λ (m : List ℕ). sets m (suc j) vs) (set-comm l j i v a other)
+    set-before vs (set l j v) i (suc j) a (omega arith)
+    ∙ ap (λ (m : List ℕ). sets m (suc j) vs) (set-comm l j i v a other)
 
 -- one character more
-pub put-next : (cs l : List ℕ) (at i : ℕ) → i < length cs → set (sets l at (take i cs)) (at + i) (getD cs i 0) ≡ sets l at (take (i + 1) cs)
+pub put-next : (cs l : List ℕ) (at i : ℕ) → i < length cs
+    → set (sets l at (take i cs)) (at + i) (getD cs i 0) ≡ sets l at (take (i + 1) cs)
 put-next cs l at i h =
     let n : length (take i cs) ≡ i = length-take-le i cs (omega arith) in
     rw (add-one i, take-suc cs i 0 h, ← sets-append (take i cs) (getD cs i 0 ∷ []) l at, n)
@@ -120,11 +128,14 @@ module _ (base count n at : ℕ) (text₀ : List ℕ) where
       record {
         later = digitOf (rest % base) ∷ s .later;
         digits = rw (← append-snoc (digitsOf base left (rest / base)) (digitOf (rest % base)) (s .later)) (s .digits);
-        put = rw (s .put, e) (set-before (s .later) text₀ (at + left) (suc (at + left)) (digitOf (rest % base)) (omega arith));
+        put =
+            rw (s .put, e)
+            (set-before (s .later) text₀ (at + left) (suc (at + left)) (digitOf (rest % base)) (omega arith));
         within = omega (arith, s .within);
       }
 
-  pub spelling-on : (left rest digit : ℕ) (text : List ℕ) → 0 < left → Spelling base count n at text₀ left rest text → digit ≡ digitOf (rest % base)
+  pub spelling-on : (left rest digit : ℕ) (text : List ℕ) → 0 < left → Spelling base count n at text₀ left rest text
+      → digit ≡ digitOf (rest % base)
       → Spelling base count n at text₀ (left - 1) (rest / base) (set text (at + (left - 1)) digit)
   spelling-on left rest digit text h s e =
       let one : left ≡ suc (left - 1) = omega arith in
@@ -212,14 +223,16 @@ lines-length (clock ∷ times) (word ∷ words) =
 
 -- the loop over the records: those before i are put
 pub record Listing (times words : List ℕ) (at : ℕ) (text₀ : List ℕ) (place : ℕ) (text : List ℕ) (i : ℕ) : Type 0 where
-  pub put : putOf (recordLines (drop i times) (drop i words)) (written place text) ≡ putOf (recordLines times words) (written at text₀)
+  pub put : putOf (recordLines (drop i times) (drop i words)) (written place text)
+      ≡ putOf (recordLines times words) (written at text₀)
   pub room : place ≤ at + 20 * i
   pub within : i ≤ length times
   pub kept : length text ≡ length text₀
 
 module _ (times words : List ℕ) (same : length times ≡ length words) where
   lines-next : (i : ℕ) → i < length times
-      → recordLines (drop i times) (drop i words) ≡ recordLine (getD times i 0) (getD words i 0) ++ recordLines (drop (i + 1) times) (drop (i + 1) words)
+      → recordLines (drop i times) (drop i words)
+      ≡ recordLine (getD times i 0) (getD words i 0) ++ recordLines (drop (i + 1) times) (drop (i + 1) words)
   unfolding recordLines
   lines-next i h =
       let h' : i < length words = omega arith in
@@ -233,8 +246,10 @@ module _ (times words : List ℕ) (same : length times ≡ length words) where
     pub listing-begins : Listing times words at text₀ at text₀ 0
     listing-begins = record { put = refl; room = omega arith; within = omega arith; kept = refl }
 
-    pub listing-on : (place i place' : ℕ) (text text' : List ℕ) → i < length times → Listing times words at text₀ place text i
-        → written place' text' ≡ putOf (recordLine (getD times i 0) (getD words i 0)) (written place text) → Listing times words at text₀ place' text' (i + 1)
+    pub listing-on : (place i place' : ℕ) (text text' : List ℕ) → i < length times
+        → Listing times words at text₀ place text i
+        → written place' text' ≡ putOf (recordLine (getD times i 0) (getD words i 0)) (written place text)
+        → Listing times words at text₀ place' text' (i + 1)
     listing-on place i place' text text' h l e =
         let line = recordLine (getD times i 0) (getD words i 0) in
         let later = recordLines (drop (i + 1) times) (drop (i + 1) words) in
@@ -247,4 +262,5 @@ module _ (times words : List ℕ) (same : length times ≡ length words) where
 
     pub listed : (place i : ℕ) (text : List ℕ) → length times ≤ i → Listing times words at text₀ place text i
         → written place text ≡ putOf (recordLines times words) (written at text₀)
-    listed place i text h l = sym (put-none (written place text)) ∙ ap (λ cs. putOf cs (written place text)) (sym (lines-end i h)) ∙ l .put
+    listed place i text h l =
+        sym (put-none (written place text)) ∙ ap (λ cs. putOf cs (written place text)) (sym (lines-end i h)) ∙ l .put

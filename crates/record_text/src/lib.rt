@@ -102,7 +102,8 @@ fn put_record(clock: u32, word: u32, text: &mut [u8], at: usize) -> usize
 fn put_records(times: &[u32], words: &[u32], text: &mut [u8], at: usize) -> usize
     requires { ⌜ length (now times) ≡ length (now words) ⌝ }
     requires { ⌜ at + 20 * length (now times) ≤ length (now text) ⌝ }
-    ensures { λ r. ⌜ written r (now (text .exit)) ≡ putOf (recordLines (now (times .entry)) (now (words .entry))) (written at (now (text .entry))) ⌝ }
+    ensures { λ r. ⌜ written r (now (text .exit))
+        ≡ putOf (recordLines (now (times .entry)) (now (words .entry))) (written at (now (text .entry))) ⌝ }
 {
     let mut place = at;
     let mut i = 0;
@@ -130,7 +131,8 @@ pub fn put_end(done: u32, number: u8, text: &mut [u8], at: usize) -> usize
 pub fn put_outcome(times: &[u32], words: &[u32], done: u32, number: u8, text: &mut [u8]) -> usize
     requires { ⌜ length (now times) ≡ length (now words) ⌝ }
     requires { ⌜ 20 * (length (now times) + 1) ≤ length (now text) ⌝ }
-    ensures { λ r. ⌜ written r (now (text .exit)) ≡ putOf (outcomeLines (now (times .entry)) (now (words .entry)) done number) (written 0 (now (text .entry))) ⌝ }
+    ensures { λ r. ⌜ written r (now (text .exit))
+        ≡ putOf (outcomeLines (now (times .entry)) (now (words .entry)) done number) (written 0 (now (text .entry))) ⌝ }
     ensures { λ r. ⌜ r ≤ length (now (text .exit)) ⌝ }
 {
     let place = put_records(times, words, text, 0);

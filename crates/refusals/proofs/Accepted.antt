@@ -47,8 +47,12 @@ module _ (limits : Limits) (formed : Bool) (clock span : ℕ) (clocks codes : Li
       record {
         memory = eqb-true _ _ (not-false _ (one .0));
         state = not-false _ (two .0);
-        inputs = eqb-true _ _ (not-false _ (neither-left (not (eqb (length clocks) (length codes))) (not (eqb times words)) (three .0)));
-        outputs = eqb-true _ _ (not-false _ (neither-right (not (eqb (length clocks) (length codes))) (not (eqb times words)) (three .0)));
+        inputs =
+            eqb-true _ _
+            (not-false _ (neither-left (not (eqb (length clocks) (length codes))) (not (eqb times words)) (three .0)));
+        outputs =
+            eqb-true _ _
+            (not-false _ (neither-right (not (eqb (length clocks) (length codes))) (not (eqb times words)) (three .0)));
         most = ltb-false _ _ (four .0);
         pins = not-false _ (five .0);
       }

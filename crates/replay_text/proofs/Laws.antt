@@ -46,18 +46,30 @@ module _ (memory : List ℕ) (whole : length memory ≡ memorySpan) where
 
   not-refused : refusalIn (r6501q Nowhere) 100 (replayStart memory) ≡ 0
   not-refused =
-      accepts r6501qLimits (wellFormed fresh) (fresh .clock) (length memory) (1 ∷ []) (resHigh ∷ []) (length freeRecords) (length freeRecords) 100
-      (record { memory = whole; state = fresh-formed; inputs = refl; outputs = refl; most = omega (arith, fresh-clock); pins = release-right })
+      accepts r6501qLimits (wellFormed fresh) (fresh .clock) (length memory) (1 ∷ []) (resHigh ∷ [])
+      (length freeRecords) (length freeRecords) 100
+      (record {
+        memory = whole;
+        state = fresh-formed;
+        inputs = refl;
+        outputs = refl;
+        most = omega (arith, fresh-clock);
+        pins = release-right;
+      })
 
   start-fits : Fit (r6501q Nowhere) (replayStart memory)
-  start-fits = record { memory = whole; state = fresh-formed; pins = release-right; outputs = refl; written = omega arith }
+  start-fits =
+      record { memory = whole; state = fresh-formed; pins = release-right; outputs = refl; written = omega arith }
 
   -- every plain clock keeps it so
   ended-fits : Fit (r6501q Nowhere) ended
-  ended-fits = plains-kept (chip Nowhere) (lawful Nowhere) (Fit (r6501q Nowhere)) (plain-fits (r6501q Nowhere) (laws Nowhere)) (no-gap-event (r6501q Nowhere) (laws Nowhere)) 100 (replayStart memory) start-fits
+  ended-fits =
+      plains-kept (chip Nowhere) (lawful Nowhere) (Fit (r6501q Nowhere)) (plain-fits (r6501q Nowhere) (laws Nowhere))
+      (no-gap-event (r6501q Nowhere) (laws Nowhere)) 100 (replayStart memory) start-fits
 
   module _ (s : State) (result : CallResult) (memory' times words : List ℕ) (new : s ≡ fresh) {clocks codes : List ℕ}
-      (e : handed result memory' times words ≡ plainRunOf (machine Nowhere) 100 (callStart s memory clocks codes (replicate 100 0) (replicate 100 0)))
+      (e : handed result memory' times words
+      ≡ plainRunOf (machine Nowhere) 100 (callStart s memory clocks codes (replicate 100 0) (replicate 100 0)))
       (at : clocks ≡ 1 ∷ []) (high : codes ≡ resHigh ∷ []) where
     -- what the call hands back
     back : handed result memory' times words ≡ handedBackOf (leapCount (chip Nowhere) 100 (replayStart memory)) ended
@@ -76,13 +88,16 @@ module _ (memory : List ℕ) (whole : length memory ≡ memorySpan) where
         let l = ap (λ (h : Handed). length (h .outputWords)) back in
         omega (arith, ended-fits .written, ended-fits .outputs)
 
-    pub lines-of-run : outcomeLines (take (result .written) times) (take (result .written) words) (result .state .clock) (result .number) ≡ ranOf memory
+    pub lines-of-run : outcomeLines (take (result .written) times) (take (result .written) words) (result .state .clock)
+        (result .number) ≡ ranOf memory
     unfolding ranOf
     lines-of-run =
-        ap (λ (h : Handed). outcomeLines (take (h .result .written) (h .outputClocks)) (take (h .result .written) (h .outputWords)) (h .result .state .clock) (h .result .number)) back
+        ap (λ (h : Handed). outcomeLines (take (h .result .written) (h .outputClocks))
+        (take (h .result .written) (h .outputWords)) (h .result .state .clock) (h .result .number)) back
 
 -- 02, U8: what is printed is "what it was" from the old start with no inputs; inputs read are not printed
-pub printed-before : (memory : List ℕ) → ranOf memory ≡ linesOf (plains (chip Nowhere) 100 (oldStart memory [] [] freeRecords freeRecords))
+pub printed-before : (memory : List ℕ)
+    → ranOf memory ≡ linesOf (plains (chip Nowhere) 100 (oldStart memory [] [] freeRecords freeRecords))
 unfolding ranOf dueCount
 printed-before memory = ap linesOf (released-plains Nowhere memory [] [] freeRecords freeRecords refl 99 (omega arith))
 

@@ -11,8 +11,10 @@ use Rattle.serial.specs.declared.transmitter.Sending.{Sending}
 use Rattle.serial.specs.declared.receiver.Receiver.{Receiver}
 use Rattle.serial.specs.declared.receiver.Receiving.{Receiving}
 use Rattle.serial.specs.Format.{receiverAsynchronous, receiverShifting, holdsA, frameBits, sentBits, pace}
-use Rattle.serial.specs.Transmitter.{sending, transmitterClock, sendTick, idleTick, nextPhase, ticked, bitTick, frameEnd, taken, framed, line, shiftClock, idleTransmitter}
-use Rattle.serial.specs.Receiver.{receiverClock, receiveTick, looked, startDetected, receiving, idleReceiver, withLevel, shiftedAtRise, receiveRise, byteEnded, keptWith, statusAfter}
+use Rattle.serial.specs.Transmitter.{sending, transmitterClock, sendTick, idleTick, nextPhase, ticked, bitTick}
+use Rattle.serial.specs.Transmitter.{frameEnd, taken, framed, line, shiftClock, idleTransmitter}
+use Rattle.serial.specs.Receiver.{receiverClock, receiveTick, looked, startDetected, receiving, idleReceiver}
+use Rattle.serial.specs.Receiver.{withLevel, shiftedAtRise, receiveRise, byteEnded, keptWith, statusAfter}
 
 -- counter A with its latch, and the transmitter that it drives
 pub record Driven : Type 0 where
@@ -21,7 +23,10 @@ pub record Driven : Type 0 where
 
 abbrev clockedBy : Driven → ℕ → ℕ → CountedA → Driven
 clockedBy d sccr byte a =
-    record { counter = a .counter; sender = transmitterClock (d .sender .transmitter) (ticksOf (a .underflow)) sccr (d .sender .scsr) byte }
+    record {
+      counter = a .counter;
+      sender = transmitterClock (d .sender .transmitter) (ticksOf (a .underflow)) sccr (d .sender .scsr) byte;
+    }
 
 -- n clocks: step 2 for counter A, which SCCR holds to mode 00 whatever its mode, then step 3 for the transmitter
 abbrev pub drivenFor : ℕ → ℕ → ℕ → ℕ → Driven → Driven
@@ -35,16 +40,20 @@ waiting = record { counter = record { count = 0; latch = 0 }; sender = sending i
 
 -- P5, "41h, 8 bits, no parity, latch 0: 176 clocks from start to idle": SCCR 80h. The first clock takes the byte, the
 -- start bit is on the line; 175 clocks later one bit is left; 176 clocks later it is idle, with an under-run.
-pub p5-start : (mode : ℕ) → drivenFor 1 mode 0x80 0x41 waiting .sender .transmitter ≡ record { left = 11; phase = 0; register = 0x682 }
-unfolding inForce holdsA clockA countsA downA ticksOf transmitterClock sendTick idleTick taken framed sentBits frameBits withBit
+pub p5-start : (mode : ℕ)
+    → drivenFor 1 mode 0x80 0x41 waiting .sender .transmitter ≡ record { left = 11; phase = 0; register = 0x682 }
+unfolding inForce holdsA clockA countsA downA ticksOf transmitterClock sendTick idleTick taken framed sentBits frameBits
+    withBit
 p5-start mode = refl
 
 pub p5-last-bit : (mode : ℕ) → drivenFor 176 mode 0x80 0x41 waiting .sender .transmitter .left ≡ 1
-unfolding inForce holdsA clockA countsA downA ticksOf transmitterClock sendTick idleTick nextPhase pace ticked bitTick frameEnd taken framed sentBits frameBits withBit
+unfolding inForce holdsA clockA countsA downA ticksOf transmitterClock sendTick idleTick nextPhase pace ticked bitTick
+    frameEnd taken framed sentBits frameBits withBit
 p5-last-bit mode = refl
 
 pub p5-idle : (mode : ℕ) → drivenFor 177 mode 0x80 0x41 waiting .sender ≡ sending idleTransmitter 0xC0
-unfolding inForce holdsA clockA countsA downA ticksOf transmitterClock sendTick idleTick nextPhase pace ticked bitTick frameEnd taken framed sentBits frameBits withBit
+unfolding inForce holdsA clockA countsA downA ticksOf transmitterClock sendTick idleTick nextPhase pace ticked bitTick
+    frameEnd taken framed sentBits frameBits withBit
 p5-idle mode = refl
 
 -- ticks with one level of PA7
@@ -80,30 +89,38 @@ lines pa6 pa4 left = record { pa6 = pa6; pa4 = pa4; left = left }
 -- "its frame the byte alone, shifted at each tick that makes the phase even": the first clock takes the byte; bit 0 is
 -- on the line, the clock low
 pub shift-take : (mode : ℕ) → shiftedFor 1 mode ≡ lines true false 8
-unfolding inForce holdsA clockA countsA downA ticksOf transmitterClock sendTick idleTick taken framed sentBits withBit line shiftClock
+unfolding inForce holdsA clockA countsA downA ticksOf transmitterClock sendTick idleTick taken framed sentBits withBit
+    line shiftClock
 shift-take mode = refl
 
 pub shift-high : (mode : ℕ) → shiftedFor 2 mode ≡ lines true true 8
-unfolding inForce holdsA clockA countsA downA ticksOf transmitterClock sendTick idleTick nextPhase pace ticked bitTick taken framed sentBits withBit line shiftClock
+unfolding inForce holdsA clockA countsA downA ticksOf transmitterClock sendTick idleTick nextPhase pace ticked bitTick
+    taken framed sentBits withBit line shiftClock
 shift-high mode = refl
 
 pub shift-second : (mode : ℕ) → shiftedFor 3 mode ≡ lines false false 7
-unfolding inForce holdsA clockA countsA downA ticksOf transmitterClock sendTick idleTick nextPhase pace ticked bitTick taken framed sentBits withBit line shiftClock
+unfolding inForce holdsA clockA countsA downA ticksOf transmitterClock sendTick idleTick nextPhase pace ticked bitTick
+    taken framed sentBits withBit line shiftClock
 shift-second mode = refl
 
 pub shift-last : (mode : ℕ) → shiftedFor 16 mode ≡ lines false true 1
-unfolding inForce holdsA clockA countsA downA ticksOf transmitterClock sendTick idleTick nextPhase pace ticked bitTick frameEnd taken framed sentBits withBit line shiftClock
+unfolding inForce holdsA clockA countsA downA ticksOf transmitterClock sendTick idleTick nextPhase pace ticked bitTick
+    frameEnd taken framed sentBits withBit line shiftClock
 shift-last mode = refl
 
 -- sixteen clocks after the take: an under-run, both lines high
-pub shift-idle : (mode : ℕ) → (shiftedFor 17 mode ≡ lines true true 0) × (drivenFor 17 mode 0xA0 0x41 waiting .sender ≡ sending idleTransmitter 0xC0)
-unfolding inForce holdsA clockA countsA downA ticksOf transmitterClock sendTick idleTick nextPhase pace ticked bitTick frameEnd taken framed sentBits withBit line shiftClock
+pub shift-idle : (mode : ℕ)
+    → (shiftedFor 17 mode ≡ lines true true 0)
+    × (drivenFor 17 mode 0xA0 0x41 waiting .sender ≡ sending idleTransmitter 0xC0)
+unfolding inForce holdsA clockA countsA downA ticksOf transmitterClock sendTick idleTick nextPhase pace ticked bitTick
+    frameEnd taken framed sentBits withBit line shiftClock
 shift-idle mode = (refl, refl)
 
 -- rises of PA4 with these levels of PA7, SCCR 50h, on clocks without a tick
 abbrev pub risenFor : List Bool → Receiving → Receiving
 risenFor [] r = r
-risenFor (high ∷ levels) r = risenFor levels (receiverClock (r .receiver) (ticksOf false) true 0x50 (r .scsr) (r .received) high)
+risenFor (high ∷ levels) r =
+    risenFor levels (receiverClock (r .receiver) (ticksOf false) true 0x50 (r .scsr) (r .received) high)
 
 -- "a rise with no bits left first making them 8", and shifting in the same clock
 pub shift-first-rise : (received : ℕ) → risenFor (true ∷ []) (receiving idleReceiver 0x40 received)
@@ -115,5 +132,6 @@ shift-first-rise received = refl
 pub shift-received : (received : ℕ)
     → risenFor (true ∷ false ∷ false ∷ false ∷ false ∷ false ∷ true ∷ false ∷ []) (receiving idleReceiver 0x40 received)
     ≡ receiving (record { subinterval = 0; half = false; left = 0; register = 0x208 }) 0x41 0x41
-unfolding ticksOf receiverClock receiverAsynchronous receiverShifting receiveRise shiftedAtRise withLevel byteEnded keptWith statusAfter setWhere withBit
+unfolding ticksOf receiverClock receiverAsynchronous receiverShifting receiveRise shiftedAtRise withLevel byteEnded
+    keptWith statusAfter setWhere withBit
 shift-received received = refl

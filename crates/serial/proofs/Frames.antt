@@ -77,13 +77,16 @@ pub frame-length : (sccr x : ℕ) → length (frameBits sccr x) ≡ width sccr +
 unfolding frameBits
 frame-length sccr x =
     let d : length (dataBits sccr x) ≡ width sccr = length-tabulate (λ k. bit k x) (width sccr) 0 in
-    let e : length (ending sccr (dataBits sccr x)) ≡ 2 = cond-both (λ (l : List Bool). length l ≡ 2) (hasParity sccr) (parityBit sccr (dataBits sccr x) ∷ true ∷ []) (true ∷ true ∷ []) (λ _. refl) (λ _. refl) in
+    let e : length (ending sccr (dataBits sccr x))
+    ≡ 2 = cond-both (λ (l : List Bool). length l ≡ 2) (hasParity sccr) (parityBit sccr (dataBits sccr x) ∷ true ∷ [])
+    (true ∷ true ∷ []) (λ _. refl) (λ _. refl) in
     let a = length-append (dataBits sccr x) (ending sccr (dataBits sccr x)) in
     omega (arith, a, d, e)
 
 -- a frame as a number
 pub frame-number : (sccr x : ℕ) → x < 256
-    → number (frameBits sccr x) ≡ (x % 2 ^ width sccr + 2 ^ width sccr * number (ending sccr (bitsOf 8 (x % 2 ^ width sccr)))) * 2
+    → number (frameBits sccr x)
+    ≡ (x % 2 ^ width sccr + 2 ^ width sccr * number (ending sccr (bitsOf 8 (x % 2 ^ width sccr)))) * 2
 unfolding frameBits
 frame-number sccr x h =
     let a = number-append (dataBits sccr x) (ending sccr (dataBits sccr x)) in
@@ -101,11 +104,14 @@ pub frame-le : (b e p : ℕ) → 0 < p → p ≤ 256 → e ≤ 3 → (b % p + p 
 frame-le b e p h k l = omega (arith, mod-lt b h, mul-le-mul k l)
 
 -- the parity of a received byte is that of its data bits
-pub parity-byte : (sccr register : ℕ) → parityBit sccr (bitsOf 8 (receivedByte sccr register)) ≡ parityBit sccr (dataBits sccr (receivedByte sccr register))
+pub parity-byte : (sccr register : ℕ)
+    → parityBit sccr (bitsOf 8 (receivedByte sccr register))
+    ≡ parityBit sccr (dataBits sccr (receivedByte sccr register))
 unfolding parityBit receivedByte
 parity-byte sccr register =
     let x = register / 2 ^ (10 - digit (hasParity sccr) - width sccr) in
     let o = odd-data sccr (x % 2 ^ width sccr) (data-lt sccr x) in
     let m : x % 2 ^ width sccr % 2 ^ width sccr ≡ x % 2 ^ width sccr = mod-eq-of-lt (mod-lt x (span-pos sccr)) in
-    let o′ : oddOnes (bitsOf 8 (x % 2 ^ width sccr)) ≡ oddOnes (dataBits sccr (x % 2 ^ width sccr)) = subst (λ y. oddOnes (bitsOf 8 y) ≡ oddOnes (dataBits sccr (x % 2 ^ width sccr))) m o in
+    let o′ : oddOnes (bitsOf 8 (x % 2 ^ width sccr)) ≡ oddOnes (dataBits sccr (x % 2 ^ width sccr)) =
+    subst (λ y. oddOnes (bitsOf 8 y) ≡ oddOnes (dataBits sccr (x % 2 ^ width sccr))) m o in
     ap (λ odd. cond (bit 0 sccr) odd (not odd)) o′

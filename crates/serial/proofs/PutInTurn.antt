@@ -3,7 +3,8 @@ use mathlib.Core.Path.{_≡_, refl, ap, _∙_, sym}
 use mathlib.Core.Bool.{Bool, true, false, cond}
 use mathlib.Core.List.{List, [], _∷_, _++_}
 use Prim.Native.Nat.{ℕ, zero, suc, _+_, _-_, _*_, _/_, _%_, _^_, _≤_, _<_}
-use native.Mathlib.Nat.{div-one, pow-suc, mul-comm, mul-assoc, add-mul-div-right, add-mul-div-left, mul-add, div-eq-of-lt, zero-add, mod-eq-of-lt, add-mul-mod-self-left}
+use native.Mathlib.Nat.{div-one, pow-suc, mul-comm, mul-assoc, add-mul-div-right, add-mul-div-left, mul-add}
+use native.Mathlib.Nat.{div-eq-of-lt, zero-add, mod-eq-of-lt, add-mul-mod-self-left}
 use native.Mathlib.Omega.{arith}
 use lib.Dec.{eqb, ltb}
 use lib.ListN.{length, length-append}
@@ -16,7 +17,8 @@ use Rattle.bits.proofs.Numbers.{number-append, number-lt}
 use Rattle.serial.specs.declared.receiver.Receiver.{Receiver}
 use Rattle.serial.specs.declared.receiver.Receiving.{Receiving}
 use Rattle.serial.specs.Format.{width, hasParity}
-use Rattle.serial.specs.Receiver.{receiving, withLevel, keptWith, statusAfter, receivedByte, frameEnded, lookTaken, looked, receiveTick, shiftedAtRise, byteEnded, receiveRise}
+use Rattle.serial.specs.Receiver.{receiving, withLevel, keptWith, statusAfter, receivedByte, frameEnded}
+use Rattle.serial.specs.Receiver.{lookTaken, looked, receiveTick, shiftedAtRise, byteEnded, receiveRise}
 
 -- levels put one after another
 abbrev pub putAll : ℕ → List Bool → ℕ
@@ -24,13 +26,17 @@ putAll register [] = register
 putAll register (high ∷ levels) = putAll (withLevel register high) levels
 
 -- where n more levels are to come, at most ten, a level put now ends n places below bit 10
-put-far : (register n : ℕ) (high : Bool) → n ≤ 10 → withLevel register high / 2 ^ n ≡ register / 2 ^ suc n + digit high * 2 ^ (10 - n)
+put-far : (register n : ℕ) (high : Bool) → n ≤ 10
+    → withLevel register high / 2 ^ n ≡ register / 2 ^ suc n + digit high * 2 ^ (10 - n)
 unfolding withLevel
 put-far register n high h =
     let ten : 10 - n + n ≡ 10 = omega arith in
     let whole : 2 ^ (10 - n) * 2 ^ n ≡ 1024 = sym (pow-add 2 (10 - n) n) ∙ ap (λ k. 2 ^ k) ten in
-    let parts : digit high * 1024 ≡ digit high * 2 ^ (10 - n) * 2 ^ n = ap (λ k. digit high * k) (sym whole) ∙ sym (mul-assoc (digit high) (2 ^ (10 - n)) (2 ^ n)) in
-    let far : (register / 2 + digit high * 2 ^ (10 - n) * 2 ^ n) / 2 ^ n ≡ register / 2 / 2 ^ n + digit high * 2 ^ (10 - n) = add-mul-div-right (register / 2) (digit high * 2 ^ (10 - n)) (pow-pos n) in
+    let parts : digit high * 1024 ≡ digit high * 2 ^ (10 - n) * 2 ^ n =
+    ap (λ k. digit high * k) (sym whole) ∙ sym (mul-assoc (digit high) (2 ^ (10 - n)) (2 ^ n)) in
+    let far : (register / 2 + digit high * 2 ^ (10 - n) * 2 ^ n) / 2 ^ n
+    ≡ register / 2 / 2 ^ n + digit high
+    * 2 ^ (10 - n) = add-mul-div-right (register / 2) (digit high * 2 ^ (10 - n)) (pow-pos n) in
     let one : 1 + n ≡ suc n = omega arith in
     let down : register / 2 / 2 ^ n ≡ register / 2 ^ suc n = shr-shr register 1 n ∙ ap (λ k. register / 2 ^ k) one in
     ap (λ k. (register / 2 + k) / 2 ^ n) parts ∙ far ∙ ap (λ k. k + digit high * 2 ^ (10 - n)) down
@@ -47,8 +53,11 @@ put-in-turn register (high ∷ levels) h =
     let less : 11 - n ≡ suc (10 - n) = omega arith in
     let twice : 2 ^ (11 - n) ≡ 2 ^ (10 - n) * 2 = ap (λ k. 2 ^ k) less ∙ pow-suc 2 (10 - n) in
     let lower : 11 - suc n ≡ 10 - n = omega arith in
-    let later : 2 ^ (11 - n) * number levels ≡ 2 ^ (10 - n) * (2 * number levels) = ap (λ k. k * number levels) twice ∙ mul-assoc (2 ^ (10 - n)) 2 (number levels) in
-    let both : 2 ^ (10 - n) * (digit high + 2 * number levels) ≡ 2 ^ (10 - n) * digit high + 2 ^ (10 - n) * (2 * number levels) = mul-add (2 ^ (10 - n)) (digit high) (2 * number levels) in
+    let later : 2 ^ (11 - n) * number levels ≡ 2 ^ (10 - n) * (2 * number levels) =
+    ap (λ k. k * number levels) twice ∙ mul-assoc (2 ^ (10 - n)) 2 (number levels) in
+    let both : 2 ^ (10 - n) * (digit high + 2 * number levels)
+    ≡ 2 ^ (10 - n) * digit high + 2 ^ (10 - n)
+    * (2 * number levels) = mul-add (2 ^ (10 - n)) (digit high) (2 * number levels) in
     let here = mul-comm (digit high) (2 ^ (10 - n)) in
     rw lower (omega (arith, rest, far, later, both, here))
 
@@ -78,14 +87,16 @@ withRegister r left register = record { subinterval = r .subinterval; half = r .
 pub byte-received : (r : Receiver) (scsr received : ℕ) (a b c d e f g h : Bool) → r .register < 2048
     → let levels : List Bool = a ∷ b ∷ c ∷ d ∷ e ∷ f ∷ g ∷ h ∷ [] in
     risen levels (receiving (withRegister r 0 (r .register)) scsr received)
-    ≡ keptWith (number levels) (withRegister r 0 (putAll (r .register) levels)) (statusAfter scsr false false) scsr received
+    ≡ keptWith (number levels) (withRegister r 0 (putAll (r .register) levels)) (statusAfter scsr false false) scsr
+    received
 unfolding receiveRise shiftedAtRise byteEnded
 byte-received r scsr received a b c d e f g h lt =
     let levels : List Bool = a ∷ b ∷ c ∷ d ∷ e ∷ f ∷ g ∷ h ∷ [] in
     let top : putAll (r .register) levels / 8 ≡ number levels = top-in-turn (r .register) levels (omega arith) lt in
     let small : number levels < 256 = number-lt levels in
     let byte : putAll (r .register) levels / 8 % 256 ≡ number levels = ap (λ k. k % 256) top ∙ mod-eq-of-lt small in
-    ap (λ k. keptWith k (withRegister r 0 (putAll (r .register) levels)) (statusAfter scsr false false) scsr received) byte
+    ap (λ k. keptWith k (withRegister r 0 (putAll (r .register) levels)) (statusAfter scsr false false) scsr received)
+    byte
 
 -- SCSR0 clear: the byte is kept and SCSR0 set; else SCSR1 is set and the old byte stays. SCSR2 and SCSR3 are not
 -- touched.
@@ -102,16 +113,19 @@ byte-dropped r byte scsr received e = rw e
 -- ---- an asynchronous frame
 
 -- data levels, then parity or none, then the stop
-pub frame-received : (sccr register : ℕ) (levels ending : List Bool) → length levels ≡ width sccr → length ending ≡ digit (hasParity sccr) + 1
+pub frame-received : (sccr register : ℕ) (levels ending : List Bool) → length levels ≡ width sccr
+    → length ending ≡ digit (hasParity sccr) + 1
     → register < 2048 → receivedByte sccr (putAll register (levels ++ ending)) ≡ number levels
 unfolding receivedByte
 frame-received sccr register levels ending l e lt =
     let p = digit-le (hasParity sccr) in
-    let n : length (levels ++ ending) ≡ width sccr + (digit (hasParity sccr) + 1) = length-append levels ending ∙ rw (l, e) in
+    let n : length (levels ++ ending) ≡ width sccr + (digit (hasParity sccr) + 1) =
+    length-append levels ending ∙ rw (l, e) in
     let place : 10 - digit (hasParity sccr) - width sccr ≡ 11 - length (levels ++ ending) = omega (arith, p, n) in
     let top = top-in-turn register (levels ++ ending) (omega (arith, p, n)) lt in
     let split = number-append levels ending in
-    rw (place, top, split, l) (add-mul-mod-self-left (number levels) (2 ^ width sccr) (number ending) ∙ mod-eq-of-lt (rw l at (number-lt levels)))
+    rw (place, top, split, l)
+    (add-mul-mod-self-left (number levels) (2 ^ width sccr) (number ending) ∙ mod-eq-of-lt (rw l at (number-lt levels)))
 
 -- ---- the same by ticks: a look each second tick, and each eighth look takes the level
 
@@ -120,7 +134,8 @@ abbrev pub heardFor : ℕ → List Bool → Receiving → Receiving
 heardFor sccr [] x = x
 heardFor sccr (high ∷ levels) x = heardFor sccr levels (receiveTick (x .receiver) sccr (x .scsr) (x .received) high)
 
-heard-append : (sccr : ℕ) (a b : List Bool) (x : Receiving) → heardFor sccr (a ++ b) x ≡ heardFor sccr b (heardFor sccr a x)
+heard-append : (sccr : ℕ) (a b : List Bool) (x : Receiving)
+    → heardFor sccr (a ++ b) x ≡ heardFor sccr b (heardFor sccr a x)
 heard-append sccr [] b x = refl
 heard-append sccr (high ∷ a) b x = heard-append sccr a b (receiveTick (x .receiver) sccr (x .scsr) (x .received) high)
 
@@ -143,7 +158,8 @@ module _ (sccr scsr received : ℕ) where
   abbrev pub levelTaken : ℕ → ℕ → Bool → Receiving
   levelTaken left register high =
       cond (eqb (left - 1) 0)
-      (frameEnded (record { subinterval = 0; half = false; left = left - 1; register = withLevel register high }) sccr scsr received)
+      (frameEnded (record { subinterval = 0; half = false; left = left - 1; register = withLevel register high }) sccr
+      scsr received)
       (atBit 0 (left - 1) (withLevel register high))
 
   eighth-look : (left register : ℕ) (a high : Bool) → eqb left 0 ≡ false
@@ -172,7 +188,9 @@ module _ (sccr scsr received : ℕ) where
   -- so the levels are put in turn, and the last one ends the frame
   pub heard-in-turn : (others : ℕ → ℕ → Bool) (levels : List Bool) (last : Bool) (register : ℕ)
       → heardFor sccr (levelsHeard others (levels ++ (last ∷ []))) (atBit 0 (suc (length levels)) register)
-      ≡ frameEnded (record { subinterval = 0; half = false; left = 0; register = putAll register (levels ++ (last ∷ [])) }) sccr scsr received
+      ≡ frameEnded
+      (record { subinterval = 0; half = false; left = 0; register = putAll register (levels ++ (last ∷ [])) }) sccr scsr
+      received
   heard-in-turn others [] last register =
       bit-heard 1 register (others 0) last refl
   heard-in-turn others (high ∷ levels) last register =
@@ -182,5 +200,6 @@ module _ (sccr scsr received : ℕ) where
       let less : suc (suc (length levels)) - 1 ≡ suc (length levels) = omega arith in
       let more : eqb (suc (length levels)) 0 ≡ false = ne-eqb (suc (length levels)) 0 (λ e. omega arith) in
       heard-append sccr here ticks (atBit 0 (suc (suc (length levels))) register)
-      ∙ ap (heardFor sccr ticks) (bit-heard (suc (suc (length levels))) register (others (length (levels ++ (last ∷ [])))) high some ∙ rw (less, more) refl)
+      ∙ ap (heardFor sccr ticks) (bit-heard (suc (suc (length levels))) register
+      (others (length (levels ++ (last ∷ [])))) high some ∙ rw (less, more) refl)
       ∙ heard-in-turn others levels last (withLevel register high)

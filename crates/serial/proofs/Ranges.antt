@@ -18,9 +18,14 @@ use Rattle.serial.specs.declared.transmitter.Transmitter.{Transmitter}
 use Rattle.serial.specs.declared.transmitter.Sending.{Sending}
 use Rattle.serial.specs.declared.receiver.Receiver.{Receiver}
 use Rattle.serial.specs.declared.receiver.Receiving.{Receiving}
-use Rattle.serial.specs.Format.{transmitterShifts, receiverAsynchronous, receiverShifting, keepsTransmitter, keepsReceiver, width, hasParity, frameBits, sentBits, pace}
-use Rattle.serial.specs.Transmitter.{transmitterFits, sending, framed, taken, idleTick, frameEnd, nextPhase, ticked, bitTick, sendTick, transmitterClock, raised, shiftedDown, transmitterWithSccr, idleTransmitter}
-use Rattle.serial.specs.Receiver.{receiverFits, receiving, atSub, atHalf, started, shiftedIn, startDetected, withLevel, keptWith, frameEnded, lookTaken, looked, receiveTick, shiftedAtRise, byteEnded, receiveRise, receiverClock, receiverWithSccr, idleReceiver}
+use Rattle.serial.specs.Format.{transmitterShifts, receiverAsynchronous, receiverShifting, keepsTransmitter}
+use Rattle.serial.specs.Format.{keepsReceiver, width, hasParity, frameBits, sentBits, pace}
+use Rattle.serial.specs.Transmitter.{transmitterFits, sending, framed, taken, idleTick, frameEnd, nextPhase}
+use Rattle.serial.specs.Transmitter.{ticked, bitTick, sendTick, transmitterClock, raised, shiftedDown}
+use Rattle.serial.specs.Transmitter.{transmitterWithSccr, idleTransmitter}
+use Rattle.serial.specs.Receiver.{receiverFits, receiving, atSub, atHalf, started, shiftedIn, startDetected}
+use Rattle.serial.specs.Receiver.{withLevel, keptWith, frameEnded, lookTaken, looked, receiveTick, shiftedAtRise}
+use Rattle.serial.specs.Receiver.{byteEnded, receiveRise, receiverClock, receiverWithSccr, idleReceiver}
 use Rattle.serial.proofs.Frames.{frame-length}
 
 -- the ranges as facts
@@ -37,7 +42,8 @@ in-transmitter t e = record {
 }
 
 pub fits-transmitter : (t : Transmitter) → InTransmitter t → transmitterFits t ≡ true
-fits-transmitter t i = and-both _ _ (and-both _ _ (le-leb _ _ (i .left)) (le-leb _ _ (i .phase))) (lt-ltb _ _ (i .register))
+fits-transmitter t i =
+    and-both _ _ (and-both _ _ (le-leb _ _ (i .left)) (le-leb _ _ (i .phase))) (lt-ltb _ _ (i .register))
 
 abbrev SendingIn : Sending → Type 0
 SendingIn s = InTransmitter (s .transmitter)
@@ -62,22 +68,28 @@ taken-in sccr scsr byte = framed-in sccr byte
 
 idle-in : (t : Transmitter) (sccr scsr byte : ℕ) → InTransmitter t → SendingIn (idleTick t sccr scsr byte)
 unfolding idleTick
-idle-in t sccr scsr byte i = cond-both SendingIn (bit 6 scsr) (sending t scsr) (taken sccr scsr byte) (λ _. i) (λ _. taken-in sccr scsr byte)
+idle-in t sccr scsr byte i =
+    cond-both SendingIn (bit 6 scsr) (sending t scsr) (taken sccr scsr byte) (λ _. i) (λ _. taken-in sccr scsr byte)
 
 end-in : (t : Transmitter) (sccr scsr byte : ℕ) → InTransmitter t → SendingIn (frameEnd t sccr scsr byte)
 unfolding frameEnd
-end-in t sccr scsr byte i = cond-both SendingIn (bit 6 scsr) (sending t (withBit 7 true scsr)) (taken sccr scsr byte) (λ _. i) (λ _. taken-in sccr scsr byte)
+end-in t sccr scsr byte i =
+    cond-both SendingIn (bit 6 scsr) (sending t (withBit 7 true scsr)) (taken sccr scsr byte) (λ _. i)
+    (λ _. taken-in sccr scsr byte)
 
 next-le : (phase : ℕ) → nextPhase phase ≤ 15
 unfolding nextPhase
 next-le phase =
-    cond-both (λ (n : ℕ). n ≤ 15) (ltb phase 15) (phase + 1) 0 (λ e. let h = ltb-true phase 15 e in omega arith) (λ _. omega arith)
+    cond-both (λ (n : ℕ). n ≤ 15) (ltb phase 15) (phase + 1) 0 (λ e. let h = ltb-true phase 15 e in omega arith)
+    (λ _. omega arith)
 
 ticked-in : (ticks : ℕ) (t : Transmitter) → InTransmitter t → InTransmitter (ticked ticks t)
 unfolding ticked
 ticked-in ticks t i =
     cond-both InTransmitter (eqb (nextPhase (t .phase) % ticks) 0) (shiftedDown (raised t)) (raised t)
-    (λ _. let l = i .left in let r = i .register in record { left = omega arith; phase = next-le (t .phase); register = omega arith })
+    (λ _. let l = i .left in
+    let r = i .register in
+    record { left = omega arith; phase = next-le (t .phase); register = omega arith })
     (λ _. record { left = i .left; phase = next-le (t .phase); register = i .register })
 
 bit-in : (t : Transmitter) (sccr scsr byte : ℕ) → InTransmitter t → SendingIn (bitTick t sccr scsr byte)
@@ -85,22 +97,29 @@ unfolding bitTick
 bit-in t sccr scsr byte i =
     let next = ticked (pace sccr) t in
     let in-range = ticked-in (pace sccr) t i in
-    cond-both SendingIn (eqb (next .left) 0) (frameEnd next sccr scsr byte) (sending next scsr) (λ _. end-in next sccr scsr byte in-range) (λ _. in-range)
+    cond-both SendingIn (eqb (next .left) 0) (frameEnd next sccr scsr byte) (sending next scsr)
+    (λ _. end-in next sccr scsr byte in-range) (λ _. in-range)
 
 tick-in : (t : Transmitter) (sccr scsr byte : ℕ) → InTransmitter t → SendingIn (sendTick t sccr scsr byte)
 unfolding sendTick
-tick-in t sccr scsr byte i = cond-both SendingIn (eqb (t .left) 0) (idleTick t sccr scsr byte) (bitTick t sccr scsr byte) (λ _. idle-in t sccr scsr byte i) (λ _. bit-in t sccr scsr byte i)
+tick-in t sccr scsr byte i =
+    cond-both SendingIn (eqb (t .left) 0) (idleTick t sccr scsr byte) (bitTick t sccr scsr byte)
+    (λ _. idle-in t sccr scsr byte i) (λ _. bit-in t sccr scsr byte i)
 
-pub transmitter-clock-fits : (t : Transmitter) (ticks : Ticks) (sccr scsr byte : ℕ) → transmitterFits t ≡ true → transmitterFits (transmitterClock t ticks sccr scsr byte .transmitter) ≡ true
+pub transmitter-clock-fits : (t : Transmitter) (ticks : Ticks) (sccr scsr byte : ℕ) → transmitterFits t ≡ true
+    → transmitterFits (transmitterClock t ticks sccr scsr byte .transmitter) ≡ true
 unfolding transmitterClock
 transmitter-clock-fits t ticks sccr scsr byte e =
-    fits-transmitter _ (cond-both SendingIn (not (eqb (ticks .0) 0) && bit 7 sccr) (sendTick t sccr scsr byte) (sending t scsr)
+    fits-transmitter _
+    (cond-both SendingIn (not (eqb (ticks .0) 0) && bit 7 sccr) (sendTick t sccr scsr byte) (sending t scsr)
     (λ _. tick-in t sccr scsr byte (in-transmitter t e)) (λ _. in-transmitter t e))
 
-pub transmitter-under-fits : (old sccr : ℕ) (t : Transmitter) → transmitterFits t ≡ true → transmitterFits (transmitterWithSccr old sccr t) ≡ true
+pub transmitter-under-fits : (old sccr : ℕ) (t : Transmitter) → transmitterFits t ≡ true
+    → transmitterFits (transmitterWithSccr old sccr t) ≡ true
 unfolding transmitterWithSccr
 transmitter-under-fits old sccr t e =
-    cond-both (λ (u : Transmitter). transmitterFits u ≡ true) (keepsTransmitter old sccr) t idleTransmitter (λ _. e) (λ _. refl)
+    cond-both (λ (u : Transmitter). transmitterFits u ≡ true) (keepsTransmitter old sccr) t idleTransmitter (λ _. e)
+    (λ _. refl)
 
 pub record InReceiver (r : Receiver) : Type 0 where
   pub subinterval : r .subinterval ≤ 7
@@ -115,7 +134,8 @@ in-receiver r e = record {
 }
 
 pub fits-receiver : (r : Receiver) → InReceiver r → receiverFits r ≡ true
-fits-receiver r i = and-both _ _ (and-both _ _ (le-leb _ _ (i .subinterval)) (le-leb _ _ (i .left))) (lt-ltb _ _ (i .register))
+fits-receiver r i =
+    and-both _ _ (and-both _ _ (le-leb _ _ (i .subinterval)) (le-leb _ _ (i .left))) (lt-ltb _ _ (i .register))
 
 abbrev ReceivingIn : Receiving → Type 0
 ReceivingIn s = InReceiver (s .receiver)
@@ -123,11 +143,14 @@ ReceivingIn s = InReceiver (s .receiver)
 startDetected-in : (r : Receiver) (sccr : ℕ) (high : Bool) → InReceiver r → InReceiver (startDetected r sccr high)
 unfolding startDetected
 startDetected-in r sccr high i =
-    cond-both InReceiver high (atSub r 0) (cond (ltb (r .subinterval) 3) (atSub r (r .subinterval + 1)) (started r sccr))
+    cond-both InReceiver high (atSub r 0)
+    (cond (ltb (r .subinterval) 3) (atSub r (r .subinterval + 1)) (started r sccr))
     (λ _. record { subinterval = omega arith; left = i .left; register = i .register })
     (λ _. cond-both InReceiver (ltb (r .subinterval) 3) (atSub r (r .subinterval + 1)) (started r sccr)
-    (λ e. let h = ltb-true (r .subinterval) 3 e in record { subinterval = omega arith; left = i .left; register = i .register })
-    (λ _. let d = digit-le (hasParity sccr) in record { subinterval = omega arith; left = omega arith; register = i .register }))
+    (λ e. let h = ltb-true (r .subinterval) 3 e in
+    record { subinterval = omega arith; left = i .left; register = i .register })
+    (λ _. let d = digit-le (hasParity sccr) in
+    record { subinterval = omega arith; left = omega arith; register = i .register }))
 
 with-level : (r : Receiver) (high : Bool) → InReceiver r → InReceiver (shiftedIn r high)
 unfolding withLevel
@@ -135,54 +158,68 @@ with-level r high i =
     let l = i .left in let g = i .register in let d = digit-le high in
     record { subinterval = omega arith; left = omega arith; register = omega arith }
 
-lookTaken-in : (r : Receiver) (sccr scsr received : ℕ) (high : Bool) → InReceiver r → ReceivingIn (lookTaken r sccr scsr received high)
+lookTaken-in : (r : Receiver) (sccr scsr received : ℕ) (high : Bool) → InReceiver r
+    → ReceivingIn (lookTaken r sccr scsr received high)
 unfolding lookTaken frameEnded keptWith
 lookTaken-in r sccr scsr received high i =
     cond-both ReceivingIn (ltb (r .subinterval) 7) (receiving (atSub r (r .subinterval + 1)) scsr received)
-    (cond (eqb (r .left - 1) 0) (frameEnded (shiftedIn r high) sccr scsr received) (receiving (shiftedIn r high) scsr received))
-    (λ e. let h = ltb-true (r .subinterval) 7 e in record { subinterval = omega arith; left = i .left; register = i .register })
-    (λ _. cond-both ReceivingIn (eqb (r .left - 1) 0) (frameEnded (shiftedIn r high) sccr scsr received) (receiving (shiftedIn r high) scsr received)
+    (cond (eqb (r .left - 1) 0) (frameEnded (shiftedIn r high) sccr scsr received)
+    (receiving (shiftedIn r high) scsr received))
+    (λ e. let h = ltb-true (r .subinterval) 7 e in
+    record { subinterval = omega arith; left = i .left; register = i .register })
+    (λ _. cond-both ReceivingIn (eqb (r .left - 1) 0) (frameEnded (shiftedIn r high) sccr scsr received)
+    (receiving (shiftedIn r high) scsr received)
     (λ _. with-level r high i) (λ _. with-level r high i))
 
-looked-in : (r : Receiver) (sccr scsr received : ℕ) (high : Bool) → InReceiver r → ReceivingIn (looked r sccr scsr received high)
+looked-in : (r : Receiver) (sccr scsr received : ℕ) (high : Bool) → InReceiver r
+    → ReceivingIn (looked r sccr scsr received high)
 unfolding looked
 looked-in r sccr scsr received high i =
-    cond-both ReceivingIn (eqb (r .left) 0) (receiving (startDetected r sccr high) scsr received) (lookTaken r sccr scsr received high)
+    cond-both ReceivingIn (eqb (r .left) 0) (receiving (startDetected r sccr high) scsr received)
+    (lookTaken r sccr scsr received high)
     (λ _. startDetected-in r sccr high i) (λ _. lookTaken-in r sccr scsr received high i)
 
 half-in : (r : Receiver) (h : Bool) → InReceiver r → InReceiver (atHalf r h)
 half-in r h i = record { subinterval = i .subinterval; left = i .left; register = i .register }
 
-hear-in : (r : Receiver) (sccr scsr received : ℕ) (high : Bool) → InReceiver r → ReceivingIn (receiveTick r sccr scsr received high)
+hear-in : (r : Receiver) (sccr scsr received : ℕ) (high : Bool) → InReceiver r
+    → ReceivingIn (receiveTick r sccr scsr received high)
 unfolding receiveTick
 hear-in r sccr scsr received high i =
-    cond-both ReceivingIn (r .half) (looked (atHalf r false) sccr scsr received high) (receiving (atHalf r true) scsr received)
+    cond-both ReceivingIn (r .half) (looked (atHalf r false) sccr scsr received high)
+    (receiving (atHalf r true) scsr received)
     (λ _. looked-in (atHalf r false) sccr scsr received high (half-in r false i)) (λ _. half-in r true i)
 
 at-rise-in : (r : Receiver) (high : Bool) → InReceiver r → InReceiver (shiftedAtRise r high)
 unfolding shiftedAtRise withLevel
 at-rise-in r high i =
-    let l : cond (eqb (r .left) 0) 8 (r .left) ≤ 11 = cond-both (λ (n : ℕ). n ≤ 11) (eqb (r .left) 0) 8 (r .left) (λ _. omega arith) (λ _. i .left) in
+    let l : cond (eqb (r .left) 0) 8 (r .left) ≤ 11 =
+    cond-both (λ (n : ℕ). n ≤ 11) (eqb (r .left) 0) 8 (r .left) (λ _. omega arith) (λ _. i .left) in
     let g = i .register in let d = digit-le high in
     record { subinterval = i .subinterval; left = omega arith; register = omega arith }
 
-rise-in : (r : Receiver) (scsr received : ℕ) (high : Bool) → InReceiver r → ReceivingIn (receiveRise r scsr received high)
+rise-in : (r : Receiver) (scsr received : ℕ) (high : Bool) → InReceiver r
+    → ReceivingIn (receiveRise r scsr received high)
 unfolding receiveRise byteEnded keptWith
 rise-in r scsr received high i =
     let next = shiftedAtRise r high in
     cond-both ReceivingIn (eqb (next .left) 0) (byteEnded next scsr received) (receiving next scsr received)
     (λ _. at-rise-in r high i) (λ _. at-rise-in r high i)
 
-pub receiver-clock-fits : (r : Receiver) (ticks : Ticks) (rise : Bool) (sccr scsr received : ℕ) (high : Bool) → receiverFits r ≡ true
+pub receiver-clock-fits : (r : Receiver) (ticks : Ticks) (rise : Bool) (sccr scsr received : ℕ) (high : Bool)
+    → receiverFits r ≡ true
     → receiverFits (receiverClock r ticks rise sccr scsr received high .receiver) ≡ true
 unfolding receiverClock
 receiver-clock-fits r ticks rise sccr scsr received high e =
-    fits-receiver _ (cond-both ReceivingIn (not (eqb (ticks .0) 0) && receiverAsynchronous sccr) (receiveTick r sccr scsr received high) _
+    fits-receiver _ (cond-both ReceivingIn (not (eqb (ticks .0) 0) && receiverAsynchronous sccr)
+    (receiveTick r sccr scsr received high) _
     (λ _. hear-in r sccr scsr received high (in-receiver r e))
-    (λ _. cond-both ReceivingIn (rise && receiverShifting sccr) (receiveRise r scsr received high) (receiving r scsr received)
+    (λ _. cond-both ReceivingIn (rise && receiverShifting sccr) (receiveRise r scsr received high)
+    (receiving r scsr received)
     (λ _. rise-in r scsr received high (in-receiver r e)) (λ _. in-receiver r e)))
 
-pub receiver-under-fits : (old sccr : ℕ) (r : Receiver) → receiverFits r ≡ true → receiverFits (receiverWithSccr old sccr r) ≡ true
+pub receiver-under-fits : (old sccr : ℕ) (r : Receiver) → receiverFits r ≡ true
+    → receiverFits (receiverWithSccr old sccr r) ≡ true
 unfolding receiverWithSccr
 receiver-under-fits old sccr r e =
     cond-both (λ (u : Receiver). receiverFits u ≡ true) (keepsReceiver old sccr) r idleReceiver (λ _. e) (λ _. refl)

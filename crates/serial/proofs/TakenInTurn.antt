@@ -16,7 +16,8 @@ use Rattle.bits.proofs.Cond.{digit-le}
 use Rattle.serial.specs.declared.transmitter.Transmitter.{Transmitter}
 use Rattle.serial.specs.declared.transmitter.Sending.{Sending}
 use Rattle.serial.specs.Format.{transmitterShifts, frameBits, sentBits, paceIn, pace}
-use Rattle.serial.specs.Transmitter.{sending, framed, taken, frameEnd, nextPhase, ticked, bitTick, sendTick, line, shiftClock}
+use Rattle.serial.specs.Transmitter.{sending, framed, taken, frameEnd, nextPhase, ticked, bitTick, sendTick, line}
+use Rattle.serial.specs.Transmitter.{shiftClock}
 
 -- a transmitter that has these bits to send, the first one on the line
 abbrev pub sendingBits : List Bool → ℕ → Transmitter
@@ -50,7 +51,8 @@ some-left : (n : ℕ) → eqb (suc n) 0 ≡ false
 some-left n = ne-eqb (suc n) 0 (λ e. omega arith)
 
 -- the tick after m ticks, with bits left
-one-tick : (shifts : Bool) (m : ℕ) (b : Bool) (bits : List Bool) → ticked (paceIn shifts) (sendingBits (b ∷ bits) (m % 16))
+one-tick : (shifts : Bool) (m : ℕ) (b : Bool) (bits : List Bool)
+    → ticked (paceIn shifts) (sendingBits (b ∷ bits) (m % 16))
     ≡ cond (eqb (suc m % paceIn shifts) 0) (sendingBits bits (suc m % 16)) (sendingBits (b ∷ bits) (suc m % 16))
 unfolding ticked
 one-tick shifts m b bits = rw (next-phase m, next-ends shifts m, without-first b bits, one-fewer)
@@ -106,7 +108,8 @@ within false n k j h g = omega arith
 
 -- Bits taken in turn: k bits and j ticks from the start the first k bits are gone, whatever they were.
 pub taken-in-turn : (shifts : Bool) (bits : List Bool) (k j : ℕ) → k < length bits → j < paceIn shifts
-    → tickedFor (k * paceIn shifts + j) (paceIn shifts) (sendingBits bits 0) ≡ sendingBits (drop k bits) ((k * paceIn shifts + j) % 16)
+    → tickedFor (k * paceIn shifts + j) (paceIn shifts) (sendingBits bits 0)
+    ≡ sendingBits (drop k bits) ((k * paceIn shifts + j) % 16)
 taken-in-turn shifts bits k j h g =
     after-ticks shifts bits (k * paceIn shifts + j) (let w = within shifts (length bits) k j h g in omega arith)
     ∙ ap (λ n. sendingBits (drop n bits) ((k * paceIn shifts + j) % 16)) (place-of shifts k j g)
@@ -119,13 +122,15 @@ lowest : (b : Bool) (bits : List Bool) → bit 0 (number (b ∷ bits)) ≡ b
 lowest true bits = eq-eqb (number (true ∷ bits) / 2 ^ 0 % 2) 1 (omega arith)
 lowest false bits = ne-eqb (number (false ∷ bits) / 2 ^ 0 % 2) 1 (λ e. omega arith)
 
-pub line-in-turn : (bits : List Bool) (k phase : ℕ) → k < length bits → line (sendingBits (drop k bits) phase) ≡ getD bits k true
+pub line-in-turn : (bits : List Bool) (k phase : ℕ) → k < length bits
+    → line (sendingBits (drop k bits) phase) ≡ getD bits k true
 unfolding line
 line-in-turn bits k phase h = rw (first-of bits k h, some-left, lowest)
 
 -- no bit is left once all have had their ticks
 pub all-in-turn : (shifts : Bool) (bits : List Bool)
-    → tickedFor (length bits * paceIn shifts) (paceIn shifts) (sendingBits bits 0) ≡ sendingBits [] (length bits * paceIn shifts % 16)
+    → tickedFor (length bits * paceIn shifts) (paceIn shifts) (sendingBits bits 0)
+    ≡ sendingBits [] (length bits * paceIn shifts % 16)
 all-in-turn shifts bits =
     after-ticks shifts bits (length bits * paceIn shifts) (omega arith)
     ∙ ap (λ l. sendingBits l (length bits * paceIn shifts % 16)) (drop-of-length-le bits (over shifts (length bits)))
@@ -135,7 +140,8 @@ all-in-turn shifts bits =
     over false n = omega arith
 
 -- the shift clock of each bit is low, then high
-pub clock-in-turn : (bits : List Bool) (k j : ℕ) → k < length bits → j < 2 → shiftClock (sendingBits (drop k bits) ((k * 2 + j) % 16)) ≡ eqb j 1
+pub clock-in-turn : (bits : List Bool) (k j : ℕ) → k < length bits → j < 2
+    → shiftClock (sendingBits (drop k bits) ((k * 2 + j) % 16)) ≡ eqb j 1
 unfolding shiftClock
 clock-in-turn bits k j h g = rw (first-of bits k h, some-left) (low-high j g)
   where
@@ -162,7 +168,8 @@ unfolding sendTick bitTick
 none-left t sccr scsr byte h g = rw (ne-eqb (t .left) 0 h, eq-eqb (ticked (pace sccr) t .left) 0 g)
 
 -- before the last tick bits are left
-left-after : (sccr : ℕ) (bits : List Bool) (m : ℕ) → m < length bits * pace sccr → tickedFor m (pace sccr) (sendingBits bits 0) .left ≢ 0
+left-after : (sccr : ℕ) (bits : List Bool) (m : ℕ) → m < length bits * pace sccr
+    → tickedFor m (pace sccr) (sendingBits bits 0) .left ≢ 0
 unfolding pace
 left-after sccr bits m h e =
     let a = ap (λ (t : Transmitter). t .left) (after-ticks (transmitterShifts sccr) bits m (omega arith)) in
@@ -213,7 +220,8 @@ pub end-takes : (t : Transmitter) (sccr scsr byte : ℕ) → bit 6 scsr ≡ fals
 unfolding frameEnd taken framed
 end-takes t sccr scsr byte e = rw e
 
-pub end-under-runs : (t : Transmitter) (sccr scsr byte : ℕ) → bit 6 scsr ≡ true → frameEnd t sccr scsr byte ≡ sending t (withBit 7 true scsr)
+pub end-under-runs : (t : Transmitter) (sccr scsr byte : ℕ) → bit 6 scsr ≡ true
+    → frameEnd t sccr scsr byte ≡ sending t (withBit 7 true scsr)
 unfolding frameEnd
 end-under-runs t sccr scsr byte e = rw e
 

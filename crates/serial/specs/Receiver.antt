@@ -7,7 +7,8 @@ use Rattle.counters.specs.declared.time.Ticks.{Ticks}
 use Rattle.serial.specs.declared.receiver.Receiver.{Receiver}
 use Rattle.serial.specs.declared.receiver.Receiving.{Receiving}
 use Rattle.serial.specs.Status.{receiverFull, overrun, parityError, framingError}
-use Rattle.serial.specs.Format.{receiverAsynchronous, receiverShifting, keepsReceiver, width, hasParity, parityBit, dataBits}
+use Rattle.serial.specs.Format.{receiverAsynchronous, receiverShifting, keepsReceiver, width, hasParity}
+use Rattle.serial.specs.Format.{parityBit, dataBits}
 
 abbrev pub receiving : Receiver → ℕ → ℕ → Receiving
 receiving r scsr received = record { receiver = r; scsr = scsr; received = received }
@@ -73,7 +74,8 @@ frameEnded r sccr scsr received =
 unfoldable pub lookTaken : Receiver → ℕ → ℕ → ℕ → Bool → Receiving
 lookTaken r sccr scsr received high =
     cond (ltb (r .subinterval) 7) (receiving (atSub r (r .subinterval + 1)) scsr received)
-    (cond (eqb (r .left - 1) 0) (frameEnded (shiftedIn r high) sccr scsr received) (receiving (shiftedIn r high) scsr received))
+    (cond (eqb (r .left - 1) 0) (frameEnded (shiftedIn r high) sccr scsr received)
+    (receiving (shiftedIn r high) scsr received))
 
 -- a look at PA7
 unfoldable pub looked : Receiver → ℕ → ℕ → ℕ → Bool → Receiving

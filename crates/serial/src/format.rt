@@ -5,7 +5,9 @@ ghost use lib.Dec.{eqb};
 ghost use lib.ListN.{length};
 ghost use Rattle.bits.specs.Bits.{bit, digit};
 ghost use Rattle.bits.specs.Lists.{bitsOf, oddOnes, number};
-ghost use Rattle.serial.specs.Format.{transmitterShifts, receiverShifts, receiverAsynchronous, receiverShifting, holdsA, keepsTransmitter, keepsReceiver, width, hasParity, parityBit, ending, frameBits, pace};
+ghost use Rattle.serial.specs.Format.{transmitterShifts, receiverShifts, receiverAsynchronous, receiverShifting};
+ghost use Rattle.serial.specs.Format.{holdsA, keepsTransmitter, keepsReceiver, width, hasParity, parityBit};
+ghost use Rattle.serial.specs.Format.{ending, frameBits, pace};
 
 // The bits of SCCR, by weight.
 const TRANSMITTER_ON: u8 = 128;

@@ -1,6 +1,8 @@
 // The transmitter.
 ghost use mathlib.Core.Path.{_≡_};
-ghost use Rattle.serial.specs.Transmitter.{idleTransmitter, framed, taken, idleTick, frameEnd, nextPhase, ticked, bitTick, sendTick, transmitterClock, line, shiftClock, transmitterWithSccr};
+ghost use Rattle.serial.specs.Transmitter.{idleTransmitter, framed, taken, idleTick, frameEnd, nextPhase, ticked};
+ghost use Rattle.serial.specs.Transmitter.{bitTick, sendTick, transmitterClock, line, shiftClock};
+ghost use Rattle.serial.specs.Transmitter.{transmitterWithSccr};
 ghost use Rattle.serial.specs.Format.{pace};
 use crate::format::ends_bit;
 use crate::format::frame;

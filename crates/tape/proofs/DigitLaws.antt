@@ -22,7 +22,8 @@ pub value-most : (c : ℕ) → valueOf c ≤ 15
 unfolding valueOf
 value-most c =
     cond-both Small (isDecimal c) _ _ (λ e. let u = leb-true c 57 (and-true (leb 48 c) (leb c 57) e .1) in omega arith)
-    (λ _. cond-both Small (isLetter c) _ _ (λ e. let u = leb-true c 70 (and-true (leb 65 c) (leb c 70) e .1) in omega arith) (λ _. omega arith))
+    (λ _. cond-both Small (isLetter c) _ _
+    (λ e. let u = leb-true c 70 (and-true (leb 65 c) (leb c 70) e .1) in omega arith) (λ _. omega arith))
   where
     Small : ℕ → Type 0
     Small v = v ≤ 15
@@ -55,13 +56,15 @@ number-word (a ∷ (b ∷ (c ∷ (d ∷ [])))) h = omega (arith, value-most a, v
 number-word (a ∷ (b ∷ (c ∷ (d ∷ (e ∷ ds))))) h = absurd (omega arith)
 
 module _ (text : List ℕ) (i : ℕ) where
-  pub digits-next : i < length text → allOf isDigit (drop i text) ≡ isDigit (getD text i 0) && allOf isDigit (drop (i + 1) text)
+  pub digits-next : i < length text
+      → allOf isDigit (drop i text) ≡ isDigit (getD text i 0) && allOf isDigit (drop (i + 1) text)
   digits-next h = rw (drop-cons text i 0 h, add-one i)
 
   pub digits-end : length text ≤ i → allOf isDigit (drop i text) ≡ true
   digits-end h = rw (drop-of-length-le text h)
 
-  pub number-next : (n : ℕ) → i < length text → numberFrom n (drop i text) ≡ numberFrom (16 * n + valueOf (getD text i 0)) (drop (i + 1) text)
+  pub number-next : (n : ℕ) → i < length text
+      → numberFrom n (drop i text) ≡ numberFrom (16 * n + valueOf (getD text i 0)) (drop (i + 1) text)
   unfolding numberFrom
   number-next n h = rw (drop-cons text i 0 h, add-one i)
 
@@ -71,7 +74,9 @@ module _ (text : List ℕ) (i : ℕ) where
 
 -- the bytes from the k-th on
 module _ (digits : List ℕ) (k : ℕ) where
-  pub bytes-next : k < length digits / 2 → bytesOf (drop (2 * k) digits) ≡ byteOf (getD digits (2 * k) 0) (getD digits (2 * k + 1) 0) ∷ bytesOf (drop (2 * (k + 1)) digits)
+  pub bytes-next : k < length digits / 2
+      → bytesOf (drop (2 * k) digits)
+      ≡ byteOf (getD digits (2 * k) 0) (getD digits (2 * k + 1) 0) ∷ bytesOf (drop (2 * (k + 1)) digits)
   unfolding bytesOf
   bytes-next h =
       let a : 2 * k < length digits = omega arith in
@@ -89,7 +94,9 @@ module _ (digits : List ℕ) (k : ℕ) where
       short (a ∷ []) h = refl
       short (a ∷ (b ∷ l)) h = absurd (omega arith)
 
-  pub total-next : k < length digits / 2 → totalOf (bytesOf (drop (2 * k) digits)) ≡ byteOf (getD digits (2 * k) 0) (getD digits (2 * k + 1) 0) + totalOf (bytesOf (drop (2 * (k + 1)) digits))
+  pub total-next : k < length digits / 2
+      → totalOf (bytesOf (drop (2 * k) digits))
+      ≡ byteOf (getD digits (2 * k) 0) (getD digits (2 * k + 1) 0) + totalOf (bytesOf (drop (2 * (k + 1)) digits))
   unfolding totalOf
   total-next h = rw (bytes-next h)
 

@@ -16,13 +16,15 @@ use Rattle.tape.specs.Digits.{isDigit, bytesOf}
 use Rattle.tape.specs.Records.{mark, recordLength, byteCountOf, addressOf, faultOf, dataOf}
 use Rattle.memory.specs.Memory.{memorySpan, registerEnd, withLow}
 use Rattle.memory.proofs.Low.{low-set, low-length}
-use Rattle.tape.specs.Tapes.{loadResult, endedBy, recordBy, checkFrom, checkOf, putFrom, landed, storeFrom, Loaded, loaded, loadOf}
+use Rattle.tape.specs.Tapes.{loadResult, endedBy, recordBy, checkFrom, checkOf, putFrom, landed, storeFrom}
+use Rattle.tape.specs.Tapes.{Loaded, loaded, loadOf}
 use Rattle.tape.proofs.DigitLaws.{and-true}
 use Rattle.tape.proofs.RecordLaws.{good}
 use Rattle.tape.proofs.MemoryLaws.{length-puts, take-puts}
 
 -- what each landing keeps, the store of a tape keeps
-store-keeps : (P : List ℕ → Type 0) → ((text memory : List ℕ) → P memory → P (landed text memory)) → (tape memory : List ℕ) → P memory → P (storeFrom tape memory)
+store-keeps : (P : List ℕ → Type 0) → ((text memory : List ℕ) → P memory → P (landed text memory))
+    → (tape memory : List ℕ) → P memory → P (storeFrom tape memory)
 unfolding storeFrom
 store-keeps P k [] memory p = p
 store-keeps P k (c ∷ text) memory p =
@@ -30,7 +32,8 @@ store-keeps P k (c ∷ text) memory p =
     (λ _. store-keeps P k text _ (cond-both P (eqb c mark) _ _ (λ _. k text memory p) (λ _. p)))
 
 module _ (tape memory : List ℕ) where
-  load-keeps : (P : List ℕ → Type 0) → ((text m : List ℕ) → P m → P (landed text m)) → P memory → P (loadOf tape memory .memory)
+  load-keeps : (P : List ℕ → Type 0) → ((text m : List ℕ) → P m → P (landed text m)) → P memory
+      → P (loadOf tape memory .memory)
   unfolding loadOf
   load-keeps P k p =
       cond-both (λ (o : Loaded). P (o .memory)) (eqb (length memory) memorySpan) _ _
@@ -41,7 +44,8 @@ module _ (tape memory : List ℕ) where
   pub load-length : length (loadOf tape memory .memory) ≡ length memory
   unfolding landed
   load-length =
-      load-keeps (λ m. length m ≡ length memory) (λ text m e. length-puts registerEnd (addressOf text) (bytesOf (dataOf text)) m ∙ e) refl
+      load-keeps (λ m. length m ≡ length memory)
+      (λ text m e. length-puts registerEnd (addressOf text) (bytesOf (dataOf text)) m ∙ e) refl
 
   -- the registers' bytes, 0 to 3Fh, are never touched
   pub load-registers : take registerEnd (loadOf tape memory .memory) ≡ take registerEnd memory
@@ -61,7 +65,8 @@ module _ (tape memory : List ℕ) where
     unfolding loadOf
     load-refused h = rw (eq-eqb (length memory) memorySpan right, ne-eqb (checkOf tape .number) 0 h)
 
-    pub load-accepted : (place : ℕ) → checkOf tape ≡ loadResult 0 place → loadOf tape memory ≡ loaded (loadResult 0 place) (storeFrom tape memory)
+    pub load-accepted : (place : ℕ) → checkOf tape ≡ loadResult 0 place
+        → loadOf tape memory ≡ loaded (loadResult 0 place) (storeFrom tape memory)
     unfolding loadOf
     load-accepted place e = rw (eq-eqb (length memory) memorySpan right, e)
 
@@ -93,36 +98,45 @@ digits-past (suc n) (c ∷ text) h d place seen =
 -- the tape goes on past a record's own digits: the search for the next `;` may start there or right behind this one
 pub check-past : (place n : ℕ) (text : List ℕ)
     → recordBy place n text (checkFrom (place + 1) n text)
-    ≡ recordBy place n text (checkFrom (place + 1 + recordLength (byteCountOf text)) n (drop (recordLength (byteCountOf text)) text))
+    ≡ recordBy place n text
+    (checkFrom (place + 1 + recordLength (byteCountOf text)) n (drop (recordLength (byteCountOf text)) text))
 unfolding recordBy
 check-past place n text = by-fault (eqb (faultOf text) 0) refl
   where
     next : LoadResult
     next = checkFrom (place + 1 + recordLength (byteCountOf text)) n (drop (recordLength (byteCountOf text)) text)
 
-    by-fault : (t : Bool) → eqb (faultOf text) 0 ≡ t → recordBy place n text (checkFrom (place + 1) n text) ≡ recordBy place n text next
+    by-fault : (t : Bool) → eqb (faultOf text) 0 ≡ t
+        → recordBy place n text (checkFrom (place + 1) n text) ≡ recordBy place n text next
     by-fault true e =
         let g = good text (eqb-true (faultOf text) 0 e) in
-        ap (recordBy place n text) (digits-past (recordLength (byteCountOf text)) text (g .whole) (g .digits) (place + 1) n)
+        ap (recordBy place n text)
+        (digits-past (recordLength (byteCountOf text)) text (g .whole) (g .digits) (place + 1) n)
     by-fault false e = rw e
 
-pub store-past : (text memory : List ℕ) → faultOf text ≡ 0 → storeFrom text memory ≡ storeFrom (drop (recordLength (byteCountOf text)) text) memory
-store-past text memory e = let g = good text e in digits-stored (recordLength (byteCountOf text)) text (g .whole) (g .digits) memory
+pub store-past : (text memory : List ℕ) → faultOf text ≡ 0
+    → storeFrom text memory ≡ storeFrom (drop (recordLength (byteCountOf text)) text) memory
+store-past text memory e =
+    let g = good text e in digits-stored (recordLength (byteCountOf text)) text (g .whole) (g .digits) memory
 
 -- ---- 0 to 3Fh are not read either
 
 module _ (low : List ℕ) (whole : length low ≡ registerEnd) where
-  puts-low : (address : ℕ) (bytes m : List ℕ) → putFrom registerEnd address bytes (withLow low m) ≡ withLow low (putFrom registerEnd address bytes m)
+  puts-low : (address : ℕ) (bytes m : List ℕ)
+      → putFrom registerEnd address bytes (withLow low m) ≡ withLow low (putFrom registerEnd address bytes m)
   unfolding putFrom
   puts-low address [] m = refl
   puts-low address (b ∷ bytes) m = by-place (ltb address registerEnd) refl (puts-low (address + 1) bytes)
     where
       by-place : (t : Bool) → ltb address registerEnd ≡ t
-          → ((m : List ℕ) → putFrom registerEnd (address + 1) bytes (withLow low m) ≡ withLow low (putFrom registerEnd (address + 1) bytes m))
+          → ((m : List ℕ)
+          → putFrom registerEnd (address + 1) bytes (withLow low m)
+          ≡ withLow low (putFrom registerEnd (address + 1) bytes m))
           → putFrom registerEnd (address + 1) bytes (cond t (withLow low m) (set (withLow low m) address b))
           ≡ withLow low (putFrom registerEnd (address + 1) bytes (cond t m (set m address b)))
       by-place true e later = later m
-      by-place false e later = ap (putFrom registerEnd (address + 1) bytes) (low-set low m address b whole e) ∙ later (set m address b)
+      by-place false e later =
+          ap (putFrom registerEnd (address + 1) bytes) (low-set low m address b whole e) ∙ later (set m address b)
 
   landed-low : (text m : List ℕ) → landed text (withLow low m) ≡ withLow low (landed text m)
   unfolding landed
@@ -145,12 +159,15 @@ module _ (low : List ℕ) (whole : length low ≡ registerEnd) where
   pub load-low : (tape m : List ℕ) → registerEnd ≤ length m
       → loadOf tape (withLow low m) ≡ loaded (loadOf tape m .result) (withLow low (loadOf tape m .memory))
   unfolding loadOf
-  load-low tape m h = rw (low-length low m whole h) (by-tests (eqb (length m) memorySpan) (eqb (checkOf tape .number) 0))
+  load-low tape m h =
+      rw (low-length low m whole h) (by-tests (eqb (length m) memorySpan) (eqb (checkOf tape .number) 0))
     where
       by-tests : (t z : Bool)
-          → cond t (loaded (checkOf tape) (cond z (storeFrom tape (withLow low m)) (withLow low m))) (loaded (loadResult 1 0) (withLow low m))
+          → cond t (loaded (checkOf tape) (cond z (storeFrom tape (withLow low m)) (withLow low m)))
+          (loaded (loadResult 1 0) (withLow low m))
           ≡ loaded (cond t (loaded (checkOf tape) (cond z (storeFrom tape m) m)) (loaded (loadResult 1 0) m) .result)
-          (withLow low (cond t (loaded (checkOf tape) (cond z (storeFrom tape m) m)) (loaded (loadResult 1 0) m) .memory))
+          (withLow low
+          (cond t (loaded (checkOf tape) (cond z (storeFrom tape m) m)) (loaded (loadResult 1 0) m) .memory))
       by-tests true true = ap (loaded (checkOf tape)) (store-low tape m)
       by-tests true false = refl
       by-tests false z = refl
@@ -168,13 +185,15 @@ module _ (c : ℕ) (text : List ℕ) (other : c ≡ mark → ⊥) where
   skip-stored m = rw (ne-eqb c mark other)
 
 -- a record at `place`, behind `seen` others: its fault ends the tape, "the record's place"
-pub faulty-record : (place seen : ℕ) (text : List ℕ) → (faultOf text ≡ 0 → ⊥) → checkFrom place seen (mark ∷ text) ≡ loadResult (faultOf text) place
+pub faulty-record : (place seen : ℕ) (text : List ℕ) → (faultOf text ≡ 0 → ⊥)
+    → checkFrom place seen (mark ∷ text) ≡ loadResult (faultOf text) place
 unfolding checkFrom recordBy
 faulty-record place seen text f = rw (ne-eqb (faultOf text) 0 f)
 
 module _ (text : List ℕ) (sound : faultOf text ≡ 0) where
   -- "Count 00 ends the tape", and "what follows is ignored"
-  pub last-checked : (place seen : ℕ) → byteCountOf text ≡ 0 → checkFrom place seen (mark ∷ text) ≡ endedBy place (seen + 1) text
+  pub last-checked : (place seen : ℕ) → byteCountOf text ≡ 0
+      → checkFrom place seen (mark ∷ text) ≡ endedBy place (seen + 1) text
   unfolding checkFrom recordBy
   last-checked place seen z = rw (sound, z)
 
@@ -186,12 +205,15 @@ module _ (text : List ℕ) (sound : faultOf text ≡ 0) where
     -- a record that is good and not the last: one record more is seen, its bytes land, and the tape goes on behind its
     -- digits
     pub next-checked : (place seen : ℕ) → checkFrom place seen (mark ∷ text)
-        ≡ checkFrom (place + 1 + recordLength (byteCountOf text)) (seen + 1) (drop (recordLength (byteCountOf text)) text)
+        ≡ checkFrom (place + 1 + recordLength (byteCountOf text)) (seen + 1)
+        (drop (recordLength (byteCountOf text)) text)
     unfolding checkFrom recordBy
     next-checked place seen =
         let g = good text sound in
-        rw (sound, ne-eqb (byteCountOf text) 0 more) (digits-past (recordLength (byteCountOf text)) text (g .whole) (g .digits) (place + 1) (seen + 1))
+        rw (sound, ne-eqb (byteCountOf text) 0 more)
+        (digits-past (recordLength (byteCountOf text)) text (g .whole) (g .digits) (place + 1) (seen + 1))
 
-    pub next-stored : (m : List ℕ) → storeFrom (mark ∷ text) m ≡ storeFrom (drop (recordLength (byteCountOf text)) text) (landed text m)
+    pub next-stored : (m : List ℕ)
+        → storeFrom (mark ∷ text) m ≡ storeFrom (drop (recordLength (byteCountOf text)) text) (landed text m)
     unfolding storeFrom
     next-stored m = rw (ne-eqb (byteCountOf text) 0 more) (store-past text (landed text m) sound)

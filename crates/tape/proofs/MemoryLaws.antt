@@ -37,7 +37,8 @@ take-put low address b memory =
     cond-both (λ m. take low m ≡ take low memory) (ltb address low) _ _ (λ _. refl)
     (λ e. take-set-le low memory address b (ltb-false address low e))
 
-pub take-puts : (low address : ℕ) (bytes memory : List ℕ) → take low (putFrom low address bytes memory) ≡ take low memory
+pub take-puts : (low address : ℕ) (bytes memory : List ℕ)
+    → take low (putFrom low address bytes memory) ≡ take low memory
 unfolding putFrom
 take-puts low address [] memory = refl
 take-puts low address (b ∷ bytes) memory =
@@ -66,7 +67,8 @@ module _ (low : ℕ) (digits : List ℕ) where
     where
       by-end : (t : Bool) → ltb k (length digits / 2) ≡ t → writtenFrom k part ≡ writtenFrom (k + 1) part
       by-end true e = put-next k part (ltb-true k (length digits / 2) e) ∙ rw (lt-ltb k low l)
-      by-end false e = let u = ltb-false k (length digits / 2) e in put-end k part u ∙ sym (put-end (k + 1) part (omega arith))
+      by-end false e =
+          let u = ltb-false k (length digits / 2) e in put-end k part u ∙ sym (put-end (k + 1) part (omega arith))
 
   -- n bytes that are dropped
   put-past : (n k : ℕ) (part : List ℕ) → k + n ≤ low → writtenFrom k part ≡ writtenFrom (k + n) part
@@ -99,7 +101,8 @@ module _ (low a : ℕ) where
           let u : low - a ≤ k = omega arith in
           rw (le-ltb k (low - a) u, e) (set-part k b m)
 
-  pub puts-part : (k : ℕ) (bytes m : List ℕ) → a ≤ length m → take a m ++ putFrom (low - a) k bytes (drop a m) ≡ putFrom low (a + k) bytes m
+  pub puts-part : (k : ℕ) (bytes m : List ℕ) → a ≤ length m
+      → take a m ++ putFrom (low - a) k bytes (drop a m) ≡ putFrom low (a + k) bytes m
   unfolding putFrom
   puts-part k [] m h = take-append-drop a m
   puts-part k (b ∷ bytes) m h =

@@ -10,7 +10,8 @@ use lib.ListN.{length, take, drop, length-take}
 use Rattle.bits.specs.Lists.{allOf}
 use Rattle.bits.proofs.Cond.{cond-both}
 use Rattle.tape.specs.Digits.{isDigit}
-use Rattle.tape.specs.Records.{mostBytes, headLength, recordLength, byteCountOf, addressOf, sumOf, checkSumOf, areDigits, malformed, faultOf, dataOf}
+use Rattle.tape.specs.Records.{mostBytes, headLength, recordLength, byteCountOf, addressOf, sumOf, checkSumOf}
+use Rattle.tape.specs.Records.{areDigits, malformed, faultOf, dataOf}
 use Rattle.memory.specs.Memory.{memorySpan}
 use Rattle.tape.proofs.DigitLaws.{and-true, number-byte, number-word}
 
@@ -56,7 +57,8 @@ module _ (text : List ℕ) where
   unfolding faultOf
   good =
       cond-both Is (malformed text) _ _ (λ _ h. absurd (omega arith))
-      (λ e. cond-both Is (eqb (sumOf text) (checkSumOf text)) _ _ (λ s _. good-by e (eqb-true (sumOf text) (checkSumOf text) s)) (λ _ h. absurd (omega arith)))
+      (λ e. cond-both Is (eqb (sumOf text) (checkSumOf text)) _ _
+      (λ s _. good-by e (eqb-true (sumOf text) (checkSumOf text) s)) (λ _ h. absurd (omega arith)))
     where
       Is : ℕ → Type 0
       Is n = n ≡ 0 → Good text
@@ -66,7 +68,8 @@ module _ (text : List ℕ) where
   unfolding dataOf
   data-room =
       cond-both Fits (eqb (faultOf text) 0) _ _
-      (λ e. let g = good (eqb-true (faultOf text) 0 e) in omega (arith, g .room, length-take (2 * byteCountOf text) (drop headLength text)))
+      (λ e. let g = good (eqb-true (faultOf text) 0 e) in
+      omega (arith, g .room, length-take (2 * byteCountOf text) (drop headLength text)))
       (λ _. omega arith)
     where
       Fits : List ℕ → Type 0

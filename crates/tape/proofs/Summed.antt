@@ -16,7 +16,8 @@ use Rattle.tape.proofs.Laws.{load-other-length}
 
 module _ (tape memory sums : List ℕ) where
   -- 13 before any record, with place 0
-  pub list-next : length memory ≡ memorySpan → (length sums ≡ pageCount → ⊥) → loadWithSumsOf tape memory sums ≡ loaded (loadResult 13 0) memory
+  pub list-next : length memory ≡ memorySpan → (length sums ≡ pageCount → ⊥)
+      → loadWithSumsOf tape memory sums ≡ loaded (loadResult 13 0) memory
   unfolding loadWithSumsOf
   list-next m n = rw (list-wrong (length memory) (length sums) m n)
 
@@ -36,7 +37,9 @@ module _ (tape memory sums : List ℕ) where
 
   kept : Kept (loadOf tape memory)
   unfolding loadOf
-  kept = cond-both Kept (eqb (length memory) memorySpan) _ _ (λ _ refused. rw (ne-eqb (checkOf tape .number) 0 refused)) (λ _ _. refl)
+  kept =
+      cond-both Kept (eqb (length memory) memorySpan) _ _ (λ _ refused. rw (ne-eqb (checkOf tape .number) 0 refused))
+      (λ _ _. refl)
 
   kept-with-sums : Kept (loadWithSumsOf tape memory sums)
   unfolding loadWithSumsOf
@@ -44,4 +47,5 @@ module _ (tape memory sums : List ℕ) where
 
   pub refused-unsummed : SixteenBits sums → (loadWithSumsOf tape memory sums .result .number ≡ 0 → ⊥)
       → sumsAfter sums memory (loadWithSumsOf tape memory sums .memory) ≡ sums
-  refused-unsummed words refused = ap (sumsAfter sums memory) (kept-with-sums refused) ∙ sym (sums-kept 0 sums memory words)
+  refused-unsummed words refused =
+      ap (sumsAfter sums memory) (kept-with-sums refused) ∙ sym (sums-kept 0 sums memory words)

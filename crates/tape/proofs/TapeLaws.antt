@@ -41,13 +41,15 @@ module _ (tape : List ℕ) (place : ℕ) where
   module _ (here : place < length tape) where
     check-next : (seen : ℕ) → checkFrom place seen (drop place tape)
         ≡ cond (eqb (getD tape place 0) mark)
-        (recordBy place (seen + digit (eqb (getD tape place 0) mark)) text (checkFrom (place + 1) (seen + digit (eqb (getD tape place 0) mark)) text))
+        (recordBy place (seen + digit (eqb (getD tape place 0) mark)) text
+        (checkFrom (place + 1) (seen + digit (eqb (getD tape place 0) mark)) text))
         (checkFrom (place + 1) (seen + digit (eqb (getD tape place 0) mark)) text)
     unfolding checkFrom
     check-next seen = rw (drop-cons tape place 0 here, add-one place)
 
     store-next : (memory : List ℕ) → storeFrom (drop place tape) memory
-        ≡ cond (eqb (getD tape place 0) mark && eqb (byteCountOf text) 0) memory (storeFrom text (cond (eqb (getD tape place 0) mark) (landed text memory) memory))
+        ≡ cond (eqb (getD tape place 0) mark && eqb (byteCountOf text) 0) memory
+        (storeFrom text (cond (eqb (getD tape place 0) mark) (landed text memory) memory))
     unfolding storeFrom
     store-next memory = rw (drop-cons tape place 0 here, add-one place)
 
@@ -61,10 +63,13 @@ module _ (tape : List ℕ) (place : ℕ) where
 
     -- a `;` begins a record
     module _ (marked : getD tape place 0 ≡ mark) where
-      check-record : (seen : ℕ) → checkFrom place seen (drop place tape) ≡ recordBy place (seen + 1) text (checkFrom (place + 1) (seen + 1) text)
+      check-record : (seen : ℕ)
+          → checkFrom place seen (drop place tape)
+          ≡ recordBy place (seen + 1) text (checkFrom (place + 1) (seen + 1) text)
       check-record seen = check-next seen ∙ rw (eq-eqb (getD tape place 0) mark marked)
 
-      pub check-fault : (seen n : ℕ) → n ≡ faultOf lent → (n ≡ 0 → ⊥) → checkFrom place seen (drop place tape) ≡ loadResult n place
+      pub check-fault : (seen n : ℕ) → n ≡ faultOf lent → (n ≡ 0 → ⊥)
+          → checkFrom place seen (drop place tape) ≡ loadResult n place
       unfolding recordBy
       check-fault seen n e f =
           let g : n ≡ faultOf text = e ∙ ap faultOf (to-end tape (place + 1)) in
@@ -74,7 +79,8 @@ module _ (tape : List ℕ) (place : ℕ) where
         good-text : faultOf text ≡ 0
         good-text = ap faultOf (sym (to-end tape (place + 1))) ∙ sym e ∙ z
 
-        pub check-last : (r : LoadResult) → k ≡ 0 → r ≡ endedBy place (seen + 1) lent → checkFrom place seen (drop place tape) ≡ r
+        pub check-last : (r : LoadResult) → k ≡ 0 → r ≡ endedBy place (seen + 1) lent
+            → checkFrom place seen (drop place tape) ≡ r
         unfolding recordBy
         check-last r l er =
             let c : byteCountOf text ≡ 0 = ap byteCountOf (sym (to-end tape (place + 1))) ∙ sym ek ∙ l in
@@ -95,7 +101,8 @@ module _ (tape : List ℕ) (place : ℕ) where
         pub store-last : k ≡ 0 → storeFrom (drop place tape) memory ≡ memory
         store-last l = store-record ∙ rw (eq-eqb k 0 l)
 
-        pub store-on : (a : ℕ) (digits m : List ℕ) → (k ≡ 0 → ⊥) → a ≡ addressOf lent → digits ≡ dataAt tape place → m ≡ putFrom registerEnd a (bytesOf digits) memory
+        pub store-on : (a : ℕ) (digits m : List ℕ) → (k ≡ 0 → ⊥) → a ≡ addressOf lent → digits ≡ dataAt tape place
+            → m ≡ putFrom registerEnd a (bytesOf digits) memory
             → storeFrom (drop place tape) memory ≡ storeFrom text m
         unfolding landed dataAt
         store-on a digits m l ea ed em =
@@ -108,8 +115,10 @@ module _ (tape : List ℕ) (place : ℕ) where
       → (a ≤ memorySpan) × (length digits ≤ 2 * (memorySpan - a))
   unfolding dataAt
   data-fits a digits ea ed =
-      let f : a ≡ addressOf text = ea ∙ ap addressOf (to-end tape (place + 1)) in
-      (omega (arith, f, address-most text), rw (ed, f) (cond-both Fits (eqb (getD tape place 0) mark) _ _ (λ _. data-room text) (λ _. omega arith)))
+      let f : a ≡ addressOf text = ea ∙ ap addressOf (to-end tape (place + 1)) in (
+        omega (arith, f, address-most text),
+        rw (ed, f) (cond-both Fits (eqb (getD tape place 0) mark) _ _ (λ _. data-room text) (λ _. omega arith)),
+      )
     where
       Fits : List ℕ → Type 0
       Fits d = length d ≤ 2 * (memorySpan - addressOf text)

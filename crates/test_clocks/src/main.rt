@@ -144,7 +144,8 @@ fn print_refused(number: u8) {
 
 // The lines of a scenario's outcome.
 fn print_outcome(outcome: Outcome, times: &[u32], words: &[u32])
-    requires { ⌜ (outcome .written ≤ length (now times)) × (outcome .written ≤ length (now words)) × (outcome .written ≤ 64) ⌝ }
+    requires { ⌜ (outcome .written ≤ length (now times)) × (outcome .written ≤ length (now words))
+        × (outcome .written ≤ 64) ⌝ }
 {
     let written = outcome.written;
     let mut text = [0u8; TEXT_LENGTH];

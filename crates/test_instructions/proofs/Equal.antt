@@ -83,7 +83,8 @@ write-pairs a b = numbers (a .address) (b .address) ∷ numbers (a .value) (b .v
 pub write-same : (a b : Write) → testsOf true (write-pairs a b) ≡ true → a ≡ b
 write-same a b e =
     let fields = all (write-pairs a b) e in
-    let whole : _≡_ {A = Write} (record { address = a .address; value = a .value }) (record { address = b .address; value = b .value }) = cc in
+    let whole : _≡_ {A = Write} (record { address = a .address; value = a .value })
+    (record { address = b .address; value = b .value }) = cc in
     whole
 
 pub nothing-waits : (w : Waiting) → not (byteWaits w) ≡ true → Nothing ≡ w
@@ -92,14 +93,20 @@ nothing-waits Nothing e = refl
 nothing-waits (Byte w) e = absurd (never e)
 
 abbrev pub register-pairs : Cpu → Cpu → List Pair
-register-pairs a b = numbers (a .a) (b .a) ∷ numbers (a .x) (b .x) ∷ numbers (a .y) (b .y) ∷ numbers (a .sp) (b .sp) ∷ numbers (a .p) (b .p) ∷ numbers (a .pc) (b .pc) ∷ numbers (a .wait) (b .wait) ∷ []
+register-pairs a b =
+    numbers (a .a) (b .a) ∷ numbers (a .x) (b .x) ∷ numbers (a .y) (b .y) ∷ numbers (a .sp) (b .sp)
+    ∷ numbers (a .p) (b .p) ∷ numbers (a .pc) (b .pc) ∷ numbers (a .wait) (b .wait) ∷ []
 
 -- `t` tests what waits
-pub cpu-same : (a b : Cpu) (t : Bool) → (testsOf true (register-pairs a b) && t) ≡ true → (t ≡ true → a .waiting ≡ b .waiting) → a ≡ b
+pub cpu-same : (a b : Cpu) (t : Bool) → (testsOf true (register-pairs a b) && t) ≡ true
+    → (t ≡ true → a .waiting ≡ b .waiting) → a ≡ b
 cpu-same a b t e same-waiting =
     let fields = all (register-pairs a b) (and-left (testsOf true (register-pairs a b)) t e) in
     let waiting' = same-waiting (and-right (testsOf true (register-pairs a b)) t e) in
-    let whole : _≡_ {A = Cpu} (record { a = a .a; x = a .x; y = a .y; sp = a .sp; p = a .p; pc = a .pc; wait = a .wait; waiting = a .waiting }) (record { a = b .a; x = b .x; y = b .y; sp = b .sp; p = b .p; pc = b .pc; wait = b .wait; waiting = b .waiting }) = cc in
+    let whole : _≡_ {A = Cpu}
+    (record { a = a .a; x = a .x; y = a .y; sp = a .sp; p = a .p; pc = a .pc; wait = a .wait; waiting = a .waiting })
+    (record { a = b .a; x = b .x; y = b .y; sp = b .sp; p = b .p; pc = b .pc; wait = b .wait; waiting = b .waiting })
+    = cc in
     whole
 
 abbrev pub due-pairs : Due → Due → List Pair
@@ -108,7 +115,8 @@ due-pairs a b = flags (a .reset) (b .reset) ∷ flags (a .nmi) (b .nmi) ∷ []
 pub due-same : (a b : Due) → testsOf true (due-pairs a b) ≡ true → a ≡ b
 due-same a b e =
     let fields = all (due-pairs a b) e in
-    let whole : _≡_ {A = Due} (record { reset = a .reset; nmi = a .nmi }) (record { reset = b .reset; nmi = b .nmi }) = cc in
+    let whole : _≡_ {A = Due} (record { reset = a .reset; nmi = a .nmi })
+    (record { reset = b .reset; nmi = b .nmi }) = cc in
     whole
 
 abbrev pub ports-pairs : Ports → Ports → List Pair
@@ -117,16 +125,21 @@ ports-pairs a b = numbers (a .a) (b .a) ∷ numbers (a .b) (b .b) ∷ numbers (a
 pub ports-same : (a b : Ports) → testsOf true (ports-pairs a b) ≡ true → a ≡ b
 ports-same a b e =
     let fields = all (ports-pairs a b) e in
-    let whole : _≡_ {A = Ports} (record { a = a .a; b = a .b; c = a .c; d = a .d }) (record { a = b .a; b = b .b; c = b .c; d = b .d }) = cc in
+    let whole : _≡_ {A = Ports} (record { a = a .a; b = a .b; c = a .c; d = a .d })
+    (record { a = b .a; b = b .b; c = b .c; d = b .d }) = cc in
     whole
 
 abbrev pub control-pairs : Control → Control → List Pair
-control-pairs a b = numbers (a .ifr) (b .ifr) ∷ numbers (a .ier) (b .ier) ∷ numbers (a .mcr) (b .mcr) ∷ numbers (a .sccr) (b .sccr) ∷ numbers (a .scsr) (b .scsr) ∷ []
+control-pairs a b =
+    numbers (a .ifr) (b .ifr) ∷ numbers (a .ier) (b .ier) ∷ numbers (a .mcr) (b .mcr) ∷ numbers (a .sccr) (b .sccr)
+    ∷ numbers (a .scsr) (b .scsr) ∷ []
 
 pub control-same : (a b : Control) → testsOf true (control-pairs a b) ≡ true → a ≡ b
 control-same a b e =
     let fields = all (control-pairs a b) e in
-    let whole : _≡_ {A = Control} (record { ifr = a .ifr; ier = a .ier; mcr = a .mcr; sccr = a .sccr; scsr = a .scsr }) (record { ifr = b .ifr; ier = b .ier; mcr = b .mcr; sccr = b .sccr; scsr = b .scsr }) = cc in
+    let whole : _≡_ {A = Control}
+    (record { ifr = a .ifr; ier = a .ier; mcr = a .mcr; sccr = a .sccr; scsr = a .scsr })
+    (record { ifr = b .ifr; ier = b .ier; mcr = b .mcr; sccr = b .sccr; scsr = b .scsr }) = cc in
     whole
 
 abbrev pub serial-data-pairs : SerialData → SerialData → List Pair
@@ -135,7 +148,8 @@ serial-data-pairs a b = numbers (a .sent) (b .sent) ∷ numbers (a .received) (b
 pub serial-data-same : (a b : SerialData) → testsOf true (serial-data-pairs a b) ≡ true → a ≡ b
 serial-data-same a b e =
     let fields = all (serial-data-pairs a b) e in
-    let whole : _≡_ {A = SerialData} (record { sent = a .sent; received = a .received }) (record { sent = b .sent; received = b .received }) = cc in
+    let whole : _≡_ {A = SerialData} (record { sent = a .sent; received = a .received })
+    (record { sent = b .sent; received = b .received }) = cc in
     whole
 
 abbrev pub counter-a-pairs : CounterA → CounterA → List Pair
@@ -144,34 +158,45 @@ counter-a-pairs a b = numbers (a .count) (b .count) ∷ numbers (a .latch) (b .l
 pub counter-a-same : (a b : CounterA) → testsOf true (counter-a-pairs a b) ≡ true → a ≡ b
 counter-a-same a b e =
     let fields = all (counter-a-pairs a b) e in
-    let whole : _≡_ {A = CounterA} (record { count = a .count; latch = a .latch }) (record { count = b .count; latch = b .latch }) = cc in
+    let whole : _≡_ {A = CounterA} (record { count = a .count; latch = a .latch })
+    (record { count = b .count; latch = b .latch }) = cc in
     whole
 
 abbrev pub counter-b-pairs : CounterB → CounterB → List Pair
-counter-b-pairs a b = numbers (a .count) (b .count) ∷ numbers (a .latchb) (b .latchb) ∷ numbers (a .latchc) (b .latchc) ∷ flags (a .turnc) (b .turnc) ∷ []
+counter-b-pairs a b =
+    numbers (a .count) (b .count) ∷ numbers (a .latchb) (b .latchb) ∷ numbers (a .latchc) (b .latchc)
+    ∷ flags (a .turnc) (b .turnc) ∷ []
 
 pub counter-b-same : (a b : CounterB) → testsOf true (counter-b-pairs a b) ≡ true → a ≡ b
 counter-b-same a b e =
     let fields = all (counter-b-pairs a b) e in
-    let whole : _≡_ {A = CounterB} (record { count = a .count; latchb = a .latchb; latchc = a .latchc; turnc = a .turnc }) (record { count = b .count; latchb = b .latchb; latchc = b .latchc; turnc = b .turnc }) = cc in
+    let whole : _≡_ {A = CounterB}
+    (record { count = a .count; latchb = a .latchb; latchc = a .latchc; turnc = a .turnc })
+    (record { count = b .count; latchb = b .latchb; latchc = b .latchc; turnc = b .turnc }) = cc in
     whole
 
 abbrev pub transmitter-pairs : Transmitter → Transmitter → List Pair
-transmitter-pairs a b = numbers (a .left) (b .left) ∷ numbers (a .phase) (b .phase) ∷ numbers (a .register) (b .register) ∷ []
+transmitter-pairs a b =
+    numbers (a .left) (b .left) ∷ numbers (a .phase) (b .phase) ∷ numbers (a .register) (b .register) ∷ []
 
 pub transmitter-same : (a b : Transmitter) → testsOf true (transmitter-pairs a b) ≡ true → a ≡ b
 transmitter-same a b e =
     let fields = all (transmitter-pairs a b) e in
-    let whole : _≡_ {A = Transmitter} (record { left = a .left; phase = a .phase; register = a .register }) (record { left = b .left; phase = b .phase; register = b .register }) = cc in
+    let whole : _≡_ {A = Transmitter} (record { left = a .left; phase = a .phase; register = a .register })
+    (record { left = b .left; phase = b .phase; register = b .register }) = cc in
     whole
 
 abbrev pub receiver-pairs : Receiver → Receiver → List Pair
-receiver-pairs a b = numbers (a .subinterval) (b .subinterval) ∷ flags (a .half) (b .half) ∷ numbers (a .left) (b .left) ∷ numbers (a .register) (b .register) ∷ []
+receiver-pairs a b =
+    numbers (a .subinterval) (b .subinterval) ∷ flags (a .half) (b .half) ∷ numbers (a .left) (b .left)
+    ∷ numbers (a .register) (b .register) ∷ []
 
 pub receiver-same : (a b : Receiver) → testsOf true (receiver-pairs a b) ≡ true → a ≡ b
 receiver-same a b e =
     let fields = all (receiver-pairs a b) e in
-    let whole : _≡_ {A = Receiver} (record { subinterval = a .subinterval; half = a .half; left = a .left; register = a .register }) (record { subinterval = b .subinterval; half = b .half; left = b .left; register = b .register }) = cc in
+    let whole : _≡_ {A = Receiver}
+    (record { subinterval = a .subinterval; half = a .half; left = a .left; register = a .register })
+    (record { subinterval = b .subinterval; half = b .half; left = b .left; register = b .register }) = cc in
     whole
 
 abbrev pub levels-pairs : Levels → Levels → List Pair
@@ -180,22 +205,59 @@ levels-pairs a b = numbers (a .ports) (b .ports) ∷ flags (a .nmi) (b .nmi) ∷
 pub levels-same : (a b : Levels) → testsOf true (levels-pairs a b) ≡ true → a ≡ b
 levels-same a b e =
     let fields = all (levels-pairs a b) e in
-    let whole : _≡_ {A = Levels} (record { ports = a .ports; nmi = a .nmi; res = a .res }) (record { ports = b .ports; nmi = b .nmi; res = b .res }) = cc in
+    let whole : _≡_ {A = Levels} (record { ports = a .ports; nmi = a .nmi; res = a .res })
+    (record { ports = b .ports; nmi = b .nmi; res = b .res }) = cc in
     whole
 
 -- ---- structs of structs
 
-pub peripherals-same : (a b : Peripherals) → a .ports ≡ b .ports → a .countera ≡ b .countera → a .counterb ≡ b .counterb → a .control ≡ b .control → a .serial ≡ b .serial → a .transmitter ≡ b .transmitter → a .receiver ≡ b .receiver → a ≡ b
+pub peripherals-same : (a b : Peripherals) → a .ports ≡ b .ports → a .countera ≡ b .countera → a .counterb ≡ b .counterb
+    → a .control ≡ b .control → a .serial ≡ b .serial → a .transmitter ≡ b .transmitter → a .receiver ≡ b .receiver
+    → a ≡ b
 peripherals-same a b ports' countera' counterb' control' serial' transmitter' receiver' =
-    let whole : _≡_ {A = Peripherals} (record { ports = a .ports; countera = a .countera; counterb = a .counterb; control = a .control; serial = a .serial; transmitter = a .transmitter; receiver = a .receiver }) (record { ports = b .ports; countera = b .countera; counterb = b .counterb; control = b .control; serial = b .serial; transmitter = b .transmitter; receiver = b .receiver }) = cc in
+    let whole : _≡_ {A = Peripherals} (record {
+      ports = a .ports;
+      countera = a .countera;
+      counterb = a .counterb;
+      control = a .control;
+      serial = a .serial;
+      transmitter = a .transmitter;
+      receiver = a .receiver;
+    }) (record {
+      ports = b .ports;
+      countera = b .countera;
+      counterb = b .counterb;
+      control = b .control;
+      serial = b .serial;
+      transmitter = b .transmitter;
+      receiver = b .receiver;
+    }) = cc in
     whole
 
-pub state-same : (a b : State) → a .cpu ≡ b .cpu → a .due ≡ b .due → a .peripherals ≡ b .peripherals → a .external ≡ b .external → a .last ≡ b .last → a .clock ≡ b .clock → a ≡ b
+pub state-same : (a b : State) → a .cpu ≡ b .cpu → a .due ≡ b .due → a .peripherals ≡ b .peripherals
+    → a .external ≡ b .external → a .last ≡ b .last → a .clock ≡ b .clock → a ≡ b
 state-same a b cpu' due' peripherals' external' last' clock' =
-    let whole : _≡_ {A = State} (record { cpu = a .cpu; due = a .due; peripherals = a .peripherals; external = a .external; last = a .last; clock = a .clock }) (record { cpu = b .cpu; due = b .due; peripherals = b .peripherals; external = b .external; last = b .last; clock = b .clock }) = cc in
+    let whole : _≡_ {A = State} (record {
+      cpu = a .cpu;
+      due = a .due;
+      peripherals = a .peripherals;
+      external = a .external;
+      last = a .last;
+      clock = a .clock;
+    }) (record {
+      cpu = b .cpu;
+      due = b .due;
+      peripherals = b .peripherals;
+      external = b .external;
+      last = b .last;
+      clock = b .clock;
+    }) = cc in
     whole
 
-pub results-equal : (a b : Result) → a .number ≡ b .number → a .state ≡ b .state → a .leaps ≡ b .leaps → a .read ≡ b .read → a .written ≡ b .written → a ≡ b
+pub results-equal : (a b : Result) → a .number ≡ b .number → a .state ≡ b .state → a .leaps ≡ b .leaps
+    → a .read ≡ b .read → a .written ≡ b .written → a ≡ b
 results-equal a b number' state' leaps' read' written' =
-    let whole : _≡_ {A = Result} (record { number = a .number; state = a .state; leaps = a .leaps; read = a .read; written = a .written }) (record { number = b .number; state = b .state; leaps = b .leaps; read = b .read; written = b .written }) = cc in
+    let whole : _≡_ {A = Result}
+    (record { number = a .number; state = a .state; leaps = a .leaps; read = a .read; written = a .written })
+    (record { number = b .number; state = b .state; leaps = b .leaps; read = b .read; written = b .written }) = cc in
     whole

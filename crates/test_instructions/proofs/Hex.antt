@@ -33,7 +33,8 @@ module _ (line : List ℕ) (from : ℕ) where
   unfolding digitsOf
   reading-begins = record { text = refl; small = omega arith }
 
-  text-next : (i n v : ℕ) → from + i < length line → v < 16 → getD line (from + i) 0 ≡ digitOf v → take i (drop from line) ≡ digitsOf 16 i n
+  text-next : (i n v : ℕ) → from + i < length line → v < 16 → getD line (from + i) 0 ≡ digitOf v
+      → take i (drop from line) ≡ digitsOf 16 i n
       → take (suc i) (drop from line) ≡ digitsOf 16 (suc i) (16 * n + v)
   unfolding digitsOf
   text-next i n v h small here before =
@@ -42,7 +43,8 @@ module _ (line : List ℕ) (from : ℕ) where
       let lower : (16 * n + v) % 16 ≡ v = omega arith in
       rw (take-suc (drop from line) i 0 inside, getD-drop from line i 0, here, before, upper, lower)
 
-  pub reading-on : (i n v : ℕ) → from + i < length line → v < 16 → getD line (from + i) 0 ≡ digitOf v → Reading line from i n
+  pub reading-on : (i n v : ℕ) → from + i < length line → v < 16 → getD line (from + i) 0 ≡ digitOf v
+      → Reading line from i n
       → Reading line from (i + 1) (16 * n + v)
   reading-on i n v h small here r =
       let wide : 16 ^ suc i ≡ 16 ^ i * 16 = pow-suc 16 i in
@@ -57,7 +59,8 @@ reading-fits line from i n h r =
     let below = r .small in
     omega arith
 
-pub reading-ends : (line : List ℕ) (from count i n : ℕ) → i ≤ count → count ≤ i → Reading line from i n → Read line from count n (from + i)
+pub reading-ends : (line : List ℕ) (from count i n : ℕ) → i ≤ count → count ≤ i → Reading line from i n
+    → Read line from count n (from + i)
 reading-ends line from count i n h k r =
     let e : i ≡ count = omega arith in
     rw e (record { text = rw e at (r .text); small = rw e at (r .small); past = refl })

@@ -17,7 +17,8 @@ module _ (mark : ℕ) (text : List ℕ) (place : ℕ) where
   unfolding unmarked
   mark-here h e = rw (drop-cons text place 0 h, eq-eqb (getD text place 0) mark e, add-zero place)
 
-  pub mark-later : place < length text → (getD text place 0 ≡ mark → ⊥) → nextMark mark text (place + 1) ≡ nextMark mark text place
+  pub mark-later : place < length text → (getD text place 0 ≡ mark → ⊥)
+      → nextMark mark text (place + 1) ≡ nextMark mark text place
   unfolding unmarked
   mark-later h e = rw (drop-cons text place 0 h, ne-eqb (getD text place 0) mark e, add-one place) (omega arith)
 

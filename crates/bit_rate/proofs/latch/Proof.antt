@@ -2,7 +2,8 @@ use mathlib.Core.Path.{refl, sym, _∙_}
 use native.Mathlib.Omega.{arith}
 use borrow.Author.Needs.{needs}
 use Rattle.bit_rate.specs.BitRate.{latchFor}
-use Rattle.bit_rate.proofs.Laws.{within, most-positive, fewest-positive, latch-fits, latch-beyond, latch-slow, most-bounded, least-bounded, slow-bounded}
+use Rattle.bit_rate.proofs.Laws.{within, most-positive, fewest-positive, latch-fits, latch-beyond, latch-slow}
+use Rattle.bit_rate.proofs.Laws.{most-bounded, least-bounded, slow-bounded}
 use Rattle.bit_rate.proofs.latch.Statement.{statement}
 use Rattle.bit_rate.proofs.latch.Tie as tie
 
@@ -59,7 +60,8 @@ returns-3 c =
 
 sub-t11 : tie.Need-sub-t11
 sub-t11 c =
-    let inside = within _ _ _ (sym (c .before .before .before .out-of-limits .ensures) ∙ c .before .before .if1 .left) in
+    let inside =
+    within _ _ _ (sym (c .before .before .before .out-of-limits .ensures) ∙ c .before .before .if1 .left) in
     omega (arith, fewest-positive _ _ _ inside)
 
 cast-t13 : tie.Need-cast-t13

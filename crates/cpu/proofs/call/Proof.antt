@@ -16,17 +16,34 @@ use Rattle.cpu.proofs.call.Tie as tie
 
 -- the low byte l, the pushes w and the high byte h, each as it should be
 called-as : (answers memory : List ℕ) (r : CpuRegisters) (n : ℕ) (b : Bus) (l : Fetched) (w : Writes) (h : Got)
-    → l ≡ fetchOf answers memory (r .pc) b → w ≡ pushWord (r .sp) (l .pc) → h ≡ readAfter answers memory w (l .pc) (l .bus)
+    → l ≡ fetchOf answers memory (r .pc) b → w ≡ pushWord (r .sp) (l .pc)
+    → h ≡ readAfter answers memory w (l .pc) (l .bus)
     → outcomeOf (writesAsked (l .bus) w) (callTo r n l w h) ≡ subroutineCall answers memory r n b
 unfolding subroutineCall
 called-as answers memory r n b l w h e p q = rw (q, p, e) refl
 
 returns : tie.Need-returns
 returns c =
-    let at = c .before .before .before .before .before .before .before .before .before .before .before .before .before .before .before .args in
-    rw (c .outcome-of .ensures, c .before .writes-asked .ensures, c .before .before .executed-with .ensures, c .before .before .before .with-pc .ensures, c .before .before .before .before .with-sp .ensures, c .before .before .before .before .before .down2 .ensures, c .before .before .before .before .before .before .down .ensures, c .before .before .before .before .before .before .before .word16 .ensures)
-    (called-as (now (at .answers)) (now (at .memory)) (at .registers) (at .length) (at .bus) (c .before .before .before .before .before .before .before .before .before .before .before .before .fetch .result) (c .before .before .before .before .before .before .before .before .before .before .push-word .result) (c .before .before .before .before .before .before .before .before .before .read-after .result)
-    (c .before .before .before .before .before .before .before .before .before .before .before .before .fetch .ensures) (c .before .before .before .before .before .before .before .before .before .before .push-word .ensures) (c .before .before .before .before .before .before .before .before .before .read-after .ensures))
+    let at =
+    c .before .before .before .before .before .before .before .before .before .before .before .before .before .before
+    .before .args in
+    rw (
+      c .outcome-of .ensures,
+      c .before .writes-asked .ensures,
+      c .before .before .executed-with .ensures,
+      c .before .before .before .with-pc .ensures,
+      c .before .before .before .before .with-sp .ensures,
+      c .before .before .before .before .before .down2 .ensures,
+      c .before .before .before .before .before .before .down .ensures,
+      c .before .before .before .before .before .before .before .word16 .ensures,
+    )
+    (called-as (now (at .answers)) (now (at .memory)) (at .registers) (at .length) (at .bus)
+    (c .before .before .before .before .before .before .before .before .before .before .before .before .fetch .result)
+    (c .before .before .before .before .before .before .before .before .before .before .push-word .result)
+    (c .before .before .before .before .before .before .before .before .before .read-after .result)
+    (c .before .before .before .before .before .before .before .before .before .before .before .before .fetch .ensures)
+    (c .before .before .before .before .before .before .before .before .before .before .push-word .ensures)
+    (c .before .before .before .before .before .before .before .before .before .read-after .ensures))
 
 pub call-spec : {M : Type 1} → statement M
 call-spec =

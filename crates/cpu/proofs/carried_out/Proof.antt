@@ -8,7 +8,15 @@ work-requires c κs = rw (c .before .operand-of .ensures) (search needs)
 
 returns : tie.Need-returns
 unfolding carriedOut
-returns c = rw (← (c .before .before .before .before .locate .ensures), ← (c .before .before .before .before .before .before .before .pre .1), ← (c .before .before .before .operand-byte .ensures), ← (c .before .before .operand-of .ensures), ← (c .before .with-pc .ensures), ← (c .work .ensures))
+returns c =
+    rw (
+      ← (c .before .before .before .before .locate .ensures),
+      ← (c .before .before .before .before .before .before .before .pre .1),
+      ← (c .before .before .before .operand-byte .ensures),
+      ← (c .before .before .operand-of .ensures),
+      ← (c .before .with-pc .ensures),
+      ← (c .work .ensures),
+    )
 
 pub carried-out-spec : {M : Type 1} → statement M
 carried-out-spec =

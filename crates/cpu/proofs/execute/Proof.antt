@@ -5,14 +5,29 @@ use Rattle.cpu.proofs.execute.Tie as tie
 
 returns : tie.Need-returns
 unfolding executeOf
-returns c = rw (← (c .before .before .before .access-of .ensures), ← (c .before .before .is-call .ensures), ← (c .call .ensures), c .before .if1 .taken)
+returns c =
+    rw (
+      ← (c .before .before .before .access-of .ensures),
+      ← (c .before .before .is-call .ensures),
+      ← (c .call .ensures),
+      c .before .if1 .taken,
+    )
 
 carried-out-requires : tie.Need-carried-out-requires
-carried-out-requires c κs = (c .before .before .before .before .before .before .pre, c .before .before .before .access-of .ensures)
+carried-out-requires c κs =
+    (c .before .before .before .before .before .before .pre, c .before .before .before .access-of .ensures)
 
 returns-2 : tie.Need-returns-2
 unfolding executeOf
-returns-2 c = rw (← (c .before .before .before .before .before .access-of .ensures), ← (c .before .before .before .before .is-call .ensures), ← (c .before .before .no-writes .ensures), ← (c .before .carried-out .ensures), ← (c .outcome-of .ensures), c .before .before .before .if1 .left)
+returns-2 c =
+    rw (
+      ← (c .before .before .before .before .before .access-of .ensures),
+      ← (c .before .before .before .before .is-call .ensures),
+      ← (c .before .before .no-writes .ensures),
+      ← (c .before .carried-out .ensures),
+      ← (c .outcome-of .ensures),
+      c .before .before .before .if1 .left,
+    )
 
 pub execute-spec : {M : Type 1} → statement M
 execute-spec =

@@ -5,7 +5,13 @@ use Rattle.cpu_access.proofs.vector.Tie as tie
 
 returns : tie.Need-returns
 unfolding vectorOf
-returns c = rw (← (c .before .before .before .memory-byte .ensures), ← (c .before .before .next-address .ensures), ← (c .before .memory-byte2 .ensures), ← (c .word16 .ensures))
+returns c =
+    rw (
+      ← (c .before .before .before .memory-byte .ensures),
+      ← (c .before .before .next-address .ensures),
+      ← (c .before .memory-byte2 .ensures),
+      ← (c .word16 .ensures),
+    )
 
 pub vector-spec : {M : Type 1} → statement M
 vector-spec =

@@ -12,8 +12,28 @@ use Rattle.cpu_opcodes.proofs.opcode_table.Lts as lts
 returns : tie.Need-returns
 unfolding decodeOf opcodeTable
 returns c =
-    same-rows 16 (resV lts.r tt (lts.m2 reads.Pre reads.Post (c .args) .0)) opcodeTable
-    (refl, (refl, (refl, (refl, (refl, (refl, (refl, (refl, (refl, (refl, (refl, (refl, (refl, (refl, (refl, (refl, refl))))))))))))))))
+    same-rows 16 (resV lts.r tt (lts.m2 reads.Pre reads.Post (c .args) .0)) opcodeTable (
+      refl,
+      (
+        refl,
+        (
+          refl,
+          (
+            refl,
+            (
+              refl,
+              (
+                refl,
+                (
+                  refl,
+                  (refl, (refl, (refl, (refl, (refl, (refl, (refl, (refl, (refl, refl))))))))),
+                ),
+              ),
+            ),
+          ),
+        ),
+      ),
+    )
 
 pub opcode-table-spec : {M : Type 1} → statement M
 opcode-table-spec = tie.close (tie.spec returns)

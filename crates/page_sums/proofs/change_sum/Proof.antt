@@ -20,7 +20,8 @@ add-sums-2 c = omega (arith, c .slice-known .given (c .before .before .args .pag
 returns : tie.Need-returns
 returns c =
     let at = c .before .before .args in
-    ap (set (now (at .sums)) (at .page)) (taken-off (getD (now (at .sums)) (at .page) 0) (at .before) (at .after) (omega arith))
+    ap (set (now (at .sums)) (at .page))
+    (taken-off (getD (now (at .sums)) (at .page) 0) (at .before) (at .after) (omega arith))
 
 returns-2 : tie.Need-returns-2
 returns-2 c = sym (set-out _ _ _ (c .if1 .left))

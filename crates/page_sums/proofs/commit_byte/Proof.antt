@@ -15,8 +15,11 @@ returns c =
     let at = start .args in
     let sums = now (at .sums) in
     let page = pageOf (at .address + at .k) in
-    let words : SixteenBits sums = λ p. omega (arith, c .before .before .before .before .before .slice-known2 .given p) in
-    let put : c .before .before .change-sum .last .0 ≡ set sums page (sumChanged (sumAt sums page) (getD (now (at .part)) (at .k) 0) (at .value)) = c .before .before .change-sum .ensures in
+    let words : SixteenBits sums =
+    λ p. omega (arith, c .before .before .before .before .before .slice-known2 .given p) in
+    let put : c .before .before .change-sum .last .0
+    ≡ set sums page (sumChanged (sumAt sums page) (getD (now (at .part)) (at .k) 0) (at .value)) =
+    c .before .before .change-sum .ensures in
     (refl, put ∙ byte-summed (at .address) (at .k) (at .value) sums (now (at .part)) words (start .pre .0))
 
 pub commit-byte-spec : {M : Type 1} → statement M

@@ -10,7 +10,8 @@ use Rattle.page_sums.proofs.total.Statement.{statement}
 use Rattle.page_sums.proofs.total.Tie as tie
 
 abbrev Inv-loop : tie.InvT-loop
-Inv-loop sums sum₀ page₀ sum page = (page ≤ 256) × (sum ≤ 65535 * page) × (sum + totalOf (drop page sums) ≡ totalOf sums)
+Inv-loop sums sum₀ page₀ sum page =
+    (page ≤ 256) × (sum ≤ 65535 * page) × (sum + totalOf (drop page sums) ≡ totalOf sums)
 
 abbrev μ-loop : tie.MeasureT-loop
 μ-loop sums sum₀ page₀ sum page = 256 - page
@@ -56,7 +57,8 @@ unfolding totalCall
 returns-2 c =
     let sums = now (c .before .before .before .args .sums) in
     let whole : length sums ≡ 256 = omega arith in
-    let all : c .before .loop .sum ≡ totalOf sums = omega (arith, total-end sums (c .before .loop .page) (omega arith)) in
+    let all : c .before .loop .sum ≡ totalOf sums =
+    omega (arith, total-end sums (c .before .loop .page) (omega arith)) in
     rw (all, eq-eqb (length sums) 256 whole)
 
 pub total-spec : {M : Type 1} → statement M

@@ -22,7 +22,8 @@ shared-slice-read-if1 c = omega arith
 
 returns : tie.Need-returns Inv-loop μ-loop
 returns c =
-    let e = due-other (c .before .before .before .before .args .clock) (c .before .before .before .loop .i) (c .before .before .before .before .args .clocks .now) (c .before .before .loop-test .taken) (c .if1 .taken) in
+    let e = due-other (c .before .before .before .before .args .clock) (c .before .before .before .loop .i)
+    (c .before .before .before .before .args .clocks .now) (c .before .before .loop-test .taken) (c .if1 .taken) in
     omega (arith, e, c .before .before .before .loop .inv .1)
 
 add-i : tie.Need-add-i Inv-loop μ-loop
@@ -33,12 +34,14 @@ loop-less c = omega arith
 
 loop-again : tie.Need-loop-again Inv-loop μ-loop
 loop-again c =
-    let e = due-more (c .before .before .before .before .args .clock) (c .before .before .before .loop .i) (c .before .before .before .before .args .clocks .now) (c .before .before .loop-test .taken) (c .if1 .left) in
+    let e = due-more (c .before .before .before .before .args .clock) (c .before .before .before .loop .i)
+    (c .before .before .before .before .args .clocks .now) (c .before .before .loop-test .taken) (c .if1 .left) in
     (omega arith, omega (arith, e, c .before .before .before .loop .inv .1))
 
 returns-2 : tie.Need-returns-2 Inv-loop μ-loop
 returns-2 c =
-    let e = due-end (c .before .before .args .clock) (c .before .loop .i) (c .before .before .args .clocks .now) (c .loop-test .left) in
+    let e = due-end (c .before .before .args .clock) (c .before .loop .i) (c .before .before .args .clocks .now)
+    (c .loop-test .left) in
     omega (arith, e, c .before .loop .inv .1)
 
 pub inputs-due-spec : {M : Type 1} → statement M

@@ -19,12 +19,19 @@ use Rattle.r6501q.proofs.r6501q_run_with_sums.Tie as tie
 returns : tie.Need-returns
 returns c =
     let at = c .before .before .before .before .before .before .before .before .before .args in
-    let start : HostWorld = callStart (at .state) (now (at .memory)) (now (at .inputclocks)) (now (at .inputcodes)) (now (at .outputclocks)) (now (at .outputwords)) in
-    let words : SixteenBits (now (at .sums)) = λ p. omega (arith, c .before .before .before .before .before .before .before .slice-known2 .given p) in
-    let told : c .before .before .page-list-refused .result ≡ pageListRefused (length (now (at .memory))) (length (now (at .sums))) = c .before .before .page-list-refused .ensures in
-    let wrong : pageListRefused (length (now (at .memory))) (length (now (at .sums))) ≡ true = sym told ∙ c .before .if1 .taken in
-    let leaps = list-refused (now (at .sums)) (hostCall (runOf (machine (haltOf (at .halt))) (at .n)) (at .n)) start wrong in
-    let plains = list-refused (now (at .sums)) (hostCall (plainRunOf (machine (haltOf (at .halt))) (at .n)) (at .n)) start wrong in
+    let start : HostWorld = callStart (at .state) (now (at .memory)) (now (at .inputclocks)) (now (at .inputcodes))
+    (now (at .outputclocks)) (now (at .outputwords)) in
+    let words : SixteenBits (now (at .sums)) =
+    λ p. omega (arith, c .before .before .before .before .before .before .before .slice-known2 .given p) in
+    let told : c .before .before .page-list-refused .result
+    ≡ pageListRefused (length (now (at .memory))) (length (now (at .sums))) =
+    c .before .before .page-list-refused .ensures in
+    let wrong : pageListRefused (length (now (at .memory))) (length (now (at .sums))) ≡ true =
+    sym told ∙ c .before .if1 .taken in
+    let leaps =
+    list-refused (now (at .sums)) (hostCall (runOf (machine (haltOf (at .halt))) (at .n)) (at .n)) start wrong in
+    let plains =
+    list-refused (now (at .sums)) (hostCall (plainRunOf (machine (haltOf (at .halt))) (at .n)) (at .n)) start wrong in
     let kept = sums-kept 0 (now (at .sums)) (now (at .memory)) words in
     (rw (c .wrong-page-list .ensures) (sym leaps), (rw (c .wrong-page-list .ensures) (sym plains), kept))
 
@@ -32,12 +39,19 @@ returns-2 : tie.Need-returns-2
 unfolding hostCall
 returns-2 c =
     let at = c .before .before .before .before .before .before .before .before .before .before .before .args in
-    let start : HostWorld = callStart (at .state) (now (at .memory)) (now (at .inputclocks)) (now (at .inputcodes)) (now (at .outputclocks)) (now (at .outputwords)) in
-    let words : SixteenBits (now (at .sums)) = λ p. omega (arith, c .before .before .before .before .before .before .before .before .before .slice-known2 .given p) in
-    let told : c .before .before .before .before .page-list-refused .result ≡ pageListRefused (length (now (at .memory))) (length (now (at .sums))) = c .before .before .before .before .page-list-refused .ensures in
-    let right : pageListRefused (length (now (at .memory))) (length (now (at .sums))) ≡ false = sym told ∙ c .before .before .before .if1 .left in
-    let leaps = list-accepted (now (at .sums)) (hostCall (runOf (machine (haltOf (at .halt))) (at .n)) (at .n)) start right in
-    let plains = list-accepted (now (at .sums)) (hostCall (plainRunOf (machine (haltOf (at .halt))) (at .n)) (at .n)) start right in
+    let start : HostWorld = callStart (at .state) (now (at .memory)) (now (at .inputclocks)) (now (at .inputcodes))
+    (now (at .outputclocks)) (now (at .outputwords)) in
+    let words : SixteenBits (now (at .sums)) = λ p. omega
+    (arith, c .before .before .before .before .before .before .before .before .before .slice-known2 .given p) in
+    let told : c .before .before .before .before .page-list-refused .result
+    ≡ pageListRefused (length (now (at .memory))) (length (now (at .sums))) =
+    c .before .before .before .before .page-list-refused .ensures in
+    let right : pageListRefused (length (now (at .memory))) (length (now (at .sums))) ≡ false =
+    sym told ∙ c .before .before .before .if1 .left in
+    let leaps =
+    list-accepted (now (at .sums)) (hostCall (runOf (machine (haltOf (at .halt))) (at .n)) (at .n)) start right in
+    let plains =
+    list-accepted (now (at .sums)) (hostCall (plainRunOf (machine (haltOf (at .halt))) (at .n)) (at .n)) start right in
     let high = not-true (c .before .before .flags-fit .result) (c .before .if2 .taken) in
     let kept = sums-kept 0 (now (at .sums)) (now (at .memory)) words in
     let fit = c .before .before .flags-fit .ensures in
@@ -46,19 +60,64 @@ returns-2 c =
 returns-3 : tie.Need-returns-3
 unfolding hostCall
 returns-3 c =
-    let at = c .before .before .before .before .before .before .before .before .before .before .before .before .before .before .before .before .before .before .before .before .before .before .before .before .before .before .args in
-    let start : HostWorld = callStart (at .state) (now (at .memory)) (now (at .inputclocks)) (now (at .inputcodes)) (now (at .outputclocks)) (now (at .outputwords)) in
-    let library : World = callStart (c .before .before .before .before .before .before .before .before .before .before .before .before .before .before .before .state-of .result) (now (at .memory)) (now (at .inputclocks)) (now (at .inputcodes)) (now (at .outputclocks)) (now (at .outputwords)) in
-    let told : c .before .before .before .before .before .before .before .before .before .before .before .before .before .before .before .before .before .before .before .page-list-refused .result ≡ pageListRefused (length (now (at .memory))) (length (now (at .sums))) = c .before .before .before .before .before .before .before .before .before .before .before .before .before .before .before .before .before .before .before .page-list-refused .ensures in
-    let right : pageListRefused (length (now (at .memory))) (length (now (at .sums))) ≡ false = sym told ∙ c .before .before .before .before .before .before .before .before .before .before .before .before .before .before .before .before .before .before .if1 .left in
-    let leaps = list-accepted (now (at .sums)) (hostCall (runOf (machine (haltOf (at .halt))) (at .n)) (at .n)) start right in
-    let plains = list-accepted (now (at .sums)) (hostCall (plainRunOf (machine (haltOf (at .halt))) (at .n)) (at .n)) start right in
+    let at =
+    c .before .before .before .before .before .before .before .before .before .before .before .before .before .before
+    .before .before .before .before .before .before .before .before .before .before .before .before .args in
+    let start : HostWorld = callStart (at .state) (now (at .memory)) (now (at .inputclocks)) (now (at .inputcodes))
+    (now (at .outputclocks)) (now (at .outputwords)) in
+    let library : World = callStart (c .before .before .before .before .before .before .before .before .before
+    .before .before .before .before .before .before .state-of .result) (now (at .memory)) (now (at .inputclocks))
+    (now (at .inputcodes)) (now (at .outputclocks)) (now (at .outputwords)) in
+    let told :
+    c .before .before .before .before .before .before .before .before .before .before .before .before .before .before
+    .before .before .before .before .before .page-list-refused .result
+    ≡ pageListRefused (length (now (at .memory))) (length (now (at .sums))) =
+    c .before .before .before .before .before .before .before .before .before .before .before .before .before .before
+    .before .before .before .before .before .page-list-refused .ensures in
+    let right : pageListRefused (length (now (at .memory))) (length (now (at .sums)))
+    ≡ false = sym told
+    ∙ c .before .before .before .before .before .before .before .before .before .before .before .before .before
+    .before .before .before .before .before .if1 .left in
+    let leaps =
+    list-accepted (now (at .sums)) (hostCall (runOf (machine (haltOf (at .halt))) (at .n)) (at .n)) start right in
+    let plains =
+    list-accepted (now (at .sums)) (hostCall (plainRunOf (machine (haltOf (at .halt))) (at .n)) (at .n)) start right in
     let call = c .before .before .before .before .before .before .before .before .before .run-with-sums .ensures in
-    let leapt = call .0 ∙ list-accepted (now (at .sums)) (runOf (machine (c .before .before .before .before .before .before .before .before .before .before .halt-of .result)) (at .n)) library right in
-    let plainly = call .1 .0 ∙ list-accepted (now (at .sums)) (plainRunOf (machine (c .before .before .before .before .before .before .before .before .before .before .halt-of .result)) (at .n)) library right in
-    let fits = not-false (c .before .before .before .before .before .before .before .before .before .before .before .before .before .before .before .before .before .flags-fit .result) (c .before .before .before .before .before .before .before .before .before .before .before .before .before .before .before .before .if2 .left) in (
-      rw (leaps, ← (c .before .before .before .before .before .before .before .before .before .before .before .before .before .before .before .before .before .flags-fit .ensures), ← (c .before .before .before .before .before .before .before .before .before .before .before .before .before .before .before .state-of .ensures), ← (c .before .before .before .before .before .before .before .before .before .before .halt-of .ensures), ← leapt, c .host-result .ensures, fits),
-      (rw (plains, ← (c .before .before .before .before .before .before .before .before .before .before .before .before .before .before .before .before .before .flags-fit .ensures), ← (c .before .before .before .before .before .before .before .before .before .before .before .before .before .before .before .state-of .ensures), ← (c .before .before .before .before .before .before .before .before .before .before .halt-of .ensures), ← plainly, c .host-result .ensures, fits), call .1 .1),
+    let leapt = call .0
+    ∙ list-accepted (now (at .sums)) (runOf (machine (c .before .before .before .before .before .before .before
+    .before .before .before .halt-of .result)) (at .n)) library right in
+    let plainly = call .1 .0
+    ∙ list-accepted (now (at .sums)) (plainRunOf
+    (machine (c .before .before .before .before .before .before .before .before .before .before .halt-of .result))
+    (at .n)) library right in
+    let fits = not-false (c .before .before .before .before .before .before .before .before .before .before
+    .before .before .before .before .before .before .before .flags-fit .result) (c .before .before .before .before
+    .before .before .before .before .before .before .before .before .before .before .before .before .if2 .left) in (
+      rw (
+        leaps,
+        ← (c .before .before .before .before .before .before .before .before .before .before .before .before .before
+            .before .before .before .before .flags-fit .ensures),
+        ← (c .before .before .before .before .before .before .before .before .before .before .before .before .before
+            .before .before .state-of .ensures),
+        ← (c .before .before .before .before .before .before .before .before .before .before .halt-of .ensures),
+        ← leapt,
+        c .host-result .ensures,
+        fits,
+      ),
+      (
+        rw (
+          plains,
+          ← (c .before .before .before .before .before .before .before .before .before .before .before .before
+              .before .before .before .before .before .flags-fit .ensures),
+          ← (c .before .before .before .before .before .before .before .before .before .before .before .before
+              .before .before .before .state-of .ensures),
+          ← (c .before .before .before .before .before .before .before .before .before .before .halt-of .ensures),
+          ← plainly,
+          c .host-result .ensures,
+          fits,
+        ),
+        call .1 .1,
+      ),
     )
 
 pub r6501q-run-with-sums-spec : {M : Type 1} → statement M

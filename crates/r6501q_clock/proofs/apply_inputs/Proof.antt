@@ -28,7 +28,8 @@ loop-less c = omega arith
 
 loop-again : tie.Need-loop-again Inv-loop μ-loop
 loop-again c =
-    let h : c .before .before .before .loop .i < length (c .before .before .before .before .before .args .codes .now) = omega arith in
+    let h : c .before .before .before .loop .i
+    < length (c .before .before .before .before .before .args .codes .now) = omega arith in
     (omega arith, rw (c .input .ensures) (sym (inputs-more _ _ _ h) ∙ c .before .before .before .loop .inv .1))
 
 returns : tie.Need-returns Inv-loop μ-loop

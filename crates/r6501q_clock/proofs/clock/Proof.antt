@@ -6,11 +6,25 @@ use Rattle.r6501q_clock.proofs.clock.Tie as tie
 
 returns : tie.Need-returns
 unfolding clockOf
-returns c = rw (← (c .before .before .before .before .before .driven-word .ensures), ← (c .before .before .before .before .ready .ensures), ← (c .before .before .before .process .ensures), c .before .processed .given .1) refl
+returns c =
+    rw (
+      ← (c .before .before .before .before .before .driven-word .ensures),
+      ← (c .before .before .before .before .ready .ensures),
+      ← (c .before .before .before .process .ensures),
+      c .before .processed .given .1,
+    ) refl
 
 returns-2 : tie.Need-returns-2
 unfolding clockOf
-returns-2 c = c .finish .ensures ∙ rw (c .before .driven-word2 .ensures, ← (c .before .before .before .before .before .before .before .driven-word .ensures), ← (c .before .before .before .before .before .before .ready .ensures), ← (c .before .before .before .before .before .process .ensures), c .before .before .before .processed2 .given .1) refl
+returns-2 c =
+    c .finish .ensures
+    ∙ rw (
+      c .before .driven-word2 .ensures,
+      ← (c .before .before .before .before .before .before .before .driven-word .ensures),
+      ← (c .before .before .before .before .before .before .ready .ensures),
+      ← (c .before .before .before .before .before .process .ensures),
+      c .before .before .before .processed2 .given .1,
+    ) refl
 
 pub clock-spec : {M : Type 1} → statement M
 clock-spec =

@@ -5,8 +5,10 @@ use Rattle.r6501q_clock.proofs.ready.Tie as tie
 
 returns : tie.Need-returns
 unfolding readyOf
-returns c = rw (← (c .before .before .before .apply-inputs .ensures), ← (c .before .sense .ensures), ← (c .work .ensures))
+returns c =
+    rw (← (c .before .before .before .apply-inputs .ensures), ← (c .before .sense .ensures), ← (c .work .ensures))
 
 pub ready-spec : {M : Type 1} → statement M
 ready-spec =
-    tie.close (tie.spec (λ c κs. search needs) (λ c. search needs) (λ c κs. search needs) (λ c κs. search needs) returns)
+    tie.close
+    (tie.spec (λ c κs. search needs) (λ c. search needs) (λ c κs. search needs) (λ c κs. search needs) returns)

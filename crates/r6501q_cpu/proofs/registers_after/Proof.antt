@@ -14,7 +14,12 @@ returns-2 c = rw (c .before .before .put-register .ensures, c .if2 .taken) refl
 
 returns-3 : tie.Need-returns-3
 unfolding registersAfter
-returns-3 c = rw (c .put-register3 .ensures, c .before .before .put-register2 .ensures, c .before .before .before .before .before .before .put-register .ensures) refl
+returns-3 c =
+    rw (
+      c .put-register3 .ensures,
+      c .before .before .put-register2 .ensures,
+      c .before .before .before .before .before .before .put-register .ensures,
+    ) refl
 
 pub registers-after-spec : {M : Type 1} → statement M
 registers-after-spec =

@@ -13,15 +13,31 @@ returns c = rw (cond-yes _ _ _ (c .before .if1 .taken)) (ap Done (search needs))
 
 returns-2 : tie.Need-returns-2
 unfolding startOf
-returns-2 c = rw (cond-no _ _ _ (c .before .before .if1 .left), cond-yes _ _ _ (c .before .if2 .taken)) (ap Done (search needs))
+returns-2 c =
+    rw (cond-no _ _ _ (c .before .before .if1 .left), cond-yes _ _ _ (c .before .if2 .taken)) (ap Done (search needs))
 
 returns-3 : tie.Need-returns-3
 unfolding startOf
-returns-3 c = rw (← (c .before .before .irq-due .ensures), ← (c .start-irq .ensures), c .before .if3 .taken, c .before .before .before .if2 .left, c .before .before .before .before .if1 .left)
+returns-3 c =
+    rw (
+      ← (c .before .before .irq-due .ensures),
+      ← (c .start-irq .ensures),
+      c .before .if3 .taken,
+      c .before .before .before .if2 .left,
+      c .before .before .before .before .if1 .left,
+    )
 
 returns-4 : tie.Need-returns-4
 unfolding startOf
-returns-4 c = rw (← (c .before .before .irq-due .ensures), instruction-answered, ← (c .whole-instruction .ensures), c .before .if3 .left, c .before .before .before .if2 .left, c .before .before .before .before .if1 .left)
+returns-4 c =
+    rw (
+      ← (c .before .before .irq-due .ensures),
+      instruction-answered,
+      ← (c .whole-instruction .ensures),
+      c .before .if3 .left,
+      c .before .before .before .if2 .left,
+      c .before .before .before .before .if1 .left,
+    )
 
 pub start-spec : {M : Type 1} → statement M
 start-spec =

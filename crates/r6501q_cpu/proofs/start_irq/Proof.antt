@@ -5,7 +5,13 @@ use Rattle.r6501q_cpu.proofs.start_irq.Statement.{statement}
 use Rattle.r6501q_cpu.proofs.start_irq.Tie as tie
 
 returns : tie.Need-returns
-returns c = rw (c .next-state .ensures, c .before .interrupt-entry .ensures, c .before .before .registers-of .ensures, irq-answered) refl
+returns c =
+    rw (
+      c .next-state .ensures,
+      c .before .interrupt-entry .ensures,
+      c .before .before .registers-of .ensures,
+      irq-answered,
+    ) refl
 
 pub start-irq-spec : {M : Type 1} → statement M
 start-irq-spec =

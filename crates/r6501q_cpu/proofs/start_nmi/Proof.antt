@@ -5,7 +5,13 @@ use Rattle.r6501q_cpu.proofs.start_nmi.Statement.{statement}
 use Rattle.r6501q_cpu.proofs.start_nmi.Tie as tie
 
 returns : tie.Need-returns
-returns c = rw (c .next-state .ensures, c .before .interrupt-entry .ensures, c .before .before .registers-of .ensures, nmi-answered) refl
+returns c =
+    rw (
+      c .next-state .ensures,
+      c .before .interrupt-entry .ensures,
+      c .before .before .registers-of .ensures,
+      nmi-answered,
+    ) refl
 
 pub start-nmi-spec : {M : Type 1} → statement M
 start-nmi-spec =

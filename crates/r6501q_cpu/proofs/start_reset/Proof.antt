@@ -5,7 +5,13 @@ use Rattle.r6501q_cpu.proofs.start_reset.Statement.{statement}
 use Rattle.r6501q_cpu.proofs.start_reset.Tie as tie
 
 returns : tie.Need-returns
-returns c = rw (c .next-state .ensures, c .before .reset-entry .ensures, c .before .before .registers-of .ensures, reset-answered) refl
+returns c =
+    rw (
+      c .next-state .ensures,
+      c .before .reset-entry .ensures,
+      c .before .before .registers-of .ensures,
+      reset-answered,
+    ) refl
 
 pub start-reset-spec : {M : Type 1} → statement M
 start-reset-spec =

@@ -5,15 +5,32 @@ use Rattle.r6501q_cpu.proofs.take_turn.Tie as tie
 
 returns : tie.Need-returns
 unfolding turnOf
-returns c = rw (← (c .before .before .before .before .registers-of .ensures), ← (c .before .before .before .one-outcome .ensures), c .before .outcome .given .1)
+returns c =
+    rw (
+      ← (c .before .before .before .before .registers-of .ensures),
+      ← (c .before .before .before .one-outcome .ensures),
+      c .before .outcome .given .1,
+    )
 
 returns-2 : tie.Need-returns-2
 unfolding turnOf
-returns-2 c = rw (c .answer .ensures, ← (c .before .before .before .before .before .registers-of .ensures), ← (c .before .before .before .before .one-outcome .ensures), c .before .before .outcome2 .given .1)
+returns-2 c =
+    rw (
+      c .answer .ensures,
+      ← (c .before .before .before .before .before .registers-of .ensures),
+      ← (c .before .before .before .before .one-outcome .ensures),
+      c .before .before .outcome2 .given .1,
+    )
 
 returns-3 : tie.Need-returns-3
 unfolding turnOf
-returns-3 c = rw (c .next-state .ensures, ← (c .before .before .before .before .before .registers-of .ensures), ← (c .before .before .before .before .one-outcome .ensures), c .before .before .outcome3 .given .1)
+returns-3 c =
+    rw (
+      c .next-state .ensures,
+      ← (c .before .before .before .before .before .registers-of .ensures),
+      ← (c .before .before .before .before .one-outcome .ensures),
+      c .before .before .outcome3 .given .1,
+    )
 
 pub take-turn-spec : {M : Type 1} → statement M
 take-turn-spec =

@@ -14,7 +14,9 @@ use Rattle.r6501q_cpu.proofs.whole_instruction.Tie as tie
 
 abbrev Inv-loop : tie.InvT-loop
 Inv-loop s memory entries answers₀ peripherals₀ count₀ answers peripherals count =
-    (count ≤ 6) × (length answers ≡ 6) × (instructionFrom (Stopped undefinedStop) (6 - count) s peripherals (take count answers) memory ≡ answeredInstruction s memory)
+    (count ≤ 6) × (length answers ≡ 6)
+    × (instructionFrom (Stopped undefinedStop) (6 - count) s peripherals (take count answers) memory
+    ≡ answeredInstruction s memory)
 
 abbrev μ-loop : tie.MeasureT-loop
 μ-loop s memory entries answers₀ peripherals₀ count₀ answers peripherals count = 6 - count
@@ -27,7 +29,8 @@ array-share-prefix-answers : tie.Need-array-share-prefix-answers Inv-loop μ-loo
 array-share-prefix-answers c = rw (c .before .loop .inv .1) (c .before .loop .inv .0)
 
 slice-aggregate-take-turn : tie.Need-slice-aggregate-take-turn Inv-loop μ-loop
-slice-aggregate-take-turn c = sym (length-take-le _ _ (rw (c .before .before .loop .inv .1) (c .before .before .loop .inv .0)))
+slice-aggregate-take-turn c =
+    sym (length-take-le _ _ (rw (c .before .before .loop .inv .1) (c .before .before .loop .inv .0)))
 
 returns : tie.Need-returns Inv-loop μ-loop
 returns c =
@@ -50,8 +53,12 @@ loop-again c =
     let at = c .before .before .before .before .before .before .before .loop in
     let left : 6 - at .count ≡ suc (6 - suc (at .count)) = omega arith in
     let room : at .count < length (at .answers) = rw (at .inv .1) (omega arith) in
-    let asked = sym (c .before .before .before .before .take-turn .ensures) ∙ c .before .before .turned2 .given .1 in
-    (omega arith, rw (length-set (at .answers) (at .count) (c .before .before .turned2 .given .0 .0 .value)) (at .inv .1), rw (add-one (at .count), take-suc-set (at .answers) (at .count) _ room) (sym (turn-answered _ _ _ _ _ _ _ _ left asked) ∙ at .inv .2))
+    let asked = sym (c .before .before .before .before .take-turn .ensures) ∙ c .before .before .turned2 .given .1 in (
+      omega arith,
+      rw (length-set (at .answers) (at .count) (c .before .before .turned2 .given .0 .0 .value)) (at .inv .1),
+      rw (add-one (at .count), take-suc-set (at .answers) (at .count) _ room)
+          (sym (turn-answered _ _ _ _ _ _ _ _ left asked) ∙ at .inv .2),
+    )
 
 returns-2 : tie.Need-returns-2 Inv-loop μ-loop
 unfolding instructionFrom

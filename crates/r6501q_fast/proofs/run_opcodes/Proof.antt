@@ -12,7 +12,8 @@ use Rattle.bits.proofs.Cond.{and-left}
 use Rattle.cpu.specs.Quiet.{WithinSpan}
 use Rattle.r6501q_spans.proofs.Ends.{either-false}
 use Rattle.r6501q_fast.specs.Attempts.{Tries, InTurn, none}
-use Rattle.r6501q_fast.proofs.Turns.{starts-within, try-within, try-goes, try-less, shared-most, start-fits, two-fit}
+use Rattle.r6501q_fast.proofs.Turns.{starts-within, try-within, try-goes, try-less, shared-most, start-fits}
+use Rattle.r6501q_fast.proofs.Turns.{two-fit}
 use Rattle.r6501q_fast.proofs.run_opcodes.Statement.{statement}
 use Rattle.r6501q_fast.proofs.run_opcodes.Tie as tie
 
@@ -38,7 +39,9 @@ same-length c = c .before .before .before .before .before .before .loop .inv .3
 same-length-2 : tie.Need-same-length-2 Inv-loop μ-loop
 same-length-2 c =
     let at = c .before .before .before .before .before .before .before .before .before .before .args in
-    ap length (c .before .before .before .before .before .before .loop .inv .2) ∙ sums-length 0 (now (at .sums)) (now (at .memory)) (c .before .before .before .before .before .before .loop .memory)
+    ap length (c .before .before .before .before .before .before .loop .inv .2)
+    ∙ sums-length 0 (now (at .sums)) (now (at .memory))
+    (c .before .before .before .before .before .before .loop .memory)
 
 returns : tie.Need-returns Inv-loop μ-loop
 returns c =
@@ -48,199 +51,405 @@ returns c =
 row-0-requires : tie.Need-row-0-requires Inv-loop μ-loop
 row-0-requires c κs =
     let loop = c .before .before .before .before .before .before .before .before .before .before .before .loop in
-    let at = c .before .before .before .before .before .before .before .before .before .before .before .before .before .before .before .args in
-    let within = starts-within (loop .on) (loop .w) (at .span .0) (c .before .before .before .before .before .before .before .if1 .taken) in
-    let free = either-false (c .before .before .before .before .before .before .is-register .result) _ (c .before .before .before .before .before .if2 .left) .0 in
-    ((within, loop .inv .0 .leaps), (sym (c .before .before .before .before .before .before .is-register .ensures) ∙ free, sym (c .before .before .before .memory-byte .ensures)))
+    let at =
+    c .before .before .before .before .before .before .before .before .before .before .before .before .before .before
+    .before .args in
+    let within = starts-within (loop .on) (loop .w) (at .span .0)
+    (c .before .before .before .before .before .before .before .if1 .taken) in
+    let free = either-false (c .before .before .before .before .before .before .is-register .result) _
+    (c .before .before .before .before .before .if2 .left) .0 in (
+      (within, loop .inv .0 .leaps),
+      (
+        sym (c .before .before .before .before .before .before .is-register .ensures) ∙ free,
+        sym (c .before .before .before .memory-byte .ensures),
+      ),
+    )
 
 row-1-requires : tie.Need-row-1-requires Inv-loop μ-loop
 row-1-requires c κs =
     let loop = c .before .before .before .before .before .before .before .before .before .before .before .loop in
-    let at = c .before .before .before .before .before .before .before .before .before .before .before .before .before .before .before .args in
-    let within = starts-within (loop .on) (loop .w) (at .span .0) (c .before .before .before .before .before .before .before .if1 .taken) in
-    let free = either-false (c .before .before .before .before .before .before .is-register .result) _ (c .before .before .before .before .before .if2 .left) .0 in
-    ((within, loop .inv .0 .leaps), (sym (c .before .before .before .before .before .before .is-register .ensures) ∙ free, sym (c .before .before .before .memory-byte .ensures)))
+    let at =
+    c .before .before .before .before .before .before .before .before .before .before .before .before .before .before
+    .before .args in
+    let within = starts-within (loop .on) (loop .w) (at .span .0)
+    (c .before .before .before .before .before .before .before .if1 .taken) in
+    let free = either-false (c .before .before .before .before .before .before .is-register .result) _
+    (c .before .before .before .before .before .if2 .left) .0 in (
+      (within, loop .inv .0 .leaps),
+      (
+        sym (c .before .before .before .before .before .before .is-register .ensures) ∙ free,
+        sym (c .before .before .before .memory-byte .ensures),
+      ),
+    )
 
 row-2-requires : tie.Need-row-2-requires Inv-loop μ-loop
 row-2-requires c κs =
     let loop = c .before .before .before .before .before .before .before .before .before .before .before .loop in
-    let at = c .before .before .before .before .before .before .before .before .before .before .before .before .before .before .before .args in
-    let within = starts-within (loop .on) (loop .w) (at .span .0) (c .before .before .before .before .before .before .before .if1 .taken) in
-    let free = either-false (c .before .before .before .before .before .before .is-register .result) _ (c .before .before .before .before .before .if2 .left) .0 in
-    ((within, loop .inv .0 .leaps), (sym (c .before .before .before .before .before .before .is-register .ensures) ∙ free, sym (c .before .before .before .memory-byte .ensures)))
+    let at =
+    c .before .before .before .before .before .before .before .before .before .before .before .before .before .before
+    .before .args in
+    let within = starts-within (loop .on) (loop .w) (at .span .0)
+    (c .before .before .before .before .before .before .before .if1 .taken) in
+    let free = either-false (c .before .before .before .before .before .before .is-register .result) _
+    (c .before .before .before .before .before .if2 .left) .0 in (
+      (within, loop .inv .0 .leaps),
+      (
+        sym (c .before .before .before .before .before .before .is-register .ensures) ∙ free,
+        sym (c .before .before .before .memory-byte .ensures),
+      ),
+    )
 
 row-3-requires : tie.Need-row-3-requires Inv-loop μ-loop
 row-3-requires c κs =
     let loop = c .before .before .before .before .before .before .before .before .before .before .before .loop in
-    let at = c .before .before .before .before .before .before .before .before .before .before .before .before .before .before .before .args in
-    let within = starts-within (loop .on) (loop .w) (at .span .0) (c .before .before .before .before .before .before .before .if1 .taken) in
-    let free = either-false (c .before .before .before .before .before .before .is-register .result) _ (c .before .before .before .before .before .if2 .left) .0 in
-    ((within, loop .inv .0 .leaps), (sym (c .before .before .before .before .before .before .is-register .ensures) ∙ free, sym (c .before .before .before .memory-byte .ensures)))
+    let at =
+    c .before .before .before .before .before .before .before .before .before .before .before .before .before .before
+    .before .args in
+    let within = starts-within (loop .on) (loop .w) (at .span .0)
+    (c .before .before .before .before .before .before .before .if1 .taken) in
+    let free = either-false (c .before .before .before .before .before .before .is-register .result) _
+    (c .before .before .before .before .before .if2 .left) .0 in (
+      (within, loop .inv .0 .leaps),
+      (
+        sym (c .before .before .before .before .before .before .is-register .ensures) ∙ free,
+        sym (c .before .before .before .memory-byte .ensures),
+      ),
+    )
 
 row-4-requires : tie.Need-row-4-requires Inv-loop μ-loop
 row-4-requires c κs =
     let loop = c .before .before .before .before .before .before .before .before .before .before .before .loop in
-    let at = c .before .before .before .before .before .before .before .before .before .before .before .before .before .before .before .args in
-    let within = starts-within (loop .on) (loop .w) (at .span .0) (c .before .before .before .before .before .before .before .if1 .taken) in
-    let free = either-false (c .before .before .before .before .before .before .is-register .result) _ (c .before .before .before .before .before .if2 .left) .0 in
-    ((within, loop .inv .0 .leaps), (sym (c .before .before .before .before .before .before .is-register .ensures) ∙ free, sym (c .before .before .before .memory-byte .ensures)))
+    let at =
+    c .before .before .before .before .before .before .before .before .before .before .before .before .before .before
+    .before .args in
+    let within = starts-within (loop .on) (loop .w) (at .span .0)
+    (c .before .before .before .before .before .before .before .if1 .taken) in
+    let free = either-false (c .before .before .before .before .before .before .is-register .result) _
+    (c .before .before .before .before .before .if2 .left) .0 in (
+      (within, loop .inv .0 .leaps),
+      (
+        sym (c .before .before .before .before .before .before .is-register .ensures) ∙ free,
+        sym (c .before .before .before .memory-byte .ensures),
+      ),
+    )
 
 row-5-requires : tie.Need-row-5-requires Inv-loop μ-loop
 row-5-requires c κs =
     let loop = c .before .before .before .before .before .before .before .before .before .before .before .loop in
-    let at = c .before .before .before .before .before .before .before .before .before .before .before .before .before .before .before .args in
-    let within = starts-within (loop .on) (loop .w) (at .span .0) (c .before .before .before .before .before .before .before .if1 .taken) in
-    let free = either-false (c .before .before .before .before .before .before .is-register .result) _ (c .before .before .before .before .before .if2 .left) .0 in
-    ((within, loop .inv .0 .leaps), (sym (c .before .before .before .before .before .before .is-register .ensures) ∙ free, sym (c .before .before .before .memory-byte .ensures)))
+    let at =
+    c .before .before .before .before .before .before .before .before .before .before .before .before .before .before
+    .before .args in
+    let within = starts-within (loop .on) (loop .w) (at .span .0)
+    (c .before .before .before .before .before .before .before .if1 .taken) in
+    let free = either-false (c .before .before .before .before .before .before .is-register .result) _
+    (c .before .before .before .before .before .if2 .left) .0 in (
+      (within, loop .inv .0 .leaps),
+      (
+        sym (c .before .before .before .before .before .before .is-register .ensures) ∙ free,
+        sym (c .before .before .before .memory-byte .ensures),
+      ),
+    )
 
 row-6-requires : tie.Need-row-6-requires Inv-loop μ-loop
 row-6-requires c κs =
     let loop = c .before .before .before .before .before .before .before .before .before .before .before .loop in
-    let at = c .before .before .before .before .before .before .before .before .before .before .before .before .before .before .before .args in
-    let within = starts-within (loop .on) (loop .w) (at .span .0) (c .before .before .before .before .before .before .before .if1 .taken) in
-    let free = either-false (c .before .before .before .before .before .before .is-register .result) _ (c .before .before .before .before .before .if2 .left) .0 in
-    ((within, loop .inv .0 .leaps), (sym (c .before .before .before .before .before .before .is-register .ensures) ∙ free, sym (c .before .before .before .memory-byte .ensures)))
+    let at =
+    c .before .before .before .before .before .before .before .before .before .before .before .before .before .before
+    .before .args in
+    let within = starts-within (loop .on) (loop .w) (at .span .0)
+    (c .before .before .before .before .before .before .before .if1 .taken) in
+    let free = either-false (c .before .before .before .before .before .before .is-register .result) _
+    (c .before .before .before .before .before .if2 .left) .0 in (
+      (within, loop .inv .0 .leaps),
+      (
+        sym (c .before .before .before .before .before .before .is-register .ensures) ∙ free,
+        sym (c .before .before .before .memory-byte .ensures),
+      ),
+    )
 
 row-7-requires : tie.Need-row-7-requires Inv-loop μ-loop
 row-7-requires c κs =
     let loop = c .before .before .before .before .before .before .before .before .before .before .before .loop in
-    let at = c .before .before .before .before .before .before .before .before .before .before .before .before .before .before .before .args in
-    let within = starts-within (loop .on) (loop .w) (at .span .0) (c .before .before .before .before .before .before .before .if1 .taken) in
-    let free = either-false (c .before .before .before .before .before .before .is-register .result) _ (c .before .before .before .before .before .if2 .left) .0 in
-    ((within, loop .inv .0 .leaps), (sym (c .before .before .before .before .before .before .is-register .ensures) ∙ free, sym (c .before .before .before .memory-byte .ensures)))
+    let at =
+    c .before .before .before .before .before .before .before .before .before .before .before .before .before .before
+    .before .args in
+    let within = starts-within (loop .on) (loop .w) (at .span .0)
+    (c .before .before .before .before .before .before .before .if1 .taken) in
+    let free = either-false (c .before .before .before .before .before .before .is-register .result) _
+    (c .before .before .before .before .before .if2 .left) .0 in (
+      (within, loop .inv .0 .leaps),
+      (
+        sym (c .before .before .before .before .before .before .is-register .ensures) ∙ free,
+        sym (c .before .before .before .memory-byte .ensures),
+      ),
+    )
 
 row-8-requires : tie.Need-row-8-requires Inv-loop μ-loop
 row-8-requires c κs =
     let loop = c .before .before .before .before .before .before .before .before .before .before .before .loop in
-    let at = c .before .before .before .before .before .before .before .before .before .before .before .before .before .before .before .args in
-    let within = starts-within (loop .on) (loop .w) (at .span .0) (c .before .before .before .before .before .before .before .if1 .taken) in
-    let free = either-false (c .before .before .before .before .before .before .is-register .result) _ (c .before .before .before .before .before .if2 .left) .0 in
-    ((within, loop .inv .0 .leaps), (sym (c .before .before .before .before .before .before .is-register .ensures) ∙ free, sym (c .before .before .before .memory-byte .ensures)))
+    let at =
+    c .before .before .before .before .before .before .before .before .before .before .before .before .before .before
+    .before .args in
+    let within = starts-within (loop .on) (loop .w) (at .span .0)
+    (c .before .before .before .before .before .before .before .if1 .taken) in
+    let free = either-false (c .before .before .before .before .before .before .is-register .result) _
+    (c .before .before .before .before .before .if2 .left) .0 in (
+      (within, loop .inv .0 .leaps),
+      (
+        sym (c .before .before .before .before .before .before .is-register .ensures) ∙ free,
+        sym (c .before .before .before .memory-byte .ensures),
+      ),
+    )
 
 row-9-requires : tie.Need-row-9-requires Inv-loop μ-loop
 row-9-requires c κs =
     let loop = c .before .before .before .before .before .before .before .before .before .before .before .loop in
-    let at = c .before .before .before .before .before .before .before .before .before .before .before .before .before .before .before .args in
-    let within = starts-within (loop .on) (loop .w) (at .span .0) (c .before .before .before .before .before .before .before .if1 .taken) in
-    let free = either-false (c .before .before .before .before .before .before .is-register .result) _ (c .before .before .before .before .before .if2 .left) .0 in
-    ((within, loop .inv .0 .leaps), (sym (c .before .before .before .before .before .before .is-register .ensures) ∙ free, sym (c .before .before .before .memory-byte .ensures)))
+    let at =
+    c .before .before .before .before .before .before .before .before .before .before .before .before .before .before
+    .before .args in
+    let within = starts-within (loop .on) (loop .w) (at .span .0)
+    (c .before .before .before .before .before .before .before .if1 .taken) in
+    let free = either-false (c .before .before .before .before .before .before .is-register .result) _
+    (c .before .before .before .before .before .if2 .left) .0 in (
+      (within, loop .inv .0 .leaps),
+      (
+        sym (c .before .before .before .before .before .before .is-register .ensures) ∙ free,
+        sym (c .before .before .before .memory-byte .ensures),
+      ),
+    )
 
 row-a-requires : tie.Need-row-a-requires Inv-loop μ-loop
 row-a-requires c κs =
     let loop = c .before .before .before .before .before .before .before .before .before .before .before .loop in
-    let at = c .before .before .before .before .before .before .before .before .before .before .before .before .before .before .before .args in
-    let within = starts-within (loop .on) (loop .w) (at .span .0) (c .before .before .before .before .before .before .before .if1 .taken) in
-    let free = either-false (c .before .before .before .before .before .before .is-register .result) _ (c .before .before .before .before .before .if2 .left) .0 in
-    ((within, loop .inv .0 .leaps), (sym (c .before .before .before .before .before .before .is-register .ensures) ∙ free, sym (c .before .before .before .memory-byte .ensures)))
+    let at =
+    c .before .before .before .before .before .before .before .before .before .before .before .before .before .before
+    .before .args in
+    let within = starts-within (loop .on) (loop .w) (at .span .0)
+    (c .before .before .before .before .before .before .before .if1 .taken) in
+    let free = either-false (c .before .before .before .before .before .before .is-register .result) _
+    (c .before .before .before .before .before .if2 .left) .0 in (
+      (within, loop .inv .0 .leaps),
+      (
+        sym (c .before .before .before .before .before .before .is-register .ensures) ∙ free,
+        sym (c .before .before .before .memory-byte .ensures),
+      ),
+    )
 
 row-b-requires : tie.Need-row-b-requires Inv-loop μ-loop
 row-b-requires c κs =
     let loop = c .before .before .before .before .before .before .before .before .before .before .before .loop in
-    let at = c .before .before .before .before .before .before .before .before .before .before .before .before .before .before .before .args in
-    let within = starts-within (loop .on) (loop .w) (at .span .0) (c .before .before .before .before .before .before .before .if1 .taken) in
-    let free = either-false (c .before .before .before .before .before .before .is-register .result) _ (c .before .before .before .before .before .if2 .left) .0 in
-    ((within, loop .inv .0 .leaps), (sym (c .before .before .before .before .before .before .is-register .ensures) ∙ free, sym (c .before .before .before .memory-byte .ensures)))
+    let at =
+    c .before .before .before .before .before .before .before .before .before .before .before .before .before .before
+    .before .args in
+    let within = starts-within (loop .on) (loop .w) (at .span .0)
+    (c .before .before .before .before .before .before .before .if1 .taken) in
+    let free = either-false (c .before .before .before .before .before .before .is-register .result) _
+    (c .before .before .before .before .before .if2 .left) .0 in (
+      (within, loop .inv .0 .leaps),
+      (
+        sym (c .before .before .before .before .before .before .is-register .ensures) ∙ free,
+        sym (c .before .before .before .memory-byte .ensures),
+      ),
+    )
 
 row-c-requires : tie.Need-row-c-requires Inv-loop μ-loop
 row-c-requires c κs =
     let loop = c .before .before .before .before .before .before .before .before .before .before .before .loop in
-    let at = c .before .before .before .before .before .before .before .before .before .before .before .before .before .before .before .args in
-    let within = starts-within (loop .on) (loop .w) (at .span .0) (c .before .before .before .before .before .before .before .if1 .taken) in
-    let free = either-false (c .before .before .before .before .before .before .is-register .result) _ (c .before .before .before .before .before .if2 .left) .0 in
-    ((within, loop .inv .0 .leaps), (sym (c .before .before .before .before .before .before .is-register .ensures) ∙ free, sym (c .before .before .before .memory-byte .ensures)))
+    let at =
+    c .before .before .before .before .before .before .before .before .before .before .before .before .before .before
+    .before .args in
+    let within = starts-within (loop .on) (loop .w) (at .span .0)
+    (c .before .before .before .before .before .before .before .if1 .taken) in
+    let free = either-false (c .before .before .before .before .before .before .is-register .result) _
+    (c .before .before .before .before .before .if2 .left) .0 in (
+      (within, loop .inv .0 .leaps),
+      (
+        sym (c .before .before .before .before .before .before .is-register .ensures) ∙ free,
+        sym (c .before .before .before .memory-byte .ensures),
+      ),
+    )
 
 row-d-requires : tie.Need-row-d-requires Inv-loop μ-loop
 row-d-requires c κs =
     let loop = c .before .before .before .before .before .before .before .before .before .before .before .loop in
-    let at = c .before .before .before .before .before .before .before .before .before .before .before .before .before .before .before .args in
-    let within = starts-within (loop .on) (loop .w) (at .span .0) (c .before .before .before .before .before .before .before .if1 .taken) in
-    let free = either-false (c .before .before .before .before .before .before .is-register .result) _ (c .before .before .before .before .before .if2 .left) .0 in
-    ((within, loop .inv .0 .leaps), (sym (c .before .before .before .before .before .before .is-register .ensures) ∙ free, sym (c .before .before .before .memory-byte .ensures)))
+    let at =
+    c .before .before .before .before .before .before .before .before .before .before .before .before .before .before
+    .before .args in
+    let within = starts-within (loop .on) (loop .w) (at .span .0)
+    (c .before .before .before .before .before .before .before .if1 .taken) in
+    let free = either-false (c .before .before .before .before .before .before .is-register .result) _
+    (c .before .before .before .before .before .if2 .left) .0 in (
+      (within, loop .inv .0 .leaps),
+      (
+        sym (c .before .before .before .before .before .before .is-register .ensures) ∙ free,
+        sym (c .before .before .before .memory-byte .ensures),
+      ),
+    )
 
 row-e-requires : tie.Need-row-e-requires Inv-loop μ-loop
 row-e-requires c κs =
     let loop = c .before .before .before .before .before .before .before .before .before .before .before .loop in
-    let at = c .before .before .before .before .before .before .before .before .before .before .before .before .before .before .before .args in
-    let within = starts-within (loop .on) (loop .w) (at .span .0) (c .before .before .before .before .before .before .before .if1 .taken) in
-    let free = either-false (c .before .before .before .before .before .before .is-register .result) _ (c .before .before .before .before .before .if2 .left) .0 in
-    ((within, loop .inv .0 .leaps), (sym (c .before .before .before .before .before .before .is-register .ensures) ∙ free, sym (c .before .before .before .memory-byte .ensures)))
+    let at =
+    c .before .before .before .before .before .before .before .before .before .before .before .before .before .before
+    .before .args in
+    let within = starts-within (loop .on) (loop .w) (at .span .0)
+    (c .before .before .before .before .before .before .before .if1 .taken) in
+    let free = either-false (c .before .before .before .before .before .before .is-register .result) _
+    (c .before .before .before .before .before .if2 .left) .0 in (
+      (within, loop .inv .0 .leaps),
+      (
+        sym (c .before .before .before .before .before .before .is-register .ensures) ∙ free,
+        sym (c .before .before .before .memory-byte .ensures),
+      ),
+    )
 
 row-f-requires : tie.Need-row-f-requires Inv-loop μ-loop
 row-f-requires c κs =
     let loop = c .before .before .before .before .before .before .before .before .before .before .before .loop in
-    let at = c .before .before .before .before .before .before .before .before .before .before .before .before .before .before .before .args in
-    let within = starts-within (loop .on) (loop .w) (at .span .0) (c .before .before .before .before .before .before .before .if1 .taken) in
-    let free = either-false (c .before .before .before .before .before .before .is-register .result) _ (c .before .before .before .before .before .if2 .left) .0 in
-    ((within, loop .inv .0 .leaps), (sym (c .before .before .before .before .before .before .is-register .ensures) ∙ free, sym (c .before .before .before .memory-byte .ensures)))
+    let at =
+    c .before .before .before .before .before .before .before .before .before .before .before .before .before .before
+    .before .args in
+    let within = starts-within (loop .on) (loop .w) (at .span .0)
+    (c .before .before .before .before .before .before .before .if1 .taken) in
+    let free = either-false (c .before .before .before .before .before .before .is-register .result) _
+    (c .before .before .before .before .before .if2 .left) .0 in (
+      (within, loop .inv .0 .leaps),
+      (
+        sym (c .before .before .before .before .before .before .is-register .ensures) ∙ free,
+        sym (c .before .before .before .memory-byte .ensures),
+      ),
+    )
 
 next-start-requires : tie.Need-next-start-requires Inv-loop μ-loop
 next-start-requires c κs =
     let loop = c .before .before .before .before .before .before .before .before .before .loop in
-    let root = c .before .before .before .before .before .before .before .before .before .before .before .before .before in
-    start-fits (loop .w) (root .args .span .0) (starts-within (loop .on) (loop .w) (root .args .span .0) (c .before .before .before .before .before .if1 .taken)) (root .pre .1 .0)
+    let root =
+    c .before .before .before .before .before .before .before .before .before .before .before .before .before in
+    start-fits (loop .w) (root .args .span .0)
+    (starts-within (loop .on) (loop .w) (root .args .span .0) (c .before .before .before .before .before .if1 .taken))
+    (root .pre .1 .0)
 
 with-shared-requires : tie.Need-with-shared-requires Inv-loop μ-loop
 with-shared-requires c κs =
     let loop = c .before .before .before .before .before .before .before .before .before .before .loop in
-    let root = c .before .before .before .before .before .before .before .before .before .before .before .before .before .before in
+    let root =
+    c .before .before .before .before .before .before .before .before .before .before .before .before .before .before in
     let at = root .args in
-    let most = shared-most (at .halt) (at .span .0) (at .ticking) (c .before .before .before .before .before .before .before .before .before .before .before .same-work .result) (now (at .memory)) (loop .inv .1) in
+    let most = shared-most (at .halt) (at .span .0) (at .ticking)
+    (c .before .before .before .before .before .before .before .before .before .before .before .same-work .result)
+    (now (at .memory)) (loop .inv .1) in
     (root .pre .1 .1, two-fit (loop .shared) _ _ (at .span .0) most (loop .inv .0 .gone) (root .pre .1 .0))
 
 loop-less : tie.Need-loop-less Inv-loop μ-loop
 loop-less c =
-    let loop = c .before .before .before .before .before .before .before .before .before .before .before .before .loop in
-    let at = c .before .before .before .before .before .before .before .before .before .before .before .before .before .before .before .before .args in
+    let loop =
+    c .before .before .before .before .before .before .before .before .before .before .before .before .loop in
+    let at =
+    c .before .before .before .before .before .before .before .before .before .before .before .before .before .before
+    .before .before .args in
     let m = c .before .before .before .match in
-    let start = c .before .before .before .before .before .before .before .before .before .before .before .before .before .same-work .result in
+    let start =
+    c .before .before .before .before .before .before .before .before .before .before .before .before .before
+    .same-work .result in
     let step : Tries (at .halt) (at .span .0) (loop .w) (loop .memory) (m .tried) (m .memory)
     × (m .sums ≡ sumsAfter (loop .sums) (loop .memory) (m .memory)) × (length (m .memory) ≡ length (loop .memory)) =
-    ⊎-elim (λ a. (rw (a .8, a .10) (a .3 .ensures .0), rw (a .8, a .9) (a .3 .ensures .1), rw (a .8) (a .3 .kept .1 .1 .0)))
-    (⊎-elim (λ a. (rw (a .8, a .10) (a .3 .ensures .0), rw (a .8, a .9) (a .3 .ensures .1), rw (a .8) (a .3 .kept .1 .1 .0)))
-    (⊎-elim (λ a. (rw (a .8, a .10) (a .3 .ensures .0), rw (a .8, a .9) (a .3 .ensures .1), rw (a .8) (a .3 .kept .1 .1 .0)))
-    (⊎-elim (λ a. (rw (a .8, a .10) (a .3 .ensures .0), rw (a .8, a .9) (a .3 .ensures .1), rw (a .8) (a .3 .kept .1 .1 .0)))
-    (⊎-elim (λ a. (rw (a .8, a .10) (a .3 .ensures .0), rw (a .8, a .9) (a .3 .ensures .1), rw (a .8) (a .3 .kept .1 .1 .0)))
-    (⊎-elim (λ a. (rw (a .8, a .10) (a .3 .ensures .0), rw (a .8, a .9) (a .3 .ensures .1), rw (a .8) (a .3 .kept .1 .1 .0)))
-    (⊎-elim (λ a. (rw (a .8, a .10) (a .3 .ensures .0), rw (a .8, a .9) (a .3 .ensures .1), rw (a .8) (a .3 .kept .1 .1 .0)))
-    (⊎-elim (λ a. (rw (a .8, a .10) (a .3 .ensures .0), rw (a .8, a .9) (a .3 .ensures .1), rw (a .8) (a .3 .kept .1 .1 .0)))
-    (⊎-elim (λ a. (rw (a .8, a .10) (a .3 .ensures .0), rw (a .8, a .9) (a .3 .ensures .1), rw (a .8) (a .3 .kept .1 .1 .0)))
-    (⊎-elim (λ a. (rw (a .8, a .10) (a .3 .ensures .0), rw (a .8, a .9) (a .3 .ensures .1), rw (a .8) (a .3 .kept .1 .1 .0)))
-    (⊎-elim (λ a. (rw (a .8, a .10) (a .3 .ensures .0), rw (a .8, a .9) (a .3 .ensures .1), rw (a .8) (a .3 .kept .1 .1 .0)))
-    (⊎-elim (λ a. (rw (a .8, a .10) (a .3 .ensures .0), rw (a .8, a .9) (a .3 .ensures .1), rw (a .8) (a .3 .kept .1 .1 .0)))
-    (⊎-elim (λ a. (rw (a .8, a .10) (a .3 .ensures .0), rw (a .8, a .9) (a .3 .ensures .1), rw (a .8) (a .3 .kept .1 .1 .0)))
-    (⊎-elim (λ a. (rw (a .8, a .10) (a .3 .ensures .0), rw (a .8, a .9) (a .3 .ensures .1), rw (a .8) (a .3 .kept .1 .1 .0)))
-    (⊎-elim (λ a. (rw (a .8, a .10) (a .3 .ensures .0), rw (a .8, a .9) (a .3 .ensures .1), rw (a .8) (a .3 .kept .1 .1 .0)))
-    (λ a. (rw (a .8, a .10) (a .3 .ensures .0), rw (a .8, a .9) (a .3 .ensures .1), rw (a .8) (a .3 .kept .1 .1 .0))))))))))))))))) (m .came) in
-    let within = starts-within (loop .on) (loop .w) (at .span .0) (c .before .before .before .before .before .before .before .before .if1 .taken) in
-    rw (c .same-work2 .ensures, and-left (loop .on) _ (c .before .before .before .before .before .before .before .before .if1 .taken))
-    (try-less (at .halt) (at .span .0) (at .ticking) start (now (at .memory)) (loop .w) (loop .memory) (m .tried) (m .memory) within (step .0))
+    ⊎-elim
+    (λ a. (rw (a .8, a .10) (a .3 .ensures .0), rw (a .8, a .9) (a .3 .ensures .1), rw (a .8) (a .3 .kept .1 .1 .0)))
+    (⊎-elim
+    (λ a. (rw (a .8, a .10) (a .3 .ensures .0), rw (a .8, a .9) (a .3 .ensures .1), rw (a .8) (a .3 .kept .1 .1 .0)))
+    (⊎-elim
+    (λ a. (rw (a .8, a .10) (a .3 .ensures .0), rw (a .8, a .9) (a .3 .ensures .1), rw (a .8) (a .3 .kept .1 .1 .0)))
+    (⊎-elim
+    (λ a. (rw (a .8, a .10) (a .3 .ensures .0), rw (a .8, a .9) (a .3 .ensures .1), rw (a .8) (a .3 .kept .1 .1 .0)))
+    (⊎-elim
+    (λ a. (rw (a .8, a .10) (a .3 .ensures .0), rw (a .8, a .9) (a .3 .ensures .1), rw (a .8) (a .3 .kept .1 .1 .0)))
+    (⊎-elim
+    (λ a. (rw (a .8, a .10) (a .3 .ensures .0), rw (a .8, a .9) (a .3 .ensures .1), rw (a .8) (a .3 .kept .1 .1 .0)))
+    (⊎-elim
+    (λ a. (rw (a .8, a .10) (a .3 .ensures .0), rw (a .8, a .9) (a .3 .ensures .1), rw (a .8) (a .3 .kept .1 .1 .0)))
+    (⊎-elim
+    (λ a. (rw (a .8, a .10) (a .3 .ensures .0), rw (a .8, a .9) (a .3 .ensures .1), rw (a .8) (a .3 .kept .1 .1 .0)))
+    (⊎-elim
+    (λ a. (rw (a .8, a .10) (a .3 .ensures .0), rw (a .8, a .9) (a .3 .ensures .1), rw (a .8) (a .3 .kept .1 .1 .0)))
+    (⊎-elim
+    (λ a. (rw (a .8, a .10) (a .3 .ensures .0), rw (a .8, a .9) (a .3 .ensures .1), rw (a .8) (a .3 .kept .1 .1 .0)))
+    (⊎-elim
+    (λ a. (rw (a .8, a .10) (a .3 .ensures .0), rw (a .8, a .9) (a .3 .ensures .1), rw (a .8) (a .3 .kept .1 .1 .0)))
+    (⊎-elim
+    (λ a. (rw (a .8, a .10) (a .3 .ensures .0), rw (a .8, a .9) (a .3 .ensures .1), rw (a .8) (a .3 .kept .1 .1 .0)))
+    (⊎-elim
+    (λ a. (rw (a .8, a .10) (a .3 .ensures .0), rw (a .8, a .9) (a .3 .ensures .1), rw (a .8) (a .3 .kept .1 .1 .0)))
+    (⊎-elim
+    (λ a. (rw (a .8, a .10) (a .3 .ensures .0), rw (a .8, a .9) (a .3 .ensures .1), rw (a .8) (a .3 .kept .1 .1 .0)))
+    (⊎-elim
+    (λ a. (rw (a .8, a .10) (a .3 .ensures .0), rw (a .8, a .9) (a .3 .ensures .1), rw (a .8) (a .3 .kept .1 .1 .0)))
+    (λ a. (
+      rw (a .8, a .10) (a .3 .ensures .0),
+      rw (a .8, a .9) (a .3 .ensures .1),
+      rw (a .8) (a .3 .kept .1 .1 .0),
+    )))))))))))))))) (m .came) in
+    let within = starts-within (loop .on) (loop .w) (at .span .0)
+    (c .before .before .before .before .before .before .before .before .if1 .taken) in
+    rw (
+      c .same-work2 .ensures,
+      and-left (loop .on) _ (c .before .before .before .before .before .before .before .before .if1 .taken),
+    )
+    (try-less (at .halt) (at .span .0) (at .ticking) start (now (at .memory)) (loop .w) (loop .memory) (m .tried)
+    (m .memory) within (step .0))
 
 loop-again : tie.Need-loop-again Inv-loop μ-loop
 loop-again c =
-    let loop = c .before .before .before .before .before .before .before .before .before .before .before .before .loop in
-    let at = c .before .before .before .before .before .before .before .before .before .before .before .before .before .before .before .before .args in
+    let loop =
+    c .before .before .before .before .before .before .before .before .before .before .before .before .loop in
+    let at =
+    c .before .before .before .before .before .before .before .before .before .before .before .before .before .before
+    .before .before .args in
     let m = c .before .before .before .match in
-    let start = c .before .before .before .before .before .before .before .before .before .before .before .before .before .same-work .result in
+    let start =
+    c .before .before .before .before .before .before .before .before .before .before .before .before .before
+    .same-work .result in
     let step : Tries (at .halt) (at .span .0) (loop .w) (loop .memory) (m .tried) (m .memory)
     × (m .sums ≡ sumsAfter (loop .sums) (loop .memory) (m .memory)) × (length (m .memory) ≡ length (loop .memory)) =
-    ⊎-elim (λ a. (rw (a .8, a .10) (a .3 .ensures .0), rw (a .8, a .9) (a .3 .ensures .1), rw (a .8) (a .3 .kept .1 .1 .0)))
-    (⊎-elim (λ a. (rw (a .8, a .10) (a .3 .ensures .0), rw (a .8, a .9) (a .3 .ensures .1), rw (a .8) (a .3 .kept .1 .1 .0)))
-    (⊎-elim (λ a. (rw (a .8, a .10) (a .3 .ensures .0), rw (a .8, a .9) (a .3 .ensures .1), rw (a .8) (a .3 .kept .1 .1 .0)))
-    (⊎-elim (λ a. (rw (a .8, a .10) (a .3 .ensures .0), rw (a .8, a .9) (a .3 .ensures .1), rw (a .8) (a .3 .kept .1 .1 .0)))
-    (⊎-elim (λ a. (rw (a .8, a .10) (a .3 .ensures .0), rw (a .8, a .9) (a .3 .ensures .1), rw (a .8) (a .3 .kept .1 .1 .0)))
-    (⊎-elim (λ a. (rw (a .8, a .10) (a .3 .ensures .0), rw (a .8, a .9) (a .3 .ensures .1), rw (a .8) (a .3 .kept .1 .1 .0)))
-    (⊎-elim (λ a. (rw (a .8, a .10) (a .3 .ensures .0), rw (a .8, a .9) (a .3 .ensures .1), rw (a .8) (a .3 .kept .1 .1 .0)))
-    (⊎-elim (λ a. (rw (a .8, a .10) (a .3 .ensures .0), rw (a .8, a .9) (a .3 .ensures .1), rw (a .8) (a .3 .kept .1 .1 .0)))
-    (⊎-elim (λ a. (rw (a .8, a .10) (a .3 .ensures .0), rw (a .8, a .9) (a .3 .ensures .1), rw (a .8) (a .3 .kept .1 .1 .0)))
-    (⊎-elim (λ a. (rw (a .8, a .10) (a .3 .ensures .0), rw (a .8, a .9) (a .3 .ensures .1), rw (a .8) (a .3 .kept .1 .1 .0)))
-    (⊎-elim (λ a. (rw (a .8, a .10) (a .3 .ensures .0), rw (a .8, a .9) (a .3 .ensures .1), rw (a .8) (a .3 .kept .1 .1 .0)))
-    (⊎-elim (λ a. (rw (a .8, a .10) (a .3 .ensures .0), rw (a .8, a .9) (a .3 .ensures .1), rw (a .8) (a .3 .kept .1 .1 .0)))
-    (⊎-elim (λ a. (rw (a .8, a .10) (a .3 .ensures .0), rw (a .8, a .9) (a .3 .ensures .1), rw (a .8) (a .3 .kept .1 .1 .0)))
-    (⊎-elim (λ a. (rw (a .8, a .10) (a .3 .ensures .0), rw (a .8, a .9) (a .3 .ensures .1), rw (a .8) (a .3 .kept .1 .1 .0)))
-    (⊎-elim (λ a. (rw (a .8, a .10) (a .3 .ensures .0), rw (a .8, a .9) (a .3 .ensures .1), rw (a .8) (a .3 .kept .1 .1 .0)))
-    (λ a. (rw (a .8, a .10) (a .3 .ensures .0), rw (a .8, a .9) (a .3 .ensures .1), rw (a .8) (a .3 .kept .1 .1 .0))))))))))))))))) (m .came) in (
-      rw (c .same-work2 .ensures) (try-within (at .halt) (at .span .0) (at .ticking) start (now (at .memory)) (loop .w) (loop .memory) (m .tried) (m .memory) (loop .inv .0) (step .0)),
-      rw (c .same-work2 .ensures, c .before .with-shared .ensures, c .before .before .next-start .ensures) (try-goes (at .halt) (at .span .0) (at .ticking) start (now (at .memory)) (loop .w) (loop .memory) (loop .shared) (m .tried) (m .memory) (loop .inv .1) (step .0)),
+    ⊎-elim
+    (λ a. (rw (a .8, a .10) (a .3 .ensures .0), rw (a .8, a .9) (a .3 .ensures .1), rw (a .8) (a .3 .kept .1 .1 .0)))
+    (⊎-elim
+    (λ a. (rw (a .8, a .10) (a .3 .ensures .0), rw (a .8, a .9) (a .3 .ensures .1), rw (a .8) (a .3 .kept .1 .1 .0)))
+    (⊎-elim
+    (λ a. (rw (a .8, a .10) (a .3 .ensures .0), rw (a .8, a .9) (a .3 .ensures .1), rw (a .8) (a .3 .kept .1 .1 .0)))
+    (⊎-elim
+    (λ a. (rw (a .8, a .10) (a .3 .ensures .0), rw (a .8, a .9) (a .3 .ensures .1), rw (a .8) (a .3 .kept .1 .1 .0)))
+    (⊎-elim
+    (λ a. (rw (a .8, a .10) (a .3 .ensures .0), rw (a .8, a .9) (a .3 .ensures .1), rw (a .8) (a .3 .kept .1 .1 .0)))
+    (⊎-elim
+    (λ a. (rw (a .8, a .10) (a .3 .ensures .0), rw (a .8, a .9) (a .3 .ensures .1), rw (a .8) (a .3 .kept .1 .1 .0)))
+    (⊎-elim
+    (λ a. (rw (a .8, a .10) (a .3 .ensures .0), rw (a .8, a .9) (a .3 .ensures .1), rw (a .8) (a .3 .kept .1 .1 .0)))
+    (⊎-elim
+    (λ a. (rw (a .8, a .10) (a .3 .ensures .0), rw (a .8, a .9) (a .3 .ensures .1), rw (a .8) (a .3 .kept .1 .1 .0)))
+    (⊎-elim
+    (λ a. (rw (a .8, a .10) (a .3 .ensures .0), rw (a .8, a .9) (a .3 .ensures .1), rw (a .8) (a .3 .kept .1 .1 .0)))
+    (⊎-elim
+    (λ a. (rw (a .8, a .10) (a .3 .ensures .0), rw (a .8, a .9) (a .3 .ensures .1), rw (a .8) (a .3 .kept .1 .1 .0)))
+    (⊎-elim
+    (λ a. (rw (a .8, a .10) (a .3 .ensures .0), rw (a .8, a .9) (a .3 .ensures .1), rw (a .8) (a .3 .kept .1 .1 .0)))
+    (⊎-elim
+    (λ a. (rw (a .8, a .10) (a .3 .ensures .0), rw (a .8, a .9) (a .3 .ensures .1), rw (a .8) (a .3 .kept .1 .1 .0)))
+    (⊎-elim
+    (λ a. (rw (a .8, a .10) (a .3 .ensures .0), rw (a .8, a .9) (a .3 .ensures .1), rw (a .8) (a .3 .kept .1 .1 .0)))
+    (⊎-elim
+    (λ a. (rw (a .8, a .10) (a .3 .ensures .0), rw (a .8, a .9) (a .3 .ensures .1), rw (a .8) (a .3 .kept .1 .1 .0)))
+    (⊎-elim
+    (λ a. (rw (a .8, a .10) (a .3 .ensures .0), rw (a .8, a .9) (a .3 .ensures .1), rw (a .8) (a .3 .kept .1 .1 .0)))
+    (λ a. (
+      rw (a .8, a .10) (a .3 .ensures .0),
+      rw (a .8, a .9) (a .3 .ensures .1),
+      rw (a .8) (a .3 .kept .1 .1 .0),
+    )))))))))))))))) (m .came) in (
+      rw (c .same-work2 .ensures) (try-within (at .halt) (at .span .0) (at .ticking) start (now (at .memory))
+          (loop .w) (loop .memory) (m .tried) (m .memory) (loop .inv .0) (step .0)),
+      rw (c .same-work2 .ensures, c .before .with-shared .ensures, c .before .before .next-start .ensures)
+          (try-goes (at .halt) (at .span .0) (at .ticking) start (now (at .memory)) (loop .w) (loop .memory)
+          (loop .shared) (m .tried) (m .memory) (loop .inv .1) (step .0)),
       sums-then 0 (now (at .sums)) (now (at .memory)) (loop .memory) (m .memory) (loop .inv .2) (step .1),
       step .2 ∙ loop .inv .3,
     )
@@ -251,7 +460,8 @@ same-length-3 c = c .before .before .before .before .loop .inv .3
 same-length-4 : tie.Need-same-length-4 Inv-loop μ-loop
 same-length-4 c =
     let at = c .before .before .before .before .before .before .before .before .args in
-    ap length (c .before .before .before .before .loop .inv .2) ∙ sums-length 0 (now (at .sums)) (now (at .memory)) (c .before .before .before .before .loop .memory)
+    ap length (c .before .before .before .before .loop .inv .2)
+    ∙ sums-length 0 (now (at .sums)) (now (at .memory)) (c .before .before .before .before .loop .memory)
 
 returns-2 : tie.Need-returns-2 Inv-loop μ-loop
 returns-2 c =

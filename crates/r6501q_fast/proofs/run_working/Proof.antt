@@ -13,8 +13,10 @@ returns c =
     let at = c .before .before .before .before .before .before .before .before .before .before .before .before .args in
     let e = c .before .before .before .before .before .before .before .before .enum-told .given .1 in
     let ran = c .before .before .before .before .before .run-opcodes .ensures in
-    let most = shared-most (at .halt) (at .span .0) (at .ticking) (at .v .work) (now (at .memory)) (ran .0) in
-    (rw (e, c .none-waiting .ensures) (ran .0, refl), (rw (c .none-waiting .ensures) (ran .1 .0, omega (arith, most)), ran .1 .1))
+    let most = shared-most (at .halt) (at .span .0) (at .ticking) (at .v .work) (now (at .memory)) (ran .0) in (
+      rw (e, c .none-waiting .ensures) (ran .0, refl),
+      (rw (c .none-waiting .ensures) (ran .1 .0, omega (arith, most)), ran .1 .1),
+    )
 
 returns-2 : tie.Need-returns-2
 returns-2 c =

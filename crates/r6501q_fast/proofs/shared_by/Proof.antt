@@ -15,12 +15,24 @@ returns c =
 
 add-result : tie.Need-add-result
 add-result c =
-    omega (arith, c .digit82 .ensures, digit-le (c .before .on-tick2 .result), c .before .before .before .digit8 .ensures, digit-le (c .before .before .before .before .on-tick .result))
+    omega (
+      arith,
+      c .digit82 .ensures,
+      digit-le (c .before .on-tick2 .result),
+      c .before .before .before .digit8 .ensures,
+      digit-le (c .before .before .before .before .on-tick .result),
+    )
 
 returns-2 : tie.Need-returns-2
 unfolding sharedBy
 returns-2 c =
-    rw (ne-eqb _ _ (c .before .before .if1 .left), c .digit82 .ensures, c .before .on-tick2 .ensures, c .before .before .before .digit8 .ensures, c .before .before .before .before .on-tick .ensures) refl
+    rw (
+      ne-eqb _ _ (c .before .before .if1 .left),
+      c .digit82 .ensures,
+      c .before .on-tick2 .ensures,
+      c .before .before .before .digit8 .ensures,
+      c .before .before .before .before .on-tick .ensures,
+    ) refl
 
 pub shared-by-spec : {M : Type 1} → statement M
 shared-by-spec =

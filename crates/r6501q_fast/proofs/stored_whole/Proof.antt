@@ -9,7 +9,8 @@ returns : tie.Need-returns
 returns c =
     let root = c .before .before .before .before in
     let w = root .args .w in
-    let clocks : (w .gone .0 + w .wait + 1) + (root .args .length - 1) ≡ w .gone .0 + w .wait + root .args .length = omega (arith, root .pre .2) in
+    let clocks : (w .gone .0 + w .wait + 1) + (root .args .length - 1) ≡ w .gone .0 + w .wait + root .args .length =
+    omega (arith, root .pre .2) in
     let two : w .leaps + 1 + 1 ≡ w .leaps + 2 = omega arith in
     rw (clocks, two, c .before .before .before .with-pc .ensures) refl
 

@@ -3,7 +3,13 @@ use Rattle.r6501q_gaps.proofs.pass_counters.Statement.{statement}
 use Rattle.r6501q_gaps.proofs.pass_counters.Tie as tie
 
 returns : tie.Need-returns
-returns c = rw (c .pass2 .ensures, c .before .running-b .ensures, c .before .before .pass .ensures, c .before .before .before .running-a .ensures)
+returns c =
+    rw (
+      c .pass2 .ensures,
+      c .before .running-b .ensures,
+      c .before .before .pass .ensures,
+      c .before .before .before .running-a .ensures,
+    )
 
 pub pass-counters-spec : {M : Type 1} → statement M
 pass-counters-spec =

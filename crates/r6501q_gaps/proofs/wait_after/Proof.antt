@@ -15,7 +15,8 @@ returns-2 c = rw (not-false (c .before .before .before .before .args .high) (c .
 
 returns-3 : tie.Need-returns-3
 unfolding waitAfter
-returns-3 c = rw (not-false (c .before .before .before .args .high) (c .before .before .if1 .left)) (omega (arith, c .if2 .left))
+returns-3 c =
+    rw (not-false (c .before .before .before .args .high) (c .before .before .if1 .left)) (omega (arith, c .if2 .left))
 
 pub wait-after-spec : {M : Type 1} → statement M
 wait-after-spec = tie.close (tie.spec returns (λ c. search needs) (λ c. search needs) returns-2 returns-3)

@@ -8,4 +8,5 @@ returns c = rw (c .gap .ensures, lent-part _ _)
 
 pub gap-from-spec : {M : Type 1} → statement M
 gap-from-spec =
-    tie.close (tie.spec (λ c. search needs) (λ c. search needs) (λ c. search needs) (λ c. search needs) (λ c κs. search needs) returns)
+    tie.close (tie.spec (λ c. search needs) (λ c. search needs) (λ c. search needs) (λ c. search needs)
+    (λ c κs. search needs) returns)

@@ -10,7 +10,8 @@ use Rattle.r6501q_run.proofs.leap_span.Tie as tie
 returns : tie.Need-returns
 returns c =
     let at = c .before .before .before .before .before .before .before .args in
-    let words : SixteenBits (now (at .sums)) = λ p. omega (arith, c .before .before .before .before .before .slice-known2 .given p) in
+    let words : SixteenBits (now (at .sums)) =
+    λ p. omega (arith, c .before .before .before .before .before .slice-known2 .given p) in
     (no-span _ _ _ _, sums-kept 0 (now (at .sums)) (now (at .memory)) words)
 
 leap-within-requires : tie.Need-leap-within-requires
@@ -22,4 +23,5 @@ leap-within-requires c κs =
 pub leap-span-spec : {M : Type 1} → statement M
 leap-span-spec =
     tie.close
-    (tie.spec (λ c κs. search needs) returns leap-within-requires (λ c. search needs) (λ c. search needs) (λ c. search needs))
+    (tie.spec (λ c κs. search needs) returns leap-within-requires (λ c. search needs) (λ c. search needs)
+    (λ c. search needs))

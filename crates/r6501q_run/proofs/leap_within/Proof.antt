@@ -8,7 +8,8 @@ use Rattle.page_sums.specs.PageSums.{sumsAfter, SixteenBits}
 use Rattle.page_sums.proofs.Sums.{sums-kept, sums-then, sums-length}
 use Rattle.r6501q_unseen.proofs.Clocks.{unseen-fewer}
 use Rattle.r6501q_run.proofs.Spanned.{fewer-left}
-use Rattle.r6501q_run.proofs.Ticked.{ticks-of, some-period, Within, within-begins, within-steps, within-ends, ending}
+use Rattle.r6501q_run.proofs.Ticked.{ticks-of, some-period, Within, within-begins, within-steps, within-ends}
+use Rattle.r6501q_run.proofs.Ticked.{ending}
 use borrow.Author.Needs.{needs}
 use Rattle.r6501q_run.proofs.leap_within.Statement.{statement}
 use Rattle.r6501q_run.proofs.leap_within.Tie as tie
@@ -36,15 +37,25 @@ loop-holds c =
 steps-on-requires : tie.Need-steps-on-requires Inv-loop μ-loop
 steps-on-requires c κs =
     let i = c .before .before .before .loop .inv .0 in
-    let ticking = c .before .before .before .before .before .ticking-of in
-    (i .room, ((i .begun .short, some-period _ _ (ticking .result) (ticking .ensures)), c .before .before .before .before .before .before .before .before .before .before .before .pre .1 .1))
+    let ticking = c .before .before .before .before .before .ticking-of in (
+      i .room,
+      (
+        (i .begun .short, some-period _ _ (ticking .result) (ticking .ensures)),
+        c .before .before .before .before .before .before .before .before .before .before .before .pre .1 .1,
+      ),
+    )
 
 add-shared : tie.Need-add-shared Inv-loop μ-loop
 add-shared c =
-    let root = c .before .before .before .before .before .before .before .before .before .before .before .before .before .before .before .before .before .before .before .before in
+    let root =
+    c .before .before .before .before .before .before .before .before .before .before .before .before .before .before
+    .before .before .before .before .before .before in
     let at = root .args in
-    let loop = c .before .before .before .before .before .before .before .before .before .before .before .before .loop in
-    let ticking = c .before .before .before .before .before .before .before .before .before .before .before .before .before .before .ticking-of in
+    let loop =
+    c .before .before .before .before .before .before .before .before .before .before .before .before .loop in
+    let ticking =
+    c .before .before .before .before .before .before .before .before .before .before .before .before .before .before
+    .ticking-of in
     let done = c .before .before .before .before .before .before .before .before .steps-on in
     let next =
     within-steps (at .halt) (at .at) (now (at .inputclocks)) (at .span .0) (now (at .memory)) (ticking .result)
@@ -54,30 +65,42 @@ add-shared c =
 
 loop-less : tie.Need-loop-less Inv-loop μ-loop
 loop-less c =
-    let root = c .before .before .before .before .before .before .before .before .before .before .before .before .before .before .before .before .before .before .before .before in
+    let root =
+    c .before .before .before .before .before .before .before .before .before .before .before .before .before .before
+    .before .before .before .before .before .before in
     let at = root .args in
-    let loop = c .before .before .before .before .before .before .before .before .before .before .before .before .loop in
-    let ticking = c .before .before .before .before .before .before .before .before .before .before .before .before .before .before .ticking-of in
+    let loop =
+    c .before .before .before .before .before .before .before .before .before .before .before .before .loop in
+    let ticking =
+    c .before .before .before .before .before .before .before .before .before .before .before .before .before .before
+    .ticking-of in
     let done = c .before .before .before .before .before .before .before .before .steps-on in
     let next =
     within-steps (at .halt) (at .at) (now (at .inputclocks)) (at .span .0) (now (at .memory)) (ticking .result)
     (ticks-of (at .span .0) _ _ (ticking .result) (ticking .ensures) (loop .inv .0 .begun .short))
     (loop .memory) _ (loop .v) (loop .shared) _ (loop .inv .0) (done .ensures .0) in
-    rw (c .before .before .before .before .before .before .before .before .before .before .before .loop-test .taken) (fewer-left (at .span .0) (loop .v .work .gone .0) _ (next .room .gone))
+    rw (c .before .before .before .before .before .before .before .before .before .before .before .loop-test .taken)
+    (fewer-left (at .span .0) (loop .v .work .gone .0) _ (next .room .gone))
 
 loop-again : tie.Need-loop-again Inv-loop μ-loop
 loop-again c =
-    let root = c .before .before .before .before .before .before .before .before .before .before .before .before .before .before .before .before .before .before .before .before in
+    let root =
+    c .before .before .before .before .before .before .before .before .before .before .before .before .before .before
+    .before .before .before .before .before .before in
     let at = root .args in
-    let loop = c .before .before .before .before .before .before .before .before .before .before .before .before .loop in
-    let ticking = c .before .before .before .before .before .before .before .before .before .before .before .before .before .before .ticking-of in
+    let loop =
+    c .before .before .before .before .before .before .before .before .before .before .before .before .loop in
+    let ticking =
+    c .before .before .before .before .before .before .before .before .before .before .before .before .before .before
+    .ticking-of in
     let done = c .before .before .before .before .before .before .before .before .steps-on in
     let next =
     within-steps (at .halt) (at .at) (now (at .inputclocks)) (at .span .0) (now (at .memory)) (ticking .result)
     (ticks-of (at .span .0) _ _ (ticking .result) (ticking .ensures) (loop .inv .0 .begun .short))
     (loop .memory) _ (loop .v) (loop .shared) _ (loop .inv .0) (done .ensures .0) in (
       next,
-      sums-then 0 (now (at .sums)) (now (at .memory)) (loop .memory) (done .last .1 .1 .1 .0) (loop .inv .1) (done .ensures .1),
+      sums-then 0 (now (at .sums)) (now (at .memory)) (loop .memory) (done .last .1 .1 .1 .0) (loop .inv .1)
+          (done .ensures .1),
     )
 
 spanned-to-requires : tie.Need-spanned-to-requires Inv-loop μ-loop

@@ -10,14 +10,27 @@ use Rattle.r6501q_run.proofs.steps_on.Tie as tie
 
 add-t20 : tie.Need-add-t20
 add-t20 c =
-    let room = c .before .before .before .before .before .before .before .before .before .before .before .before .before .before .run-working .ensures .1 .0 in
+    let room =
+    c .before .before .before .before .before .before .before .before .before .before .before .before .before .before
+    .run-working .ensures .1 .0 in
     let most = shares-at-most _ _ _ _ (c .before .shared-in .ensures) in
-    omega (arith, room .1, room .0 .gone, c .before .before .before .before .before .before .before .before .before .before .before .before .before .before .before .before .before .before .before .before .pre .1 .0 .0, most)
+    omega (
+      arith,
+      room .1,
+      room .0 .gone,
+      c .before .before .before .before .before .before .before .before .before .before .before .before .before .before
+          .before .before .before .before .before .before .pre .1 .0 .0,
+      most,
+    )
 
 returns : tie.Need-returns
 returns c =
-    let at = c .before .before .before .before .before .before .before .before .before .before .before .before .before .before .before .before .before .before .before .before .args in
-    let ran = c .before .before .before .before .before .before .before .before .before .before .before .before .before .before .run-working in
+    let at =
+    c .before .before .before .before .before .before .before .before .before .before .before .before .before .before
+    .before .before .before .before .before .before .args in
+    let ran =
+    c .before .before .before .before .before .before .before .before .before .before .before .before .before .before
+    .run-working in
     let once = c .before .before .before .before .before .before .work-once in (
       record {
         middle = ran .result;
@@ -40,7 +53,9 @@ steps-on-spec =
     (tie.spec
     (λ c κs. search needs)
     (λ c κs. search needs)
-    (λ c κs. c .before .before .before .before .before .before .before .before .before .before .before .before .before .before .before .before .before .before .pre .1 .0 .1)
+    (λ c κs.
+    c .before .before .before .before .before .before .before .before .before .before .before .before .before .before
+    .before .before .before .before .pre .1 .0 .1)
     add-t20
     (λ c. search needs)
     (λ c. search needs)

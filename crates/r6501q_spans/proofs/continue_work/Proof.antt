@@ -12,7 +12,8 @@ returns : tie.Need-returns
 unfolding continuedBy committedBy
 returns c =
     let at = c .before .before .before .before .before .before .args in
-    let words : SixteenBits (now (at .sums)) = λ p. omega (arith, c .before .before .before .before .slice-known2 .given p) in
+    let words : SixteenBits (now (at .sums)) =
+    λ p. omega (arith, c .before .before .before .before .slice-known2 .given p) in
     let w = c .before .before .before .pushes-of .ensures in
     let e = sym (c .before .before .ends-span .ensures) ∙ c .before .if1 .taken in
     (rw (← w, e) (c .none-waiting .ensures), (rw (← w, e) refl, sums-kept 0 (now (at .sums)) (now (at .memory)) words))
@@ -20,8 +21,11 @@ returns c =
 returns-2 : tie.Need-returns-2
 unfolding continuedBy committedBy
 returns-2 c =
-    let w = c .before .before .before .before .before .before .before .before .before .before .before .pushes-of .ensures in
-    let e = sym (c .before .before .before .before .before .before .before .before .before .before .ends-span .ensures) ∙ c .before .before .before .before .before .before .before .before .before .if1 .left in
+    let w =
+    c .before .before .before .before .before .before .before .before .before .before .before .pushes-of .ensures in
+    let e = sym
+    (c .before .before .before .before .before .before .before .before .before .before .ends-span .ensures)
+    ∙ c .before .before .before .before .before .before .before .before .before .if1 .left in
     let put = c .before .before .before .before .before .before .commit .ensures in
     (rw (← w, e, c .before .next-work .ensures, c .waiting-of .ensures) refl, (rw (← w, e) (put .0), put .1))
 

@@ -14,7 +14,9 @@ use Rattle.r6501q_spans.proofs.put_within.Tie as tie
 
 put-work-requires : tie.Need-put-work-requires
 put-work-requires c κs =
-    let root = c .before .before .before .before .before .before .before .before .before .before .before .before .before .before .before .before .before in
+    let root =
+    c .before .before .before .before .before .before .before .before .before .before .before .before .before .before
+    .before .before .before in
     let room = root .pre in
     let w = root .args .w in
     let within = c .before .before .before .before .before .before .before .before .before .if1 .taken in
@@ -25,10 +27,16 @@ put-work-requires c κs =
 returns : tie.Need-returns
 unfolding workPut memoryPut
 returns c =
-    let at = c .before .before .before .before .before .before .before .before .before .before .before .before .before .before .before .before .before .before .args in
-    let one = c .before .before .before .before .before .before .before .before .before .before .before .before .before .before .before .one-write .ensures in
-    let none = rw one at (sym (c .before .before .before .before .before .before .before .before .before .ends-span .ensures) ∙ not-true _ (c .before .before .before .before .before .before .before .before .if2 .taken)) in
-    let e = puts-within (at .halt) (at .span .0) (at .w) (at .x) (c .before .before .before .before .before .before .before .before .before .before .if1 .taken) none in
+    let at =
+    c .before .before .before .before .before .before .before .before .before .before .before .before .before .before
+    .before .before .before .before .args in
+    let one =
+    c .before .before .before .before .before .before .before .before .before .before .before .before .before .before
+    .before .one-write .ensures in
+    let none = rw one at (sym (c .before .before .before .before .before .before .before .before .before .ends-span
+    .ensures) ∙ not-true _ (c .before .before .before .before .before .before .before .before .if2 .taken)) in
+    let e = puts-within (at .halt) (at .span .0) (at .w) (at .x)
+    (c .before .before .before .before .before .before .before .before .before .before .if1 .taken) none in
     let put = c .before .before .before .before .before .commit .ensures in
     (rw e (c .put-work .ensures), (rw e (rw one at (put .0)), put .1))
 
@@ -36,7 +44,8 @@ returns-2 : tie.Need-returns-2
 unfolding workPut memoryPut
 returns-2 c =
     let at = c .before .before .before .before .before .before .before .before .before .before .args in
-    let words : SixteenBits (now (at .sums)) = λ p. omega (arith, c .before .before .before .before .before .before .before .before .slice-known2 .given p) in
+    let words : SixteenBits (now (at .sums)) =
+    λ p. omega (arith, c .before .before .before .before .before .before .before .before .slice-known2 .given p) in
     let one = c .before .before .before .before .before .before .before .one-write .ensures in
     let ends = rw one at (sym (c .before .ends-span .ensures) ∙ not-false _ (c .if2 .left)) in
     let e = puts-not (at .halt) (at .span .0) (at .w) (at .x) (c .before .before .if1 .taken) ends in
@@ -46,7 +55,8 @@ returns-3 : tie.Need-returns-3
 unfolding workPut memoryPut
 returns-3 c =
     let at = c .before .before .before .before .before .before .before .before .args in
-    let words : SixteenBits (now (at .sums)) = λ p. omega (arith, c .before .before .before .before .before .before .slice-known2 .given p) in
+    let words : SixteenBits (now (at .sums)) =
+    λ p. omega (arith, c .before .before .before .before .before .before .slice-known2 .given p) in
     let e = puts-later (at .halt) (at .span .0) (at .w) (at .x) (c .if1 .left) in
     (rw e refl, (rw e refl, sums-kept 0 (now (at .sums)) (now (at .memory)) words))
 

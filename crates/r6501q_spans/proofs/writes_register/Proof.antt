@@ -6,7 +6,12 @@ use Rattle.r6501q_spans.proofs.writes_register.Tie as tie
 
 returns : tie.Need-returns
 unfolding writesRegister
-returns c = rw (← (c .before .before .before .before .is-register .ensures), ← (c .before .before .is-register2 .ensures), ← (c .is-register3 .ensures)) refl
+returns c =
+    rw (
+      ← (c .before .before .before .before .is-register .ensures),
+      ← (c .before .before .is-register2 .ensures),
+      ← (c .is-register3 .ensures),
+    ) refl
 
 pub writes-register-spec : {M : Type 1} → statement M
 writes-register-spec =

@@ -16,12 +16,19 @@ outcome-from-requires c κs =
     let root = c .before .before .before .before .before .before .before .before .before .before .before in
     let going = root .pre .0 in
     let clocks = now (root .args .inputclocks) in
-    let codes = now (root .args .inputcodes) in
-    ((going .clock, rw (c .before .before .due-from .ensures) (due-fits _ _ clocks codes (going .read) (going .inputs))), root .pre .1)
+    let codes = now (root .args .inputcodes) in (
+      (
+        going .clock,
+        rw (c .before .before .due-from .ensures) (due-fits _ _ clocks codes (going .read) (going .inputs)),
+      ),
+      root .pre .1,
+    )
 
 complete-requires : tie.Need-complete-requires
 complete-requires c κs =
-    let root = c .before .before .before .before .before .before .before .before .before .before .before .before .before .before .before .before .before .before .before in
+    let root =
+    c .before .before .before .before .before .before .before .before .before .before .before .before .before .before
+    .before .before .before .before .before in
     let going = root .pre .0 in
     let clocks = now (root .args .inputclocks) in
     let codes = now (root .args .inputcodes) in
@@ -32,21 +39,36 @@ complete-requires c κs =
 
 returns : tie.Need-returns
 returns c =
-    let root = c .before .before .before .before .before .before .before .before .before .before .before .before .before .before .before .before in
+    let root =
+    c .before .before .before .before .before .before .before .before .before .before .before .before .before .before
+    .before .before in
     let at = root .args in
-    let words : SixteenBits (now (at .sums)) = λ p. omega (arith, c .before .before .before .before .before .before .before .before .before .before .before .before .before .before .slice-known2 .given p) in
-    let outcome = sym (c .before .before .before .before .outcome-from .ensures) ∙ c .before .before .clocked .given .1 in (
-      rw (c .stop-at .ensures) (plain-stops (at .halt) _ _ _ (root .pre .0 .stop) (c .before .before .before .before .before .before .before .due-from .ensures) _ outcome refl),
+    let words : SixteenBits (now (at .sums)) = λ p. omega (
+      arith,
+      c .before .before .before .before .before .before .before .before .before .before .before .before .before
+          .before .slice-known2 .given p,
+    ) in
+    let outcome =
+    sym (c .before .before .before .before .outcome-from .ensures) ∙ c .before .before .clocked .given .1 in (
+      rw (c .stop-at .ensures) (plain-stops (at .halt) _ _ _ (root .pre .0 .stop)
+          (c .before .before .before .before .before .before .before .due-from .ensures) _ outcome refl),
       sums-kept 0 (now (at .sums)) (now (at .memory)) words,
     )
 
 returns-2 : tie.Need-returns-2
 returns-2 c =
-    let root = c .before .before .before .before .before .before .before .before .before .before .before .before .before .before .before .before .before .before .before .before .before .before .before .before .before .before .before .before in
+    let root =
+    c .before .before .before .before .before .before .before .before .before .before .before .before .before .before
+    .before .before .before .before .before .before .before .before .before .before .before .before .before .before in
     let at = root .args in
     let done = c .before .before .before .before .before .before .before .before .complete .ensures in
-    let due = c .before .before .before .before .before .before .before .before .before .before .before .before .before .before .before .before .before .before .before .due-from in
-    let outcome = sym (c .before .before .before .before .before .before .before .before .before .before .before .before .before .before .before .before .outcome-from .ensures) ∙ c .before .before .before .before .before .before .before .before .before .before .before .before .before .before .clocked2 .given .1 in
+    let due =
+    c .before .before .before .before .before .before .before .before .before .before .before .before .before .before
+    .before .before .before .before .before .due-from in
+    let outcome = sym (c .before .before .before .before .before .before .before .before .before .before .before
+    .before .before .before .before .before .outcome-from .ensures)
+    ∙ c .before .before .before .before .before .before .before .before .before .before .before .before .before
+    .before .clocked2 .given .1 in
     let clocks = drop-drop (due .result) (at .p .read) (now (at .inputclocks)) in
     let codes = drop-drop (due .result) (at .p .read) (now (at .inputcodes)) in (
       rw (done .0, done .1 .0, done .1 .1 .0, done .1 .1 .1 .0, ← clocks, ← codes)

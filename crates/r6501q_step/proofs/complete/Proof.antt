@@ -8,20 +8,45 @@ use Rattle.r6501q_step.proofs.complete.Statement.{statement}
 use Rattle.r6501q_step.proofs.complete.Tie as tie
 
 add-t21 : tie.Need-add-t21
-add-t21 c = omega (arith, c .before .before .before .before .before .before .before .before .before .before .before .before .before .before .before .before .before .before .before .before .before .pre)
+add-t21 c =
+    omega (
+      arith,
+      c .before .before .before .before .before .before .before .before .before .before .before .before .before .before
+          .before .before .before .before .before .before .before .pre,
+    )
 
 written-after-requires : tie.Need-written-after-requires
-written-after-requires c κs = omega (arith, c .before .before .before .before .before .before .before .before .before .before .before .before .before .before .before .before .before .before .before .before .before .pre)
+written-after-requires c κs =
+    omega (
+      arith,
+      c .before .before .before .before .before .before .before .before .before .before .before .before .before .before
+          .before .before .before .before .before .before .before .pre,
+    )
 
 same-length : tie.Need-same-length
-same-length c = c .before .before .before .before .before .before .before .before .before .before .before .before .before .before .memory .given
+same-length c =
+    c .before .before .before .before .before .before .before .before .before .before .before .before .before .before
+    .memory .given
 
 returns : tie.Need-returns
 returns c =
-    let at = c .before .before .before .before .before .before .before .before .before .before .before .before .before .before .before .before .before .before .before .before .before .before .before .args in
-    let put = c .before .before .before .before .before .before .before .before .before .before .before .before .before .before .before .commit .ensures in
-    let end = progress-done (at .halt) (at .ended) (at .due) (at .p) _ refl refl (c .before .written-after .ensures) (c .stop-after .ensures) in
-    (end, (put .0, (c .before .before .before .before .before .before .before .before .before .put-record .ensures, (c .before .before .before .before .before .put-record2 .ensures, put .1))))
+    let at =
+    c .before .before .before .before .before .before .before .before .before .before .before .before .before .before
+    .before .before .before .before .before .before .before .before .before .args in
+    let put =
+    c .before .before .before .before .before .before .before .before .before .before .before .before .before .before
+    .before .commit .ensures in
+    let end = progress-done (at .halt) (at .ended) (at .due) (at .p) _ refl refl (c .before .written-after .ensures)
+    (c .stop-after .ensures) in (
+      end,
+      (
+        put .0,
+        (
+          c .before .before .before .before .before .before .before .before .before .put-record .ensures,
+          (c .before .before .before .before .before .put-record2 .ensures, put .1),
+        ),
+      ),
+    )
 
 pub complete-spec : {M : Type 1} → statement M
 complete-spec =

@@ -13,4 +13,5 @@ returns-2 c = rw (← (c .before .running-a .ensures), c .if1 .left)
 
 pub ticking-of-spec : {M : Type 1} → statement M
 ticking-of-spec =
-    tie.close (tie.spec (λ c κs. search needs) (λ c. search needs) (λ c. search needs) (λ c. search needs) (λ c. search needs) returns returns-2)
+    tie.close (tie.spec (λ c κs. search needs) (λ c. search needs) (λ c. search needs) (λ c. search needs)
+    (λ c. search needs) returns returns-2)

@@ -29,7 +29,8 @@ returns-2 c =
       omega arith,
       omega arith,
       unseen-before (c .nearer2 .result .0) (a .ports) (a .p)
-          (λ _. rw (← (c .before .before .unseen-ticks .ensures .0)) (omega arith)) (λ e. let k = b .1 e in omega arith),
+          (λ _. rw (← (c .before .before .unseen-ticks .ensures .0)) (omega arith))
+          (λ e. let k = b .1 e in omega arith),
     )
 
 pub unseen-clocks-spec : {M : Type 1} → statement M

@@ -11,7 +11,8 @@ sent-after-requires c κs =
     let a = c .before .before .before .before .before .args in
     let h = hidden-in (a .n .0) (a .ports) (a .p) (c .before .before .before .before .before .pre) in
     λ on. rw (c .before .before .before .before .ticks-in .ensures)
-    (sends-within (ticksIn (a .n .0) (a .ports) (a .p)) (a .p .transmitter) (a .p .control .sccr) (a .p .control .scsr) (h .sends) on)
+    (sends-within (ticksIn (a .n .0) (a .ports) (a .p)) (a .p .transmitter) (a .p .control .sccr) (a .p .control .scsr)
+    (h .sends) on)
 
 heard-after-requires : tie.Need-heard-after-requires
 heard-after-requires c κs =
@@ -19,12 +20,14 @@ heard-after-requires c κs =
     let h = hidden-in (a .n .0) (a .ports) (a .p) (c .before .before .before .before .before .before .before .pre) in
     let most = sends-most (a .p .transmitter) (a .p .control .sccr) (a .p .control .scsr) in
     let sends = h .sends in
-    rw (c .bit32 .ensures, c .before .before .before .before .before .before .ticks-in .ensures) (h .listens, omega arith)
+    rw (c .bit32 .ensures, c .before .before .before .before .before .before .ticks-in .ensures)
+    (h .listens, omega arith)
 
 returns : tie.Need-returns
 returns c =
     let a = c .before .before .before .before .before .before .before .before .args in
-    let closed = unseen-closed (a .n .0) (a .ports) (a .p) (c .before .before .before .before .before .before .before .before .pre) in
+    let closed = unseen-closed (a .n .0) (a .ports) (a .p)
+    (c .before .before .before .before .before .before .before .before .pre) in
     rw (
       closed,
       c .heard-after .ensures,

@@ -23,7 +23,8 @@ loop-less : tie.Need-loop-less Inv-loop μ-loop
 loop-less c = omega arith
 
 loop-again : tie.Need-loop-again Inv-loop μ-loop
-loop-again c = (omega (arith, count-on (c .before .loop .rest) (c .loop-test .taken) (c .before .loop .inv .1)), omega arith)
+loop-again c =
+    (omega (arith, count-on (c .before .loop .rest) (c .loop-test .taken) (c .before .loop .inv .1)), omega arith)
 
 returns : tie.Need-returns Inv-loop μ-loop
 returns c = omega (arith, count-last (c .before .loop .rest) (c .loop-test .left))

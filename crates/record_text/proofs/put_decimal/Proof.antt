@@ -9,7 +9,14 @@ use Rattle.record_text.proofs.put_decimal.Tie as tie
 
 put-digits-requires : tie.Need-put-digits-requires
 unfolding decimalOf
-put-digits-requires c κs = (search needs, omega (arith, c .before .digit-count .ensures, digits-length 10 (digitCount 9 (c .before .before .before .args .n)) (c .before .before .before .args .n)))
+put-digits-requires c κs = (
+  search needs,
+  omega (
+    arith,
+    c .before .digit-count .ensures,
+    digits-length 10 (digitCount 9 (c .before .before .before .args .n)) (c .before .before .before .args .n),
+  ),
+)
 
 returns : tie.Need-returns
 unfolding decimalOf

@@ -14,13 +14,21 @@ abbrev μ-loop : tie.MeasureT-loop
 μ-loop times words text₀ at place₀ i₀ text place i = length times - i
 
 loop-holds : tie.Need-loop-holds Inv-loop μ-loop
-loop-holds c = listing-begins (now (c .before .before .before .args .times)) (now (c .before .before .before .args .words)) (c .before .before .before .pre .0) (c .before .before .before .args .at) (now (c .before .before .before .args .text))
+loop-holds c =
+    listing-begins (now (c .before .before .before .args .times)) (now (c .before .before .before .args .words))
+    (c .before .before .before .pre .0) (c .before .before .before .args .at)
+    (now (c .before .before .before .args .text))
 
 shared-slice-read-put-record-2 : tie.Need-shared-slice-read-put-record-2 Inv-loop μ-loop
 shared-slice-read-put-record-2 c = omega arith
 
 put-record-requires : tie.Need-put-record-requires Inv-loop μ-loop
-put-record-requires c κs = omega (arith, c .before .before .before .before .loop .inv .room, c .before .before .before .before .loop .inv .kept)
+put-record-requires c κs =
+    omega (
+      arith,
+      c .before .before .before .before .loop .inv .room,
+      c .before .before .before .before .loop .inv .kept,
+    )
 
 add-i : tie.Need-add-i Inv-loop μ-loop
 add-i c = omega arith
@@ -29,13 +37,28 @@ loop-less : tie.Need-loop-less Inv-loop μ-loop
 loop-less c = omega arith
 
 loop-again : tie.Need-loop-again Inv-loop μ-loop
-loop-again c = listing-on (now (c .before .before .before .before .before .before .before .before .before .before .before .args .times)) (now (c .before .before .before .before .before .before .before .before .before .before .before .args .words)) (c .before .before .before .before .before .before .before .before .before .before .before .pre .0) (c .before .before .before .before .before .before .before .before .before .before .before .args .at) (now (c .before .before .before .before .before .before .before .before .before .before .before .args .text)) (c .before .before .before .before .before .before .before .loop .place) (c .before .before .before .before .before .before .before .loop .i) (c .before .before .put-record .result) (c .before .before .before .before .before .before .before .loop .text) (c .before .before .put-record .last .1 .1 .0) (c .before .before .before .before .before .before .loop-test .taken) (c .before .before .before .before .before .before .before .loop .inv) (c .before .before .put-record .ensures)
+loop-again c =
+    listing-on
+    (now (c .before .before .before .before .before .before .before .before .before .before .before .args .times))
+    (now (c .before .before .before .before .before .before .before .before .before .before .before .args .words))
+    (c .before .before .before .before .before .before .before .before .before .before .before .pre .0)
+    (c .before .before .before .before .before .before .before .before .before .before .before .args .at)
+    (now (c .before .before .before .before .before .before .before .before .before .before .before .args .text))
+    (c .before .before .before .before .before .before .before .loop .place)
+    (c .before .before .before .before .before .before .before .loop .i) (c .before .before .put-record .result)
+    (c .before .before .before .before .before .before .before .loop .text)
+    (c .before .before .put-record .last .1 .1 .0) (c .before .before .before .before .before .before .loop-test .taken)
+    (c .before .before .before .before .before .before .before .loop .inv) (c .before .before .put-record .ensures)
 
 same-length : tie.Need-same-length Inv-loop μ-loop
 same-length c = c .before .loop .inv .kept
 
 returns : tie.Need-returns Inv-loop μ-loop
-returns c = listed (now (c .before .before .before .before .before .args .times)) (now (c .before .before .before .before .before .args .words)) (c .before .before .before .before .before .pre .0) (c .before .before .before .before .before .args .at) (now (c .before .before .before .before .before .args .text)) (c .before .loop .place) (c .before .loop .i) (c .before .loop .text) (c .loop-test .left) (c .before .loop .inv)
+returns c =
+    listed (now (c .before .before .before .before .before .args .times))
+    (now (c .before .before .before .before .before .args .words)) (c .before .before .before .before .before .pre .0)
+    (c .before .before .before .before .before .args .at) (now (c .before .before .before .before .before .args .text))
+    (c .before .loop .place) (c .before .loop .i) (c .before .loop .text) (c .loop-test .left) (c .before .loop .inv)
 
 pub put-records-spec : {M : Type 1} → statement M
 put-records-spec =

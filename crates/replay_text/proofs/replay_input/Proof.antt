@@ -14,7 +14,8 @@ returns c =
 
 slice-aggregate-replay : tie.Need-slice-aggregate-replay
 slice-aggregate-replay c =
-    sym (length-take-le tapeLength (now (c .before .before .before .before .args .input)) (omega (arith, c .before .if1 .left)))
+    sym (length-take-le tapeLength (now (c .before .before .before .before .args .input))
+    (omega (arith, c .before .if1 .left)))
 
 pub replay-input-spec : {M : Type 1} → statement M
 replay-input-spec =

@@ -24,9 +24,11 @@ returns-2 c =
     let at = c .before .before .before .before .before .before .before .args in
     let checked = c .before .before .check .result in
     let refused : checked .number ≡ 0 → ⊥ = c .if2 .taken in
-    let words : SixteenBits (now (at .sums)) = λ p. omega (arith, c .before .before .before .before .slice-known2 .given p) in (
+    let words : SixteenBits (now (at .sums)) =
+    λ p. omega (arith, c .before .before .before .before .slice-known2 .given p) in (
       rw (← c .before .before .check .ensures, eq-eqb _ _ (c .before .before .before .if1 .left))
-          (ap (loaded checked) (sym (cond-no (eqb (checked .number) 0) (storeFrom (now (at .tape)) (now (at .memory))) (now (at .memory)) (ne-eqb (checked .number) 0 refused)))),
+          (ap (loaded checked) (sym (cond-no (eqb (checked .number) 0)
+          (storeFrom (now (at .tape)) (now (at .memory))) (now (at .memory)) (ne-eqb (checked .number) 0 refused)))),
       sums-kept 0 (now (at .sums)) (now (at .memory)) words,
     )
 
@@ -34,11 +36,17 @@ returns-3 : tie.Need-returns-3
 unfolding loadOf
 returns-3 c =
     let stored = c .before .before .before .before .store in (
-      rw (← c .before .before .before .before .before .before .before .before .before .check .ensures, stored .ensures .0, eq-eqb _ _ (c .before .before .before .before .before .before .before .before .before .before .if1 .left), eq-eqb _ _ (c .before .before .before .before .before .before .before .if2 .left)),
+      rw (
+        ← c .before .before .before .before .before .before .before .before .before .check .ensures,
+        stored .ensures .0,
+        eq-eqb _ _ (c .before .before .before .before .before .before .before .before .before .before .if1 .left),
+        eq-eqb _ _ (c .before .before .before .before .before .before .before .if2 .left),
+      ),
       stored .ensures .1,
     )
 
 pub load-into-spec : {M : Type 1} → statement M
 load-into-spec =
     tie.close
-    (tie.spec returns (λ c κs. search needs) returns-2 (λ c κs. search needs) (λ c. search needs) (λ c. search needs) returns-3)
+    (tie.spec returns (λ c κs. search needs) returns-2 (λ c κs. search needs) (λ c. search needs) (λ c. search needs)
+    returns-3)

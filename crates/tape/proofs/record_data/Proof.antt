@@ -21,11 +21,18 @@ unfolding dataAt
 returns-2 c =
     let tape = now (c .before .before .before .before .before .args .tape) in
     let place = c .before .before .before .before .before .args .place in
-    sym (cond-no (eqb (getD tape place 0) mark) (dataOf (drop (place + 1) tape)) [] (ne-eqb (getD tape place 0) mark (c .before .if2 .taken)))
+    sym (cond-no (eqb (getD tape place 0) mark) (dataOf (drop (place + 1) tape)) []
+    (ne-eqb (getD tape place 0) mark (c .before .if2 .taken)))
 
 returns-3 : tie.Need-returns-3
 unfolding dataAt
-returns-3 c = c .data-digits .ensures ∙ rw (eq-eqb _ _ (c .before .before .if2 .left), to-end (now (c .before .before .before .before .before .before .args .tape)) (c .before .before .before .before .before .before .args .place + 1))
+returns-3 c =
+    c .data-digits .ensures
+    ∙ rw (
+      eq-eqb _ _ (c .before .before .if2 .left),
+      to-end (now (c .before .before .before .before .before .before .args .tape))
+          (c .before .before .before .before .before .before .args .place + 1),
+    )
 
 pub record-data-spec : {M : Type 1} → statement M
 record-data-spec =

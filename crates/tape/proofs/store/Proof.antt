@@ -14,7 +14,8 @@ use Rattle.tape.proofs.store.Tie as tie
 
 abbrev Inv-loop : tie.InvT-loop
 Inv-loop tape memory₀ sums₀ place₀ memory sums place =
-    (length memory ≡ length memory₀) × (storeFrom (drop place tape) memory ≡ storeFrom tape memory₀) × (sums ≡ sumsAfter sums₀ memory₀ memory)
+    (length memory ≡ length memory₀) × (storeFrom (drop place tape) memory ≡ storeFrom tape memory₀)
+    × (sums ≡ sumsAfter sums₀ memory₀ memory)
 
 abbrev μ-loop : tie.MeasureT-loop
 μ-loop tape memory₀ sums₀ place₀ memory sums place = length tape - place
@@ -54,15 +55,20 @@ returns c =
     let at = c .before .before .before .before .before .before .before .before .before .before .args in
     let loop = c .before .before .before .before .before .before .loop in
     let test = c .before .before .before .before .before .loop-test .taken in
-    let count = c .before .count in
-    (sym (store-last (now (at .tape)) (loop .place) test (c .before .before .before .if1 .taken) (count .result) (count .ensures) (loop .memory) (c .if2 .taken)) ∙ loop .inv .1, loop .inv .2)
+    let count = c .before .count in (
+      sym (store-last (now (at .tape)) (loop .place) test (c .before .before .before .if1 .taken) (count .result)
+          (count .ensures) (loop .memory) (c .if2 .taken)) ∙ loop .inv .1,
+      loop .inv .2,
+    )
 
 land-requires : tie.Need-land-requires Inv-loop μ-loop
 land-requires c κs =
-    let start = c .before .before .before .before .before .before .before .before .before .before .before .before .before .before in
+    let start =
+    c .before .before .before .before .before .before .before .before .before .before .before .before .before .before in
     let loop = c .before .before .before .before .before .before .before .before .before .before .loop in
     let address = c .before .before .before .address in
-    let f = data-fits (now (start .args .tape)) (loop .place) (address .result) (now (c .record-data .result)) (address .ensures) (c .record-data .ensures) in
+    let f = data-fits (now (start .args .tape)) (loop .place) (address .result) (now (c .record-data .result))
+    (address .ensures) (c .record-data .ensures) in
     (omega (arith, f, loop .inv .0, start .pre), omega (arith, f, loop .inv .0, start .pre))
 
 add-place : tie.Need-add-place Inv-loop μ-loop
@@ -80,9 +86,12 @@ loop-again c =
     (λ w. (
       rw (w .13) (w .8 .kept .0 ∙ loop .inv .0),
       rw (w .13)
-          (sym (store-on (now (at .tape)) (loop .place) test (w .0 .taken) (w .2 .result) (w .2 .ensures) (loop .memory) (w .4 .result) (now (w .7 .result)) (w .8 .last .0) (w .3 .left) (w .4 .ensures) (w .7 .ensures) (w .8 .ensures .0))
+          (sym (store-on (now (at .tape)) (loop .place) test (w .0 .taken) (w .2 .result) (w .2 .ensures)
+          (loop .memory) (w .4 .result) (now (w .7 .result)) (w .8 .last .0) (w .3 .left) (w .4 .ensures)
+          (w .7 .ensures) (w .8 .ensures .0))
           ∙ loop .inv .1),
-      rw (w .13, w .14) (sums-then 0 (now (at .sums)) (now (at .memory)) (loop .memory) (w .8 .last .0) (loop .inv .2) (w .8 .ensures .1)),
+      rw (w .13, w .14) (sums-then 0 (now (at .sums)) (now (at .memory)) (loop .memory) (w .8 .last .0) (loop .inv .2)
+          (w .8 .ensures .1)),
     ))
     (λ w. (
       rw (w .1) (loop .inv .0),

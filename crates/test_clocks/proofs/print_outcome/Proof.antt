@@ -7,13 +7,19 @@ use Rattle.test_clocks.proofs.print_outcome.Statement.{statement}
 use Rattle.test_clocks.proofs.print_outcome.Tie as tie
 
 slice-aggregate-put-outcome : tie.Need-slice-aggregate-put-outcome
-slice-aggregate-put-outcome c = sym (length-take-le (c .before .before .before .args .outcome .written) (now (c .before .before .before .args .times)) (omega arith))
+slice-aggregate-put-outcome c =
+    sym (length-take-le (c .before .before .before .args .outcome .written)
+    (now (c .before .before .before .args .times)) (omega arith))
 
 slice-aggregate-put-outcome-2 : tie.Need-slice-aggregate-put-outcome-2
-slice-aggregate-put-outcome-2 c = sym (length-take-le (c .before .before .before .before .args .outcome .written) (now (c .before .before .before .before .args .words)) (omega arith))
+slice-aggregate-put-outcome-2 c =
+    sym (length-take-le (c .before .before .before .before .args .outcome .written)
+    (now (c .before .before .before .before .args .words)) (omega arith))
 
 put-outcome-requires : tie.Need-put-outcome-requires
-put-outcome-requires c κs = let t = slice-aggregate-put-outcome (c .before .before) in (sym t ∙ slice-aggregate-put-outcome-2 (c .before), omega arith)
+put-outcome-requires c κs =
+    let t = slice-aggregate-put-outcome (c .before .before) in
+    (sym t ∙ slice-aggregate-put-outcome-2 (c .before), omega arith)
 
 array-share-prefix-text : tie.Need-array-share-prefix-text
 array-share-prefix-text c = search needs

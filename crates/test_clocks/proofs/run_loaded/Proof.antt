@@ -30,7 +30,11 @@ slice-aggregate-run-lent-4 : tie.Need-slice-aggregate-run-lent-4
 slice-aggregate-run-lent-4 c = sym (length-take-le _ _ (array-borrow-prefix-words (c .before)))
 
 run-lent-requires : tie.Need-run-lent-requires
-run-lent-requires c κs = let t = slice-aggregate-run-lent-3 (c .before) in (sym (slice-aggregate-run-lent (c .before .before .before)) ∙ slice-aggregate-run-lent-2 (c .before .before), (refl, omega arith))
+run-lent-requires c κs =
+    let t = slice-aggregate-run-lent-3 (c .before) in (
+      sym (slice-aggregate-run-lent (c .before .before .before)) ∙ slice-aggregate-run-lent-2 (c .before .before),
+      (refl, omega arith),
+    )
 
 pub run-loaded-spec : {M : Type 1} → statement M
 run-loaded-spec =

@@ -23,16 +23,36 @@ part-print-replay-start : tie.Need-part-print-replay-start Inv-loop μ-loop
 part-print-replay-start c = omega arith
 
 part-print-replay-end : tie.Need-part-print-replay-end Inv-loop μ-loop
-part-print-replay-end c = omega (arith, mark-within 61 (now (c .before .before .before .before .args .tapes)) (c .before .before .loop .from) (c .before .loop-test .taken))
+part-print-replay-end c =
+    omega (
+      arith,
+      mark-within 61 (now (c .before .before .before .before .args .tapes)) (c .before .before .loop .from)
+          (c .before .loop-test .taken),
+    )
 
 add-from : tie.Need-add-from Inv-loop μ-loop
-add-from c = omega (arith, mark-within 61 (now (c .before .before .before .before .before .before .args .tapes)) (c .before .before .before .before .loop .from) (c .before .before .before .loop-test .taken))
+add-from c =
+    omega (
+      arith,
+      mark-within 61 (now (c .before .before .before .before .before .before .args .tapes))
+          (c .before .before .before .before .loop .from) (c .before .before .before .loop-test .taken),
+    )
 
 loop-less : tie.Need-loop-less Inv-loop μ-loop
-loop-less c = omega (arith, mark-within 61 (now (c .before .before .before .before .before .before .args .tapes)) (c .before .before .before .before .loop .from) (c .before .before .before .loop-test .taken))
+loop-less c =
+    omega (
+      arith,
+      mark-within 61 (now (c .before .before .before .before .before .before .args .tapes))
+          (c .before .before .before .before .loop .from) (c .before .before .before .loop-test .taken),
+    )
 
 loop-again : tie.Need-loop-again Inv-loop μ-loop
-loop-again c = omega (arith, mark-within 61 (now (c .before .before .before .before .before .before .args .tapes)) (c .before .before .before .before .loop .from) (c .before .before .before .loop-test .taken))
+loop-again c =
+    omega (
+      arith,
+      mark-within 61 (now (c .before .before .before .before .before .before .args .tapes))
+          (c .before .before .before .before .loop .from) (c .before .before .before .loop-test .taken),
+    )
 
 pub print-replays-spec : {M : Type 1} → statement M
 print-replays-spec =

@@ -23,16 +23,36 @@ part-print-load-start : tie.Need-part-print-load-start Inv-loop μ-loop
 part-print-load-start c = omega arith
 
 part-print-load-end : tie.Need-part-print-load-end Inv-loop μ-loop
-part-print-load-end c = omega (arith, mark-within 61 (now (c .before .before .before .before .args .text)) (c .before .before .loop .from) (c .before .loop-test .taken))
+part-print-load-end c =
+    omega (
+      arith,
+      mark-within 61 (now (c .before .before .before .before .args .text)) (c .before .before .loop .from)
+          (c .before .loop-test .taken),
+    )
 
 add-from : tie.Need-add-from Inv-loop μ-loop
-add-from c = omega (arith, mark-within 61 (now (c .before .before .before .before .before .before .args .text)) (c .before .before .before .before .loop .from) (c .before .before .before .loop-test .taken))
+add-from c =
+    omega (
+      arith,
+      mark-within 61 (now (c .before .before .before .before .before .before .args .text))
+          (c .before .before .before .before .loop .from) (c .before .before .before .loop-test .taken),
+    )
 
 loop-less : tie.Need-loop-less Inv-loop μ-loop
-loop-less c = omega (arith, mark-within 61 (now (c .before .before .before .before .before .before .args .text)) (c .before .before .before .before .loop .from) (c .before .before .before .loop-test .taken))
+loop-less c =
+    omega (
+      arith,
+      mark-within 61 (now (c .before .before .before .before .before .before .args .text))
+          (c .before .before .before .before .loop .from) (c .before .before .before .loop-test .taken),
+    )
 
 loop-again : tie.Need-loop-again Inv-loop μ-loop
-loop-again c = omega (arith, mark-within 61 (now (c .before .before .before .before .before .before .args .text)) (c .before .before .before .before .loop .from) (c .before .before .before .loop-test .taken))
+loop-again c =
+    omega (
+      arith,
+      mark-within 61 (now (c .before .before .before .before .before .before .args .text))
+          (c .before .before .before .before .loop .from) (c .before .before .before .loop-test .taken),
+    )
 
 pub print-tapes-spec : {M : Type 1} → statement M
 print-tapes-spec =

@@ -19,13 +19,21 @@ loop-holds : tie.Need-loop-holds Inv-loop μ-loop
 loop-holds c = refl
 
 returns : tie.Need-returns Inv-loop μ-loop
-returns c = mark-here (c .before .before .before .before .args .mark) (now (c .before .before .before .before .args .text)) (c .before .before .before .loop .place) (c .before .before .loop-test .taken) (c .if1 .taken) ∙ c .before .before .before .loop .inv
+returns c =
+    mark-here (c .before .before .before .before .args .mark) (now (c .before .before .before .before .args .text))
+    (c .before .before .before .loop .place) (c .before .before .loop-test .taken) (c .if1 .taken)
+    ∙ c .before .before .before .loop .inv
 
 loop-again : tie.Need-loop-again Inv-loop μ-loop
-loop-again c = mark-later (c .before .before .before .before .args .mark) (now (c .before .before .before .before .args .text)) (c .before .before .before .loop .place) (c .before .before .loop-test .taken) (c .if1 .left) ∙ c .before .before .before .loop .inv
+loop-again c =
+    mark-later (c .before .before .before .before .args .mark) (now (c .before .before .before .before .args .text))
+    (c .before .before .before .loop .place) (c .before .before .loop-test .taken) (c .if1 .left)
+    ∙ c .before .before .before .loop .inv
 
 returns-2 : tie.Need-returns-2 Inv-loop μ-loop
-returns-2 c = no-mark (c .before .before .args .mark) (now (c .before .before .args .text)) (c .before .loop .place) (c .loop-test .left) ∙ c .before .loop .inv
+returns-2 c =
+    no-mark (c .before .before .args .mark) (now (c .before .before .args .text)) (c .before .loop .place)
+    (c .loop-test .left) ∙ c .before .loop .inv
 
 pub next-mark-spec : {M : Type 1} → statement M
 next-mark-spec =

@@ -13,4 +13,9 @@ reset-entry-spec =
     (λ c κs. search needs)
     (λ c κs. search needs)
     (λ c κs. search needs)
-    (λ c. rw (c .with-pc .ensures, c .before .vector .ensures, c .before .before .with-status .ensures, c .before .before .before .sei .ensures) refl))
+    (λ c. rw (
+      c .with-pc .ensures,
+      c .before .vector .ensures,
+      c .before .before .with-status .ensures,
+      c .before .before .before .sei .ensures,
+    ) refl))

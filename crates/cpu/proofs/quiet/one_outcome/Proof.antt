@@ -17,7 +17,8 @@ returns c =
     let done = c .run-instructions .ensures in
     done .1
     ∙ ap (λ (w : Work). instructionOf (w .registers) (now (at .answers)) (now (at .memory)))
-    (none-quiet (now (at .answers)) (now (at .memory)) (record { registers = at .registers; wait = 0; gone = record { 0 = 0 }; leaps = 0 }) (done .0))
+    (none-quiet (now (at .answers)) (now (at .memory))
+    (record { registers = at .registers; wait = 0; gone = record { 0 = 0 }; leaps = 0 }) (done .0))
 
 pub one-outcome-spec : {M : Type 1} → statement M
 one-outcome-spec = tie.close (tie.spec run-instructions-requires returns)

@@ -6,7 +6,9 @@ use Rattle.cpu_access.proofs.Bus.pull.Tie as tie
 
 returns : tie.Need-returns
 unfolding pullOf
-returns c = rw (c .before .read .ensures, c .before .before .stack-address .ensures, c .before .before .before .up .ensures) refl
+returns c =
+    rw (c .before .read .ensures, c .before .before .stack-address .ensures, c .before .before .before .up .ensures)
+    refl
 
 pub pull-spec : {M : Type 1} → statement M
 pull-spec = tie.close (tie.spec (λ c κs. search needs) (λ c κs. search needs) (λ c κs. search needs) returns)

@@ -5,7 +5,12 @@ use Rattle.cpu_access.proofs.Bus.pull_word.Tie as tie
 
 returns : tie.Need-returns
 unfolding pullWord
-returns c = rw (← (c .before .before .before .before .pull .ensures), ← (c .before .before .pull2 .ensures), ← (c .word16 .ensures))
+returns c =
+    rw (
+      ← (c .before .before .before .before .pull .ensures),
+      ← (c .before .before .pull2 .ensures),
+      ← (c .word16 .ensures),
+    )
 
 pub pull-word-spec : {M : Type 1} → statement M
 pull-word-spec = tie.close (tie.spec (λ c κs. search needs) (λ c κs. search needs) (λ c κs. search needs) returns)

@@ -9,7 +9,13 @@ returns c = rw (← (c .before .before .is-register .ensures), ← (c .ask .ensu
 
 returns-2 : tie.Need-returns-2
 unfolding readAfter
-returns-2 c = rw (← (c .before .before .before .is-register .ensures), ← (c .before .memory-byte .ensures), ← (c .written-over .ensures), c .before .before .if1 .left)
+returns-2 c =
+    rw (
+      ← (c .before .before .before .is-register .ensures),
+      ← (c .before .memory-byte .ensures),
+      ← (c .written-over .ensures),
+      c .before .before .if1 .left,
+    )
 
 pub read-after-spec : {M : Type 1} → statement M
 read-after-spec =

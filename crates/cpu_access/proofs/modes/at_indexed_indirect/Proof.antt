@@ -3,7 +3,12 @@ use Rattle.cpu_access.proofs.modes.at_indexed_indirect.Statement.{state
 use Rattle.cpu_access.proofs.modes.at_indexed_indirect.Tie as tie
 
 returns : tie.Need-returns
-returns c = rw (← (c .before .before .before .zero-page-indexed .ensures), ← (c .before .before .zero-page-pointer .ensures), ← (c .place-at .ensures))
+returns c =
+    rw (
+      ← (c .before .before .before .zero-page-indexed .ensures),
+      ← (c .before .before .zero-page-pointer .ensures),
+      ← (c .place-at .ensures),
+    )
 
 pub at-indexed-indirect-spec : {M : Type 1} → statement M
 at-indexed-indirect-spec =

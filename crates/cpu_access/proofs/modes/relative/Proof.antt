@@ -5,7 +5,12 @@ use Rattle.cpu_access.proofs.modes.relative.Tie as tie
 
 returns : tie.Need-returns
 unfolding relativeTo
-returns c = rw (← (c .before .before .displacement .ensures), ← (c .before .wrapping-add-u16 .ensures), ← (c .crossing .ensures))
+returns c =
+    rw (
+      ← (c .before .before .displacement .ensures),
+      ← (c .before .wrapping-add-u16 .ensures),
+      ← (c .crossing .ensures),
+    )
 
 pub relative-spec : {M : Type 1} → statement M
 relative-spec =

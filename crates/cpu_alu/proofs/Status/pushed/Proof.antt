@@ -14,7 +14,14 @@ mul-result : tie.Need-mul-result
 mul-result c = omega (arith, c .digit8 .ensures, digit-le (c .before .before .args .brk))
 
 add-result-2 : tie.Need-add-result-2
-add-result-2 c = omega (arith, c .before .pack .ensures, packed-le (c .before .before .args .self), c .digit8 .ensures, digit-le (c .before .before .args .brk))
+add-result-2 c =
+    omega (
+      arith,
+      c .before .pack .ensures,
+      packed-le (c .before .before .args .self),
+      c .digit8 .ensures,
+      digit-le (c .before .before .args .brk),
+    )
 
 returns : tie.Need-returns
 unfolding pushed

@@ -10,4 +10,5 @@ returns c = rw (← (c .before .digit8 .ensures), ← (c .overflow .ensures))
 pub add-binary-spec : {M : Type 1} → statement M
 add-binary-spec =
     tie.close
-    (tie.spec (λ c. search needs) (λ c κs. search needs) (λ c. search needs) (λ c. search needs) (λ c. search needs) (λ c κs. search needs) returns)
+    (tie.spec (λ c. search needs) (λ c κs. search needs) (λ c. search needs) (λ c. search needs) (λ c. search needs)
+    (λ c κs. search needs) returns)

@@ -6,7 +6,13 @@ use Rattle.cpu_alu.proofs.arithmetic.add_decimal.Tie as tie
 
 returns : tie.Need-returns
 unfolding addDecimal digitSum
-returns c = rw (← (c .before .before .before .low-sum .ensures), ← (c .before .before .overflow .ensures), ← (c .before .digit8 .ensures), ← (c .corrected .ensures)) refl
+returns c =
+    rw (
+      ← (c .before .before .before .low-sum .ensures),
+      ← (c .before .before .overflow .ensures),
+      ← (c .before .digit8 .ensures),
+      ← (c .corrected .ensures),
+    ) refl
 
 pub add-decimal-spec : {M : Type 1} → statement M
 add-decimal-spec =

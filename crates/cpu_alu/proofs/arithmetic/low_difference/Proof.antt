@@ -15,8 +15,10 @@ returns : tie.Need-returns
 returns c =
     let at = c .before .before .args in
     let o = digit-not (at .c) in
-    let e = c .before .digit8 .ensures in
-    (omega arith, borrowed-neg (at .a % 16) (at .m % 16 + digit (not (at .c))) _ (omega arith) (omega arith) (c .if1 .taken))
+    let e = c .before .digit8 .ensures in (
+      omega arith,
+      borrowed-neg (at .a % 16) (at .m % 16 + digit (not (at .c))) _ (omega arith) (omega arith) (c .if1 .taken),
+    )
 
 returns-2 : tie.Need-returns-2
 returns-2 c =

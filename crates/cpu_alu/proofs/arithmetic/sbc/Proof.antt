@@ -5,7 +5,12 @@ use Rattle.cpu_alu.proofs.arithmetic.sbc.Tie as tie
 
 returns : tie.Need-returns
 unfolding sbcOf
-returns c = rw (← (c .before .before .before .add-binary .ensures), ← (c .subtract-decimal .ensures), c .before .before .if1 .taken)
+returns c =
+    rw (
+      ← (c .before .before .before .add-binary .ensures),
+      ← (c .subtract-decimal .ensures),
+      c .before .before .if1 .taken,
+    )
 
 returns-2 : tie.Need-returns-2
 unfolding sbcOf

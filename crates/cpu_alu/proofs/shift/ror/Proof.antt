@@ -15,7 +15,8 @@ add-value c = omega (arith, c .digit8 .ensures, digit-le (c .before .args .statu
 
 returns : tie.Need-returns
 unfolding rorOf
-returns c = rw (bit-zero, c .resulting .ensures, c .before .with-carry .ensures, c .before .before .digit8 .ensures) refl
+returns c =
+    rw (bit-zero, c .resulting .ensures, c .before .with-carry .ensures, c .before .before .digit8 .ensures) refl
 
 pub ror-spec : {M : Type 1} → statement M
 ror-spec =

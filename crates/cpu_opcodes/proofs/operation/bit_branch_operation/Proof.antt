@@ -9,7 +9,9 @@ use Rattle.cpu_opcodes.proofs.operation.bit_branch_operation.Statement.
 use Rattle.cpu_opcodes.proofs.operation.bit_branch_operation.Tie as tie
 
 last : tie.Need-returns-2
-last c = sym (List·getD-eq-default (bitBranchOperations (c .before .args .bit)) (Bbs (c .before .args .bit)) (apart-le 1 _ (c .match .rest)))
+last c =
+    sym (List·getD-eq-default (bitBranchOperations (c .before .args .bit)) (Bbs (c .before .args .bit))
+    (apart-le 1 _ (c .match .rest)))
 
 pub bit-branch-operation-spec : {M : Type 1} → statement M
 bit-branch-operation-spec =

@@ -9,7 +9,9 @@ use Rattle.cpu_opcodes.proofs.operation.modify_operation.Statement.{sta
 use Rattle.cpu_opcodes.proofs.operation.modify_operation.Tie as tie
 
 last : tie.Need-returns-8
-last c = sym (List·getD-eq-default (modifyOperations (c .before .args .bit)) (Smb (c .before .args .bit)) (apart-le 7 _ (c .match .rest)))
+last c =
+    sym (List·getD-eq-default (modifyOperations (c .before .args .bit)) (Smb (c .before .args .bit))
+    (apart-le 7 _ (c .match .rest)))
 
 pub modify-operation-spec : {M : Type 1} → statement M
 modify-operation-spec =

@@ -10,7 +10,9 @@ use Rattle.cpu_opcodes.proofs.operation.operation_of.Statement.{stateme
 use Rattle.cpu_opcodes.proofs.operation.operation_of.Tie as tie
 
 last : tie.Need-returns-15
-last c = let at = c .before .args in sym (List·getD-eq-default (operationsBy (at .number) (at .bit)) Rts (apart-le 14 _ (c .match .rest)))
+last c =
+    let at = c .before .args in
+    sym (List·getD-eq-default (operationsBy (at .number) (at .bit)) Rts (apart-le 14 _ (c .match .rest)))
 
 pub operation-of-spec : {M : Type 1} → statement M
 operation-of-spec =

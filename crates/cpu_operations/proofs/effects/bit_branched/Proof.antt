@@ -5,7 +5,13 @@ use Rattle.cpu_operations.proofs.effects.bit_branched.Tie as tie
 
 returns : tie.Need-returns
 unfolding bitBranched
-returns c = rw (← (c .before .before .before .before .fetch .ensures), ← (c .before .before .before .relative .ensures), ← (c .before .with-pc .ensures), ← (c .branched .ensures))
+returns c =
+    rw (
+      ← (c .before .before .before .before .fetch .ensures),
+      ← (c .before .before .before .relative .ensures),
+      ← (c .before .with-pc .ensures),
+      ← (c .branched .ensures),
+    )
 
 pub bit-branched-spec : {M : Type 1} → statement M
 bit-branched-spec =

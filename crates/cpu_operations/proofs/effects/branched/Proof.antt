@@ -11,7 +11,13 @@ add-length-2 c = omega (arith, c .digit8 .ensures, digit-le (c .before .before .
 
 returns : tie.Need-returns
 unfolding branched
-returns c = rw (c .quiet .ensures, c .before .with-pc .ensures, c .before .before .digit8 .ensures, c .before .before .before .before .if1 .taken) refl
+returns c =
+    rw (
+      c .quiet .ensures,
+      c .before .with-pc .ensures,
+      c .before .before .digit8 .ensures,
+      c .before .before .before .before .if1 .taken,
+    ) refl
 
 returns-2 : tie.Need-returns-2
 unfolding branched

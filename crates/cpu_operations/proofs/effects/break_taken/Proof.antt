@@ -6,7 +6,13 @@ use Rattle.cpu_operations.proofs.effects.break_taken.Tie as tie
 
 returns : tie.Need-returns
 unfolding breakTaken
-returns c = rw (c .interrupted .ensures, c .before .pushed .ensures, c .before .before .with-pc .ensures, c .before .before .before .next-address .ensures) refl
+returns c =
+    rw (
+      c .interrupted .ensures,
+      c .before .pushed .ensures,
+      c .before .before .with-pc .ensures,
+      c .before .before .before .next-address .ensures,
+    ) refl
 
 pub break-taken-spec : {M : Type 1} → statement M
 break-taken-spec =

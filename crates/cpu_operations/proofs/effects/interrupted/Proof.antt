@@ -18,4 +18,14 @@ interrupted-spec =
     (λ c κs. search needs)
     (λ c κs. search needs)
     (λ c κs. search needs)
-    (λ c. rw (c .with-pc .ensures, c .before .vector .ensures, c .before .before .with-sp .ensures, c .before .before .before .down3 .ensures, c .before .before .before .before .down2 .ensures, c .before .before .before .before .before .down .ensures, c .before .before .before .before .before .before .with-status .ensures, c .before .before .before .before .before .before .before .sei .ensures, c .before .before .before .before .before .before .before .before .before .push-interrupt .ensures) refl))
+    (λ c. rw (
+      c .with-pc .ensures,
+      c .before .vector .ensures,
+      c .before .before .with-sp .ensures,
+      c .before .before .before .down3 .ensures,
+      c .before .before .before .before .down2 .ensures,
+      c .before .before .before .before .before .down .ensures,
+      c .before .before .before .before .before .before .with-status .ensures,
+      c .before .before .before .before .before .before .before .sei .ensures,
+      c .before .before .before .before .before .before .before .before .before .push-interrupt .ensures,
+    ) refl))

@@ -13,4 +13,9 @@ pulled-byte-spec =
     (λ c κs. search needs)
     (λ c κs. search needs)
     (λ c κs. search needs)
-    (λ c. rw (c .quiet .ensures, c .before .with-pulled .ensures, c .before .before .with-sp .ensures, c .before .before .before .before .pull .ensures) refl))
+    (λ c. rw (
+      c .quiet .ensures,
+      c .before .with-pulled .ensures,
+      c .before .before .with-sp .ensures,
+      c .before .before .before .before .pull .ensures,
+    ) refl))

@@ -14,4 +14,10 @@ pushed-byte-spec =
     (λ c κs. search needs)
     (λ c κs. search needs)
     (λ c κs. search needs)
-    (λ c. rw (c .executed-with .ensures, c .before .with-sp .ensures, c .before .before .down .ensures, c .before .before .before .one-write .ensures, c .before .before .before .before .stack-address .ensures) refl))
+    (λ c. rw (
+      c .executed-with .ensures,
+      c .before .with-sp .ensures,
+      c .before .before .down .ensures,
+      c .before .before .before .one-write .ensures,
+      c .before .before .before .before .stack-address .ensures,
+    ) refl))

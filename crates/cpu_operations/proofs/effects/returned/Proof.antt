@@ -14,4 +14,10 @@ returned-spec =
     (λ c κs. search needs)
     (λ c κs. search needs)
     (λ c κs. search needs)
-    (λ c. rw (c .quiet .ensures, c .before .with-pc .ensures, c .before .before .with-sp .ensures, c .before .before .before .next-address .ensures, c .before .before .before .before .before .pull-word .ensures) refl))
+    (λ c. rw (
+      c .quiet .ensures,
+      c .before .with-pc .ensures,
+      c .before .before .with-sp .ensures,
+      c .before .before .before .next-address .ensures,
+      c .before .before .before .before .before .pull-word .ensures,
+    ) refl))

@@ -6,7 +6,14 @@ use Rattle.r6501q.proofs.host.host_state.Tie as tie
 
 returns : tie.Need-returns
 unfolding hostState
-returns c = rw (c .before .before .before .before .host-cpu .ensures, c .before .before .before .host-due .ensures, c .before .before .host-peripherals .ensures, c .before .host-levels .ensures, c .host-levels2 .ensures) refl
+returns c =
+    rw (
+      c .before .before .before .before .host-cpu .ensures,
+      c .before .before .before .host-due .ensures,
+      c .before .before .host-peripherals .ensures,
+      c .before .host-levels .ensures,
+      c .host-levels2 .ensures,
+    ) refl
 
 pub host-state-spec : {M : Type 1} → statement M
 host-state-spec =

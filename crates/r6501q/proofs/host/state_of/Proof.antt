@@ -6,7 +6,14 @@ use Rattle.r6501q.proofs.host.state_of.Tie as tie
 
 returns : tie.Need-returns
 unfolding stateFromHost
-returns c = rw (c .before .before .before .before .cpu-from .ensures, c .before .before .before .due-of .ensures, c .before .before .peripherals-of .ensures, c .before .levels-of .ensures, c .levels-of2 .ensures) refl
+returns c =
+    rw (
+      c .before .before .before .before .cpu-from .ensures,
+      c .before .before .before .due-of .ensures,
+      c .before .before .peripherals-of .ensures,
+      c .before .levels-of .ensures,
+      c .levels-of2 .ensures,
+    ) refl
 
 pub state-of-spec : {M : Type 1} → statement M
 state-of-spec =

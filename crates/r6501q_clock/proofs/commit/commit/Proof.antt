@@ -13,23 +13,33 @@ use Rattle.r6501q_clock.proofs.commit.commit.Tie as tie
 returns : tie.Need-returns
 unfolding committed putWrite
 returns c =
-    let count = c .before .before .before .before .before .before .before .before .before .before .before .before .args .w .count in
+    let count =
+    c .before .before .before .before .before .before .before .before .before .before .before .before .args .w .count in
     let second : ltb 1 count ≡ false = le-ltb 1 count (omega (arith, c .if1 .taken)) in
-    let third : ltb 2 count ≡ false = le-ltb 2 count (omega (arith, c .if1 .taken)) in
-    (rw (second, third) (c .before .before .before .before .before .before .put-write .ensures .0), c .before .before .before .before .before .before .put-write .ensures .1)
+    let third : ltb 2 count ≡ false = le-ltb 2 count (omega (arith, c .if1 .taken)) in (
+      rw (second, third) (c .before .before .before .before .before .before .put-write .ensures .0),
+      c .before .before .before .before .before .before .put-write .ensures .1,
+    )
 
 returns-2 : tie.Need-returns-2
 unfolding committed
 returns-2 c =
-    let at = c .before .before .before .before .before .before .before .before .before .before .before .before .before .before .before .before .before .before .before .before .before .before .before .before .before .before .before .before .args in
-    let first = c .before .before .before .before .before .before .before .before .before .before .before .before .before .before .before .before .before .before .before .before .before .before .put-write in
-    let second = c .before .before .before .before .before .before .before .before .before .before .before .before .put-write2 in
+    let at =
+    c .before .before .before .before .before .before .before .before .before .before .before .before .before .before
+    .before .before .before .before .before .before .before .before .before .before .before .before .before .before
+    .args in
+    let first =
+    c .before .before .before .before .before .before .before .before .before .before .before .before .before .before
+    .before .before .before .before .before .before .before .before .put-write in
+    let second =
+    c .before .before .before .before .before .before .before .before .before .before .before .before .put-write2 in
     let third = c .before .before .before .before .put-write3 in
     let sums = now (at .sums) in
     let memory = now (at .memory) in (
       rw (third .ensures .0, second .ensures .0, first .ensures .0) refl,
       sums-then 0 sums memory (second .last .0) (third .last .0)
-          (sums-then 0 sums memory (first .last .0) (second .last .0) (first .ensures .1) (second .ensures .1)) (third .ensures .1),
+          (sums-then 0 sums memory (first .last .0) (second .last .0) (first .ensures .1) (second .ensures .1))
+          (third .ensures .1),
     )
 
 pub commit-spec : {M : Type 1} → statement M

@@ -12,15 +12,23 @@ use Rattle.r6501q_clock.proofs.commit.put_write.Tie as tie
 returns : tie.Need-returns
 unfolding putWrite
 returns c =
-    let put = c .before .before .before .before .commit-byte in
-    (rw (← (c .before .before .before .before .before .before .before .before .before .is-register .ensures), c .before .before .before .before .before .before .before .before .if1 .taken) (put .ensures .0), put .ensures .1)
+    let put = c .before .before .before .before .commit-byte in (
+      rw (
+        ← (c .before .before .before .before .before .before .before .before .before .is-register .ensures),
+        c .before .before .before .before .before .before .before .before .if1 .taken,
+      ) (put .ensures .0),
+      put .ensures .1,
+    )
 
 returns-2 : tie.Need-returns-2
 unfolding putWrite
 returns-2 c =
     let at = c .before .before .before .before .before .before .args in
-    let words : SixteenBits (now (at .sums)) = λ p. omega (arith, c .before .before .before .before .slice-known2 .given p) in
-    (rw (← (c .before .before .is-register .ensures), c .before .if1 .taken, set-out _ _ _ (c .if2 .left)) refl, sums-kept 0 (now (at .sums)) (now (at .memory)) words)
+    let words : SixteenBits (now (at .sums)) =
+    λ p. omega (arith, c .before .before .before .before .slice-known2 .given p) in (
+      rw (← (c .before .before .is-register .ensures), c .before .if1 .taken, set-out _ _ _ (c .if2 .left)) refl,
+      sums-kept 0 (now (at .sums)) (now (at .memory)) words,
+    )
 
 returns-3 : tie.Need-returns-3
 unfolding putWrite

@@ -10,7 +10,16 @@ returns c = rw (← (c .before .before .asks-for .ensures), ← (c .left-as-it-w
 
 returns-2 : tie.Need-returns-2
 unfolding bitBranchTried bitBranchTaken
-returns-2 c = rw (← (c .before .before .before .before .before .before .before .before .asks-for .ensures), ← (c .before .before .before .before .before .memory-byte .ensures), ← (c .before .before .before .before .bit8 .ensures), ← (c .before .before .fetch .ensures), ← (c .before .relative .ensures), ← (c .branch .ensures), c .before .before .before .before .before .before .before .if1 .left)
+returns-2 c =
+    rw (
+      ← (c .before .before .before .before .before .before .before .before .asks-for .ensures),
+      ← (c .before .before .before .before .before .memory-byte .ensures),
+      ← (c .before .before .before .before .bit8 .ensures),
+      ← (c .before .before .fetch .ensures),
+      ← (c .before .relative .ensures),
+      ← (c .branch .ensures),
+      c .before .before .before .before .before .before .before .if1 .left,
+    )
 
 pub bbs-spec : {M : Type 1} → statement M
 bbs-spec =

@@ -14,11 +14,24 @@ add-clocks-2 c = omega (arith, c .digit8 .ensures, digit-le (c .before .before .
 
 returns-2 : tie.Need-returns-2
 unfolding branchTried
-returns-2 c = rw (← (c .before .before .digit8 .ensures), ← (c .before .with-pc .ensures), ← (c .started-next .ensures), c .before .before .before .if2 .taken, c .before .before .before .before .if1 .left)
+returns-2 c =
+    rw (
+      ← (c .before .before .digit8 .ensures),
+      ← (c .before .with-pc .ensures),
+      ← (c .started-next .ensures),
+      c .before .before .before .if2 .taken,
+      c .before .before .before .before .if1 .left,
+    )
 
 returns-3 : tie.Need-returns-3
 unfolding branchTried
-returns-3 c = rw (← (c .before .with-pc2 .ensures), ← (c .started-next2 .ensures), c .before .before .if2 .left, c .before .before .before .if1 .left)
+returns-3 c =
+    rw (
+      ← (c .before .with-pc2 .ensures),
+      ← (c .started-next2 .ensures),
+      c .before .before .if2 .left,
+      c .before .before .before .if1 .left,
+    )
 
 pub branch-spec : {M : Type 1} → statement M
 branch-spec =

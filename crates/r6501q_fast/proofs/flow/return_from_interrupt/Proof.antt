@@ -6,12 +6,28 @@ use mathlib.Core.Path.{refl}
 
 returns : tie.Need-returns
 unfolding interruptReturnTried
-returns c = rw (← (c .before .before .before .before .before .before .before .idle .ensures), ← (c .before .before .before .before .before .pull .ensures), ← (c .before .before .pull-word .ensures), c .before .if1 .taken) (c .left-as-it-was .ensures)
+returns c =
+    rw (
+      ← (c .before .before .before .before .before .before .before .idle .ensures),
+      ← (c .before .before .before .before .before .pull .ensures),
+      ← (c .before .before .pull-word .ensures),
+      c .before .if1 .taken,
+    ) (c .left-as-it-was .ensures)
 
 returns-2 : tie.Need-returns-2
 unfolding interruptReturnTried
 returns-2 c =
-    rw (← (c .before .before .before .before .before .before .before .before .before .before .before .idle .ensures), ← (c .before .before .before .before .before .before .before .before .before .pull .ensures), ← (c .before .before .before .before .before .before .pull-word .ensures), c .before .before .before .before .before .if1 .left, c .started-next .ensures, c .before .with-pc .ensures, c .before .before .with-status .ensures, c .before .before .before .with-sp .ensures, c .before .before .before .before .unpack .ensures) refl
+    rw (
+      ← (c .before .before .before .before .before .before .before .before .before .before .before .idle .ensures),
+      ← (c .before .before .before .before .before .before .before .before .before .pull .ensures),
+      ← (c .before .before .before .before .before .before .pull-word .ensures),
+      c .before .before .before .before .before .if1 .left,
+      c .started-next .ensures,
+      c .before .with-pc .ensures,
+      c .before .before .with-status .ensures,
+      c .before .before .before .with-sp .ensures,
+      c .before .before .before .before .unpack .ensures,
+    ) refl
 
 pub return-from-interrupt-spec : {M : Type 1} → statement M
 return-from-interrupt-spec =

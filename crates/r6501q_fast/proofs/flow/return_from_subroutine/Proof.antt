@@ -6,12 +6,25 @@ use mathlib.Core.Path.{refl}
 
 returns : tie.Need-returns
 unfolding returnTried
-returns c = rw (← (c .before .before .before .before .idle .ensures), ← (c .before .before .pull-word .ensures), c .before .if1 .taken) (c .left-as-it-was .ensures)
+returns c =
+    rw (
+      ← (c .before .before .before .before .idle .ensures),
+      ← (c .before .before .pull-word .ensures),
+      c .before .if1 .taken,
+    ) (c .left-as-it-was .ensures)
 
 returns-2 : tie.Need-returns-2
 unfolding returnTried
 returns-2 c =
-    rw (← (c .before .before .before .before .before .before .before .idle .ensures), ← (c .before .before .before .before .before .pull-word .ensures), c .before .before .before .before .if1 .left, c .started-next .ensures, c .before .with-pc .ensures, c .before .before .next-address .ensures, c .before .before .before .with-sp .ensures) refl
+    rw (
+      ← (c .before .before .before .before .before .before .before .idle .ensures),
+      ← (c .before .before .before .before .before .pull-word .ensures),
+      c .before .before .before .before .if1 .left,
+      c .started-next .ensures,
+      c .before .with-pc .ensures,
+      c .before .before .next-address .ensures,
+      c .before .before .before .with-sp .ensures,
+    ) refl
 
 pub return-from-subroutine-spec : {M : Type 1} → statement M
 return-from-subroutine-spec =

@@ -3,7 +3,8 @@ use Rattle.r6501q_fast.proofs.places.absolute.Tie as tie
 use borrow.Author.Needs.{needs}
 
 returns : tie.Need-returns
-returns c = rw (← (c .before .before .before .idle .ensures), ← (c .before .fetch-word .ensures), ← (c .at-absolute .ensures))
+returns c =
+    rw (← (c .before .before .before .idle .ensures), ← (c .before .fetch-word .ensures), ← (c .at-absolute .ensures))
 
 pub absolute-spec : {M : Type 1} → statement M
 absolute-spec =

@@ -3,7 +3,12 @@ use Rattle.r6501q_fast.proofs.places.indexed_indirect.Tie as tie
 use borrow.Author.Needs.{needs}
 
 returns : tie.Need-returns
-returns c = rw (← (c .before .before .before .idle .ensures), ← (c .before .fetch .ensures), ← (c .at-indexed-indirect .ensures))
+returns c =
+    rw (
+      ← (c .before .before .before .idle .ensures),
+      ← (c .before .fetch .ensures),
+      ← (c .at-indexed-indirect .ensures),
+    )
 
 pub indexed-indirect-spec : {M : Type 1} → statement M
 indexed-indirect-spec =

@@ -3,7 +3,12 @@ use Rattle.r6501q_fast.proofs.places.indirect_indexed.Tie as tie
 use borrow.Author.Needs.{needs}
 
 returns : tie.Need-returns
-returns c = rw (← (c .before .before .before .idle .ensures), ← (c .before .fetch .ensures), ← (c .at-indirect-indexed .ensures))
+returns c =
+    rw (
+      ← (c .before .before .before .idle .ensures),
+      ← (c .before .fetch .ensures),
+      ← (c .at-indirect-indexed .ensures),
+    )
 
 pub indirect-indexed-spec : {M : Type 1} → statement M
 indirect-indexed-spec =

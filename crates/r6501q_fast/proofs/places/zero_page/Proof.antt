@@ -3,7 +3,8 @@ use Rattle.r6501q_fast.proofs.places.zero_page.Tie as tie
 use borrow.Author.Needs.{needs}
 
 returns : tie.Need-returns
-returns c = rw (← (c .before .before .before .idle .ensures), ← (c .before .fetch .ensures), ← (c .at-zero-page .ensures))
+returns c =
+    rw (← (c .before .before .before .idle .ensures), ← (c .before .fetch .ensures), ← (c .at-zero-page .ensures))
 
 pub zero-page-spec : {M : Type 1} → statement M
 zero-page-spec =

@@ -7,7 +7,13 @@ use mathlib.Core.Path.{refl}
 
 returns : tie.Need-returns
 unfolding registerTried withRegister
-returns c = rw (c .started-next .ensures, c .before .into-y .ensures, c .before .before .decrement .ensures, c .before .before .before .with-pc .ensures) refl
+returns c =
+    rw (
+      c .started-next .ensures,
+      c .before .into-y .ensures,
+      c .before .before .decrement .ensures,
+      c .before .before .before .with-pc .ensures,
+    ) refl
 
 pub dey-spec : {M : Type 1} → statement M
 dey-spec =

@@ -12,7 +12,8 @@ use Rattle.cpu_opcodes.specs.declared.operation.ModifyOperation.the-variants.{A
 use Rattle.cpu_opcodes.specs.declared.operation.PushOperation.the-variants.{Php}
 use Rattle.cpu_opcodes.specs.declared.operation.ReadOperation.the-variants.{Ora}
 use Rattle.r6501q_fast.specs.Attempts.{unchanged}
-use Rattle.r6501q_fast.proofs.Opcodes.{opcode-01, opcode-05, opcode-06, opcode-07, opcode-08, opcode-09, opcode-0A, opcode-0D, opcode-0E, opcode-0F}
+use Rattle.r6501q_fast.proofs.Opcodes.{opcode-01, opcode-05, opcode-06, opcode-07, opcode-08, opcode-09}
+use Rattle.r6501q_fast.proofs.Opcodes.{opcode-0A, opcode-0D, opcode-0E, opcode-0F}
 use Rattle.r6501q_fast.proofs.Tried.{accumulator-tries, bit-branch-tries, change-tries, push-tries, read-tries}
 use Rattle.r6501q_fast.proofs.rows.row_0.Statement.{statement}
 use Rattle.r6501q_fast.proofs.rows.row_0.Tie as tie
@@ -23,8 +24,16 @@ returns c =
     let root = c .before .before .before .before .before .before .before in
     let at = root .args in
     let decodes = ap decodeOf (root .pre .1 .1 ∙ c .before .before .before .match .keys1) ∙ opcode-01 in
-    let words : SixteenBits (now (at .sums)) = λ k. omega (arith, c .before .before .before .before .before .slice-known2 .given k) in
-    (rw (c .ora .ensures, c .before .indexed-indirect .ensures, c .before .before .before .before .next-address .ensures) (read-tries (at .halt) (at .span .0) (at .w) (now (at .memory)) (root .pre .0 .0) (root .pre .1 .0) Ora IndexedIndirect 6 decodes), sums-kept 0 (now (at .sums)) (now (at .memory)) words)
+    let words : SixteenBits (now (at .sums)) =
+    λ k. omega (arith, c .before .before .before .before .before .slice-known2 .given k) in (
+      rw (
+        c .ora .ensures,
+        c .before .indexed-indirect .ensures,
+        c .before .before .before .before .next-address .ensures,
+      ) (read-tries (at .halt) (at .span .0) (at .w) (now (at .memory)) (root .pre .0 .0) (root .pre .1 .0) Ora
+          IndexedIndirect 6 decodes),
+      sums-kept 0 (now (at .sums)) (now (at .memory)) words,
+    )
 
 returns-2 : tie.Need-returns-2
 unfolding locateOf
@@ -32,34 +41,66 @@ returns-2 c =
     let root = c .before .before .before .before .before .before .before in
     let at = root .args in
     let decodes = ap decodeOf (root .pre .1 .1 ∙ c .before .before .before .match .keys2) ∙ opcode-05 in
-    let words : SixteenBits (now (at .sums)) = λ k. omega (arith, c .before .before .before .before .before .slice-known2 .given k) in
-    (rw (c .ora2 .ensures, c .before .zero-page .ensures, c .before .before .before .before .next-address .ensures) (read-tries (at .halt) (at .span .0) (at .w) (now (at .memory)) (root .pre .0 .0) (root .pre .1 .0) Ora ZeroPage 3 decodes), sums-kept 0 (now (at .sums)) (now (at .memory)) words)
+    let words : SixteenBits (now (at .sums)) =
+    λ k. omega (arith, c .before .before .before .before .before .slice-known2 .given k) in (
+      rw (c .ora2 .ensures, c .before .zero-page .ensures, c .before .before .before .before .next-address .ensures)
+          (read-tries (at .halt) (at .span .0) (at .w) (now (at .memory)) (root .pre .0 .0) (root .pre .1 .0) Ora
+          ZeroPage 3 decodes),
+      sums-kept 0 (now (at .sums)) (now (at .memory)) words,
+    )
 
 returns-3 : tie.Need-returns-3
 unfolding locateOf
 returns-3 c =
-    let root = c .before .before .before .before .before .before .before .before .before .before .before .before .before in
+    let root =
+    c .before .before .before .before .before .before .before .before .before .before .before .before .before in
     let at = root .args in
-    let decodes = ap decodeOf (root .pre .1 .1 ∙ c .before .before .before .before .before .before .before .before .before .match .keys3) ∙ opcode-06 in
-    let put = c .before .before .before .before .asl .ensures in
-    (rw (put .0, put .1 .0, c .before .before .before .before .before .zero-page2 .ensures, c .before .before .before .before .before .before .before .before .before .before .next-address .ensures) (change-tries (at .halt) (at .span .0) (at .w) (now (at .memory)) (root .pre .0 .0) (root .pre .1 .0) Asl ZeroPage 5 decodes refl (omega arith)), put .1 .1)
+    let decodes = ap decodeOf
+    (root .pre .1 .1 ∙ c .before .before .before .before .before .before .before .before .before .match .keys3)
+    ∙ opcode-06 in
+    let put = c .before .before .before .before .asl .ensures in (
+      rw (
+        put .0,
+        put .1 .0,
+        c .before .before .before .before .before .zero-page2 .ensures,
+        c .before .before .before .before .before .before .before .before .before .before .next-address .ensures,
+      ) (change-tries (at .halt) (at .span .0) (at .w) (now (at .memory)) (root .pre .0 .0) (root .pre .1 .0) Asl
+          ZeroPage 5 decodes refl (omega arith)),
+      put .1 .1,
+    )
 
 returns-4 : tie.Need-returns-4
 unfolding locateOf
 returns-4 c =
-    let root = c .before .before .before .before .before .before .before .before .before .before .before .before .before in
+    let root =
+    c .before .before .before .before .before .before .before .before .before .before .before .before .before in
     let at = root .args in
-    let decodes = ap decodeOf (root .pre .1 .1 ∙ c .before .before .before .before .before .before .before .before .before .match .keys4) ∙ opcode-07 in
-    let put = c .before .before .before .before .rmb .ensures in
-    (rw (put .0, put .1 .0, c .before .before .before .before .before .zero-page3 .ensures, c .before .before .before .before .before .before .before .before .before .before .next-address .ensures) (change-tries (at .halt) (at .span .0) (at .w) (now (at .memory)) (root .pre .0 .0) (root .pre .1 .0) (Rmb 0) ZeroPage 5 decodes refl (omega arith)), put .1 .1)
+    let decodes = ap decodeOf
+    (root .pre .1 .1 ∙ c .before .before .before .before .before .before .before .before .before .match .keys4)
+    ∙ opcode-07 in
+    let put = c .before .before .before .before .rmb .ensures in (
+      rw (
+        put .0,
+        put .1 .0,
+        c .before .before .before .before .before .zero-page3 .ensures,
+        c .before .before .before .before .before .before .before .before .before .before .next-address .ensures,
+      ) (change-tries (at .halt) (at .span .0) (at .w) (now (at .memory)) (root .pre .0 .0) (root .pre .1 .0)
+          (Rmb 0) ZeroPage 5 decodes refl (omega arith)),
+      put .1 .1,
+    )
 
 returns-5 : tie.Need-returns-5
 returns-5 c =
     let root = c .before .before .before .before .before .before .before .before .before .before .before in
     let at = root .args in
-    let decodes = ap decodeOf (root .pre .1 .1 ∙ c .before .before .before .before .before .before .before .match .keys5) ∙ opcode-08 in
-    let put = c .before .before .before .before .php .ensures in
-    (rw (put .0, put .1 .0, c .before .before .before .before .before .before .before .before .next-address .ensures) (push-tries (at .halt) (at .span .0) (at .w) (now (at .memory)) (root .pre .0 .0) (root .pre .1 .0) Php 3 decodes), put .1 .1)
+    let decodes = ap decodeOf
+    (root .pre .1 .1 ∙ c .before .before .before .before .before .before .before .match .keys5) ∙ opcode-08 in
+    let put = c .before .before .before .before .php .ensures in (
+      rw (put .0, put .1 .0, c .before .before .before .before .before .before .before .before .next-address .ensures)
+          (push-tries (at .halt) (at .span .0) (at .w) (now (at .memory)) (root .pre .0 .0) (root .pre .1 .0) Php 3
+          decodes),
+      put .1 .1,
+    )
 
 returns-6 : tie.Need-returns-6
 unfolding locateOf
@@ -67,16 +108,24 @@ returns-6 c =
     let root = c .before .before .before .before .before .before .before in
     let at = root .args in
     let decodes = ap decodeOf (root .pre .1 .1 ∙ c .before .before .before .match .keys6) ∙ opcode-09 in
-    let words : SixteenBits (now (at .sums)) = λ k. omega (arith, c .before .before .before .before .before .slice-known2 .given k) in
-    (rw (c .ora3 .ensures, c .before .immediate .ensures, c .before .before .before .before .next-address .ensures) (read-tries (at .halt) (at .span .0) (at .w) (now (at .memory)) (root .pre .0 .0) (root .pre .1 .0) Ora Immediate 2 decodes), sums-kept 0 (now (at .sums)) (now (at .memory)) words)
+    let words : SixteenBits (now (at .sums)) =
+    λ k. omega (arith, c .before .before .before .before .before .slice-known2 .given k) in (
+      rw (c .ora3 .ensures, c .before .immediate .ensures, c .before .before .before .before .next-address .ensures)
+          (read-tries (at .halt) (at .span .0) (at .w) (now (at .memory)) (root .pre .0 .0) (root .pre .1 .0) Ora
+          Immediate 2 decodes),
+      sums-kept 0 (now (at .sums)) (now (at .memory)) words,
+    )
 
 returns-7 : tie.Need-returns-7
 returns-7 c =
     let root = c .before .before .before .before .before in
     let at = root .args in
     let decodes = ap decodeOf (root .pre .1 .1 ∙ c .before .match .keys7) ∙ opcode-0A in
-    let words : SixteenBits (now (at .sums)) = λ k. omega (arith, c .before .before .before .slice-known2 .given k) in
-    (rw (c .asl-accumulator .ensures, c .before .before .next-address .ensures) (accumulator-tries (at .halt) (at .span .0) (at .w) (now (at .memory)) (root .pre .0 .0) (root .pre .1 .0) Asl 2 decodes), sums-kept 0 (now (at .sums)) (now (at .memory)) words)
+    let words : SixteenBits (now (at .sums)) = λ k. omega (arith, c .before .before .before .slice-known2 .given k) in (
+      rw (c .asl-accumulator .ensures, c .before .before .next-address .ensures) (accumulator-tries (at .halt)
+          (at .span .0) (at .w) (now (at .memory)) (root .pre .0 .0) (root .pre .1 .0) Asl 2 decodes),
+      sums-kept 0 (now (at .sums)) (now (at .memory)) words,
+    )
 
 returns-8 : tie.Need-returns-8
 unfolding locateOf
@@ -84,17 +133,33 @@ returns-8 c =
     let root = c .before .before .before .before .before .before .before in
     let at = root .args in
     let decodes = ap decodeOf (root .pre .1 .1 ∙ c .before .before .before .match .keys8) ∙ opcode-0D in
-    let words : SixteenBits (now (at .sums)) = λ k. omega (arith, c .before .before .before .before .before .slice-known2 .given k) in
-    (rw (c .ora4 .ensures, c .before .absolute .ensures, c .before .before .before .before .next-address .ensures) (read-tries (at .halt) (at .span .0) (at .w) (now (at .memory)) (root .pre .0 .0) (root .pre .1 .0) Ora Absolute 4 decodes), sums-kept 0 (now (at .sums)) (now (at .memory)) words)
+    let words : SixteenBits (now (at .sums)) =
+    λ k. omega (arith, c .before .before .before .before .before .slice-known2 .given k) in (
+      rw (c .ora4 .ensures, c .before .absolute .ensures, c .before .before .before .before .next-address .ensures)
+          (read-tries (at .halt) (at .span .0) (at .w) (now (at .memory)) (root .pre .0 .0) (root .pre .1 .0) Ora
+          Absolute 4 decodes),
+      sums-kept 0 (now (at .sums)) (now (at .memory)) words,
+    )
 
 returns-9 : tie.Need-returns-9
 unfolding locateOf
 returns-9 c =
-    let root = c .before .before .before .before .before .before .before .before .before .before .before .before .before in
+    let root =
+    c .before .before .before .before .before .before .before .before .before .before .before .before .before in
     let at = root .args in
-    let decodes = ap decodeOf (root .pre .1 .1 ∙ c .before .before .before .before .before .before .before .before .before .match .keys9) ∙ opcode-0E in
-    let put = c .before .before .before .before .asl2 .ensures in
-    (rw (put .0, put .1 .0, c .before .before .before .before .before .absolute2 .ensures, c .before .before .before .before .before .before .before .before .before .before .next-address .ensures) (change-tries (at .halt) (at .span .0) (at .w) (now (at .memory)) (root .pre .0 .0) (root .pre .1 .0) Asl Absolute 6 decodes refl (omega arith)), put .1 .1)
+    let decodes = ap decodeOf
+    (root .pre .1 .1 ∙ c .before .before .before .before .before .before .before .before .before .match .keys9)
+    ∙ opcode-0E in
+    let put = c .before .before .before .before .asl2 .ensures in (
+      rw (
+        put .0,
+        put .1 .0,
+        c .before .before .before .before .before .absolute2 .ensures,
+        c .before .before .before .before .before .before .before .before .before .before .next-address .ensures,
+      ) (change-tries (at .halt) (at .span .0) (at .w) (now (at .memory)) (root .pre .0 .0) (root .pre .1 .0) Asl
+          Absolute 6 decodes refl (omega arith)),
+      put .1 .1,
+    )
 
 returns-10 : tie.Need-returns-10
 unfolding locateOf
@@ -102,8 +167,13 @@ returns-10 c =
     let root = c .before .before .before .before .before .before .before in
     let at = root .args in
     let decodes = ap decodeOf (root .pre .1 .1 ∙ c .before .before .before .match .keys10) ∙ opcode-0F in
-    let words : SixteenBits (now (at .sums)) = λ k. omega (arith, c .before .before .before .before .before .slice-known2 .given k) in
-    (rw (c .bbr .ensures, c .before .zero-page4 .ensures, c .before .before .before .before .next-address .ensures) (bit-branch-tries (at .halt) (at .span .0) (at .w) (now (at .memory)) (root .pre .0 .0) (root .pre .1 .0) (Bbr 0) 5 decodes), sums-kept 0 (now (at .sums)) (now (at .memory)) words)
+    let words : SixteenBits (now (at .sums)) =
+    λ k. omega (arith, c .before .before .before .before .before .slice-known2 .given k) in (
+      rw (c .bbr .ensures, c .before .zero-page4 .ensures, c .before .before .before .before .next-address .ensures)
+          (bit-branch-tries (at .halt) (at .span .0) (at .w) (now (at .memory)) (root .pre .0 .0) (root .pre .1 .0)
+          (Bbr 0) 5 decodes),
+      sums-kept 0 (now (at .sums)) (now (at .memory)) words,
+    )
 
 returns-11 : tie.Need-returns-11
 returns-11 c =

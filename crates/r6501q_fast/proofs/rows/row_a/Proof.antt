@@ -12,7 +12,9 @@ use Rattle.cpu_opcodes.specs.declared.operation.ModifyOperation.the-variants.{S
 use Rattle.cpu_opcodes.specs.declared.operation.ReadOperation.the-variants.{Lda, Ldx, Ldy}
 use Rattle.cpu_opcodes.specs.declared.operation.RegisterOperation.the-variants.{Tax, Tay}
 use Rattle.r6501q_fast.specs.Attempts.{unchanged}
-use Rattle.r6501q_fast.proofs.Opcodes.{opcode-A0, opcode-A1, opcode-A2, opcode-A4, opcode-A5, opcode-A6, opcode-A7, opcode-A8, opcode-A9, opcode-AA, opcode-AC, opcode-AD, opcode-AE, opcode-AF}
+use Rattle.r6501q_fast.proofs.Opcodes.{opcode-A0, opcode-A1, opcode-A2, opcode-A4, opcode-A5, opcode-A6}
+use Rattle.r6501q_fast.proofs.Opcodes.{opcode-A7, opcode-A8, opcode-A9, opcode-AA, opcode-AC, opcode-AD}
+use Rattle.r6501q_fast.proofs.Opcodes.{opcode-AE, opcode-AF}
 use Rattle.r6501q_fast.proofs.Tried.{bit-branch-tries, change-tries, read-tries, register-tries}
 use Rattle.r6501q_fast.proofs.rows.row_a.Statement.{statement}
 use Rattle.r6501q_fast.proofs.rows.row_a.Tie as tie
@@ -23,8 +25,13 @@ returns c =
     let root = c .before .before .before .before .before .before .before in
     let at = root .args in
     let decodes = ap decodeOf (root .pre .1 .1 ∙ c .before .before .before .match .keys1) ∙ opcode-A0 in
-    let words : SixteenBits (now (at .sums)) = λ k. omega (arith, c .before .before .before .before .before .slice-known2 .given k) in
-    (rw (c .ldy .ensures, c .before .immediate .ensures, c .before .before .before .before .next-address .ensures) (read-tries (at .halt) (at .span .0) (at .w) (now (at .memory)) (root .pre .0 .0) (root .pre .1 .0) Ldy Immediate 2 decodes), sums-kept 0 (now (at .sums)) (now (at .memory)) words)
+    let words : SixteenBits (now (at .sums)) =
+    λ k. omega (arith, c .before .before .before .before .before .slice-known2 .given k) in (
+      rw (c .ldy .ensures, c .before .immediate .ensures, c .before .before .before .before .next-address .ensures)
+          (read-tries (at .halt) (at .span .0) (at .w) (now (at .memory)) (root .pre .0 .0) (root .pre .1 .0) Ldy
+          Immediate 2 decodes),
+      sums-kept 0 (now (at .sums)) (now (at .memory)) words,
+    )
 
 returns-2 : tie.Need-returns-2
 unfolding locateOf
@@ -32,8 +39,16 @@ returns-2 c =
     let root = c .before .before .before .before .before .before .before in
     let at = root .args in
     let decodes = ap decodeOf (root .pre .1 .1 ∙ c .before .before .before .match .keys2) ∙ opcode-A1 in
-    let words : SixteenBits (now (at .sums)) = λ k. omega (arith, c .before .before .before .before .before .slice-known2 .given k) in
-    (rw (c .lda .ensures, c .before .indexed-indirect .ensures, c .before .before .before .before .next-address .ensures) (read-tries (at .halt) (at .span .0) (at .w) (now (at .memory)) (root .pre .0 .0) (root .pre .1 .0) Lda IndexedIndirect 6 decodes), sums-kept 0 (now (at .sums)) (now (at .memory)) words)
+    let words : SixteenBits (now (at .sums)) =
+    λ k. omega (arith, c .before .before .before .before .before .slice-known2 .given k) in (
+      rw (
+        c .lda .ensures,
+        c .before .indexed-indirect .ensures,
+        c .before .before .before .before .next-address .ensures,
+      ) (read-tries (at .halt) (at .span .0) (at .w) (now (at .memory)) (root .pre .0 .0) (root .pre .1 .0) Lda
+          IndexedIndirect 6 decodes),
+      sums-kept 0 (now (at .sums)) (now (at .memory)) words,
+    )
 
 returns-3 : tie.Need-returns-3
 unfolding locateOf
@@ -41,8 +56,13 @@ returns-3 c =
     let root = c .before .before .before .before .before .before .before in
     let at = root .args in
     let decodes = ap decodeOf (root .pre .1 .1 ∙ c .before .before .before .match .keys3) ∙ opcode-A2 in
-    let words : SixteenBits (now (at .sums)) = λ k. omega (arith, c .before .before .before .before .before .slice-known2 .given k) in
-    (rw (c .ldx .ensures, c .before .immediate2 .ensures, c .before .before .before .before .next-address .ensures) (read-tries (at .halt) (at .span .0) (at .w) (now (at .memory)) (root .pre .0 .0) (root .pre .1 .0) Ldx Immediate 2 decodes), sums-kept 0 (now (at .sums)) (now (at .memory)) words)
+    let words : SixteenBits (now (at .sums)) =
+    λ k. omega (arith, c .before .before .before .before .before .slice-known2 .given k) in (
+      rw (c .ldx .ensures, c .before .immediate2 .ensures, c .before .before .before .before .next-address .ensures)
+          (read-tries (at .halt) (at .span .0) (at .w) (now (at .memory)) (root .pre .0 .0) (root .pre .1 .0) Ldx
+          Immediate 2 decodes),
+      sums-kept 0 (now (at .sums)) (now (at .memory)) words,
+    )
 
 returns-4 : tie.Need-returns-4
 unfolding locateOf
@@ -50,8 +70,13 @@ returns-4 c =
     let root = c .before .before .before .before .before .before .before in
     let at = root .args in
     let decodes = ap decodeOf (root .pre .1 .1 ∙ c .before .before .before .match .keys4) ∙ opcode-A4 in
-    let words : SixteenBits (now (at .sums)) = λ k. omega (arith, c .before .before .before .before .before .slice-known2 .given k) in
-    (rw (c .ldy2 .ensures, c .before .zero-page .ensures, c .before .before .before .before .next-address .ensures) (read-tries (at .halt) (at .span .0) (at .w) (now (at .memory)) (root .pre .0 .0) (root .pre .1 .0) Ldy ZeroPage 3 decodes), sums-kept 0 (now (at .sums)) (now (at .memory)) words)
+    let words : SixteenBits (now (at .sums)) =
+    λ k. omega (arith, c .before .before .before .before .before .slice-known2 .given k) in (
+      rw (c .ldy2 .ensures, c .before .zero-page .ensures, c .before .before .before .before .next-address .ensures)
+          (read-tries (at .halt) (at .span .0) (at .w) (now (at .memory)) (root .pre .0 .0) (root .pre .1 .0) Ldy
+          ZeroPage 3 decodes),
+      sums-kept 0 (now (at .sums)) (now (at .memory)) words,
+    )
 
 returns-5 : tie.Need-returns-5
 unfolding locateOf
@@ -59,8 +84,13 @@ returns-5 c =
     let root = c .before .before .before .before .before .before .before in
     let at = root .args in
     let decodes = ap decodeOf (root .pre .1 .1 ∙ c .before .before .before .match .keys5) ∙ opcode-A5 in
-    let words : SixteenBits (now (at .sums)) = λ k. omega (arith, c .before .before .before .before .before .slice-known2 .given k) in
-    (rw (c .lda2 .ensures, c .before .zero-page2 .ensures, c .before .before .before .before .next-address .ensures) (read-tries (at .halt) (at .span .0) (at .w) (now (at .memory)) (root .pre .0 .0) (root .pre .1 .0) Lda ZeroPage 3 decodes), sums-kept 0 (now (at .sums)) (now (at .memory)) words)
+    let words : SixteenBits (now (at .sums)) =
+    λ k. omega (arith, c .before .before .before .before .before .slice-known2 .given k) in (
+      rw (c .lda2 .ensures, c .before .zero-page2 .ensures, c .before .before .before .before .next-address .ensures)
+          (read-tries (at .halt) (at .span .0) (at .w) (now (at .memory)) (root .pre .0 .0) (root .pre .1 .0) Lda
+          ZeroPage 3 decodes),
+      sums-kept 0 (now (at .sums)) (now (at .memory)) words,
+    )
 
 returns-6 : tie.Need-returns-6
 unfolding locateOf
@@ -68,25 +98,44 @@ returns-6 c =
     let root = c .before .before .before .before .before .before .before in
     let at = root .args in
     let decodes = ap decodeOf (root .pre .1 .1 ∙ c .before .before .before .match .keys6) ∙ opcode-A6 in
-    let words : SixteenBits (now (at .sums)) = λ k. omega (arith, c .before .before .before .before .before .slice-known2 .given k) in
-    (rw (c .ldx2 .ensures, c .before .zero-page3 .ensures, c .before .before .before .before .next-address .ensures) (read-tries (at .halt) (at .span .0) (at .w) (now (at .memory)) (root .pre .0 .0) (root .pre .1 .0) Ldx ZeroPage 3 decodes), sums-kept 0 (now (at .sums)) (now (at .memory)) words)
+    let words : SixteenBits (now (at .sums)) =
+    λ k. omega (arith, c .before .before .before .before .before .slice-known2 .given k) in (
+      rw (c .ldx2 .ensures, c .before .zero-page3 .ensures, c .before .before .before .before .next-address .ensures)
+          (read-tries (at .halt) (at .span .0) (at .w) (now (at .memory)) (root .pre .0 .0) (root .pre .1 .0) Ldx
+          ZeroPage 3 decodes),
+      sums-kept 0 (now (at .sums)) (now (at .memory)) words,
+    )
 
 returns-7 : tie.Need-returns-7
 unfolding locateOf
 returns-7 c =
-    let root = c .before .before .before .before .before .before .before .before .before .before .before .before .before in
+    let root =
+    c .before .before .before .before .before .before .before .before .before .before .before .before .before in
     let at = root .args in
-    let decodes = ap decodeOf (root .pre .1 .1 ∙ c .before .before .before .before .before .before .before .before .before .match .keys7) ∙ opcode-A7 in
-    let put = c .before .before .before .before .smb .ensures in
-    (rw (put .0, put .1 .0, c .before .before .before .before .before .zero-page4 .ensures, c .before .before .before .before .before .before .before .before .before .before .next-address .ensures) (change-tries (at .halt) (at .span .0) (at .w) (now (at .memory)) (root .pre .0 .0) (root .pre .1 .0) (Smb 2) ZeroPage 5 decodes refl (omega arith)), put .1 .1)
+    let decodes = ap decodeOf
+    (root .pre .1 .1 ∙ c .before .before .before .before .before .before .before .before .before .match .keys7)
+    ∙ opcode-A7 in
+    let put = c .before .before .before .before .smb .ensures in (
+      rw (
+        put .0,
+        put .1 .0,
+        c .before .before .before .before .before .zero-page4 .ensures,
+        c .before .before .before .before .before .before .before .before .before .before .next-address .ensures,
+      ) (change-tries (at .halt) (at .span .0) (at .w) (now (at .memory)) (root .pre .0 .0) (root .pre .1 .0)
+          (Smb 2) ZeroPage 5 decodes refl (omega arith)),
+      put .1 .1,
+    )
 
 returns-8 : tie.Need-returns-8
 returns-8 c =
     let root = c .before .before .before .before .before in
     let at = root .args in
     let decodes = ap decodeOf (root .pre .1 .1 ∙ c .before .match .keys8) ∙ opcode-A8 in
-    let words : SixteenBits (now (at .sums)) = λ k. omega (arith, c .before .before .before .slice-known2 .given k) in
-    (rw (c .tay .ensures, c .before .before .next-address .ensures) (register-tries (at .halt) (at .span .0) (at .w) (now (at .memory)) (root .pre .0 .0) (root .pre .1 .0) Tay 2 decodes), sums-kept 0 (now (at .sums)) (now (at .memory)) words)
+    let words : SixteenBits (now (at .sums)) = λ k. omega (arith, c .before .before .before .slice-known2 .given k) in (
+      rw (c .tay .ensures, c .before .before .next-address .ensures) (register-tries (at .halt) (at .span .0) (at .w)
+          (now (at .memory)) (root .pre .0 .0) (root .pre .1 .0) Tay 2 decodes),
+      sums-kept 0 (now (at .sums)) (now (at .memory)) words,
+    )
 
 returns-9 : tie.Need-returns-9
 unfolding locateOf
@@ -94,16 +143,24 @@ returns-9 c =
     let root = c .before .before .before .before .before .before .before in
     let at = root .args in
     let decodes = ap decodeOf (root .pre .1 .1 ∙ c .before .before .before .match .keys9) ∙ opcode-A9 in
-    let words : SixteenBits (now (at .sums)) = λ k. omega (arith, c .before .before .before .before .before .slice-known2 .given k) in
-    (rw (c .lda3 .ensures, c .before .immediate3 .ensures, c .before .before .before .before .next-address .ensures) (read-tries (at .halt) (at .span .0) (at .w) (now (at .memory)) (root .pre .0 .0) (root .pre .1 .0) Lda Immediate 2 decodes), sums-kept 0 (now (at .sums)) (now (at .memory)) words)
+    let words : SixteenBits (now (at .sums)) =
+    λ k. omega (arith, c .before .before .before .before .before .slice-known2 .given k) in (
+      rw (c .lda3 .ensures, c .before .immediate3 .ensures, c .before .before .before .before .next-address .ensures)
+          (read-tries (at .halt) (at .span .0) (at .w) (now (at .memory)) (root .pre .0 .0) (root .pre .1 .0) Lda
+          Immediate 2 decodes),
+      sums-kept 0 (now (at .sums)) (now (at .memory)) words,
+    )
 
 returns-10 : tie.Need-returns-10
 returns-10 c =
     let root = c .before .before .before .before .before in
     let at = root .args in
     let decodes = ap decodeOf (root .pre .1 .1 ∙ c .before .match .keys10) ∙ opcode-AA in
-    let words : SixteenBits (now (at .sums)) = λ k. omega (arith, c .before .before .before .slice-known2 .given k) in
-    (rw (c .tax .ensures, c .before .before .next-address .ensures) (register-tries (at .halt) (at .span .0) (at .w) (now (at .memory)) (root .pre .0 .0) (root .pre .1 .0) Tax 2 decodes), sums-kept 0 (now (at .sums)) (now (at .memory)) words)
+    let words : SixteenBits (now (at .sums)) = λ k. omega (arith, c .before .before .before .slice-known2 .given k) in (
+      rw (c .tax .ensures, c .before .before .next-address .ensures) (register-tries (at .halt) (at .span .0) (at .w)
+          (now (at .memory)) (root .pre .0 .0) (root .pre .1 .0) Tax 2 decodes),
+      sums-kept 0 (now (at .sums)) (now (at .memory)) words,
+    )
 
 returns-11 : tie.Need-returns-11
 unfolding locateOf
@@ -111,8 +168,13 @@ returns-11 c =
     let root = c .before .before .before .before .before .before .before in
     let at = root .args in
     let decodes = ap decodeOf (root .pre .1 .1 ∙ c .before .before .before .match .keys11) ∙ opcode-AC in
-    let words : SixteenBits (now (at .sums)) = λ k. omega (arith, c .before .before .before .before .before .slice-known2 .given k) in
-    (rw (c .ldy3 .ensures, c .before .absolute .ensures, c .before .before .before .before .next-address .ensures) (read-tries (at .halt) (at .span .0) (at .w) (now (at .memory)) (root .pre .0 .0) (root .pre .1 .0) Ldy Absolute 4 decodes), sums-kept 0 (now (at .sums)) (now (at .memory)) words)
+    let words : SixteenBits (now (at .sums)) =
+    λ k. omega (arith, c .before .before .before .before .before .slice-known2 .given k) in (
+      rw (c .ldy3 .ensures, c .before .absolute .ensures, c .before .before .before .before .next-address .ensures)
+          (read-tries (at .halt) (at .span .0) (at .w) (now (at .memory)) (root .pre .0 .0) (root .pre .1 .0) Ldy
+          Absolute 4 decodes),
+      sums-kept 0 (now (at .sums)) (now (at .memory)) words,
+    )
 
 returns-12 : tie.Need-returns-12
 unfolding locateOf
@@ -120,8 +182,13 @@ returns-12 c =
     let root = c .before .before .before .before .before .before .before in
     let at = root .args in
     let decodes = ap decodeOf (root .pre .1 .1 ∙ c .before .before .before .match .keys12) ∙ opcode-AD in
-    let words : SixteenBits (now (at .sums)) = λ k. omega (arith, c .before .before .before .before .before .slice-known2 .given k) in
-    (rw (c .lda4 .ensures, c .before .absolute2 .ensures, c .before .before .before .before .next-address .ensures) (read-tries (at .halt) (at .span .0) (at .w) (now (at .memory)) (root .pre .0 .0) (root .pre .1 .0) Lda Absolute 4 decodes), sums-kept 0 (now (at .sums)) (now (at .memory)) words)
+    let words : SixteenBits (now (at .sums)) =
+    λ k. omega (arith, c .before .before .before .before .before .slice-known2 .given k) in (
+      rw (c .lda4 .ensures, c .before .absolute2 .ensures, c .before .before .before .before .next-address .ensures)
+          (read-tries (at .halt) (at .span .0) (at .w) (now (at .memory)) (root .pre .0 .0) (root .pre .1 .0) Lda
+          Absolute 4 decodes),
+      sums-kept 0 (now (at .sums)) (now (at .memory)) words,
+    )
 
 returns-13 : tie.Need-returns-13
 unfolding locateOf
@@ -129,8 +196,13 @@ returns-13 c =
     let root = c .before .before .before .before .before .before .before in
     let at = root .args in
     let decodes = ap decodeOf (root .pre .1 .1 ∙ c .before .before .before .match .keys13) ∙ opcode-AE in
-    let words : SixteenBits (now (at .sums)) = λ k. omega (arith, c .before .before .before .before .before .slice-known2 .given k) in
-    (rw (c .ldx3 .ensures, c .before .absolute3 .ensures, c .before .before .before .before .next-address .ensures) (read-tries (at .halt) (at .span .0) (at .w) (now (at .memory)) (root .pre .0 .0) (root .pre .1 .0) Ldx Absolute 4 decodes), sums-kept 0 (now (at .sums)) (now (at .memory)) words)
+    let words : SixteenBits (now (at .sums)) =
+    λ k. omega (arith, c .before .before .before .before .before .slice-known2 .given k) in (
+      rw (c .ldx3 .ensures, c .before .absolute3 .ensures, c .before .before .before .before .next-address .ensures)
+          (read-tries (at .halt) (at .span .0) (at .w) (now (at .memory)) (root .pre .0 .0) (root .pre .1 .0) Ldx
+          Absolute 4 decodes),
+      sums-kept 0 (now (at .sums)) (now (at .memory)) words,
+    )
 
 returns-14 : tie.Need-returns-14
 unfolding locateOf
@@ -138,8 +210,13 @@ returns-14 c =
     let root = c .before .before .before .before .before .before .before in
     let at = root .args in
     let decodes = ap decodeOf (root .pre .1 .1 ∙ c .before .before .before .match .keys14) ∙ opcode-AF in
-    let words : SixteenBits (now (at .sums)) = λ k. omega (arith, c .before .before .before .before .before .slice-known2 .given k) in
-    (rw (c .bbs .ensures, c .before .zero-page5 .ensures, c .before .before .before .before .next-address .ensures) (bit-branch-tries (at .halt) (at .span .0) (at .w) (now (at .memory)) (root .pre .0 .0) (root .pre .1 .0) (Bbs 2) 5 decodes), sums-kept 0 (now (at .sums)) (now (at .memory)) words)
+    let words : SixteenBits (now (at .sums)) =
+    λ k. omega (arith, c .before .before .before .before .before .slice-known2 .given k) in (
+      rw (c .bbs .ensures, c .before .zero-page5 .ensures, c .before .before .before .before .next-address .ensures)
+          (bit-branch-tries (at .halt) (at .span .0) (at .w) (now (at .memory)) (root .pre .0 .0) (root .pre .1 .0)
+          (Bbs 2) 5 decodes),
+      sums-kept 0 (now (at .sums)) (now (at .memory)) words,
+    )
 
 returns-15 : tie.Need-returns-15
 returns-15 c =

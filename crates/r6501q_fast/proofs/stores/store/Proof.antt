@@ -18,7 +18,8 @@ returns : tie.Need-returns
 unfolding storeTried storeMemory
 returns c =
     let at = c .before .before .before .before .before .before .before .before .before .args in
-    let words : SixteenBits (now (at .sums)) = λ k. omega (arith, c .before .before .before .before .before .before .before .slice-known2 .given k) in
+    let words : SixteenBits (now (at .sums)) =
+    λ k. omega (arith, c .before .before .before .before .before .before .before .slice-known2 .given k) in
     let same = sums-kept 0 (now (at .sums)) (now (at .memory)) words in
     let one = c .before .before .before .before .before .before .one-write .ensures in
     let ends = c .before .before .before .before .before .ends-span .ensures in
@@ -27,20 +28,33 @@ returns c =
 
 stored-whole-requires : tie.Need-stored-whole-requires
 stored-whole-requires c κs =
-    let root = c .before .before .before .before .before .before .before .before .before .before .before .before .before .before .before in
+    let root =
+    c .before .before .before .before .before .before .before .before .before .before .before .before .before .before
+    .before in
     let w = root .args .w in
     let rest = root .args .span .0 - w .gone .0 in
     let needed = w .wait + root .args .length in
-    let fits = ltb-false rest needed (either-false (c .before .before .before .before .before .before .before .before .before .before .before .ends-span .result) (ltb rest needed) (c .before .before .before .before .before .before .before .if1 .left) .1) in
-    (omega (arith, fits, root .pre .0), omega (arith, fits, root .pre .0, root .pre .1, root .pre .2), omega (arith, root .pre .2))
+    let fits = ltb-false rest needed (either-false
+    (c .before .before .before .before .before .before .before .before .before .before .before .ends-span .result)
+    (ltb rest needed) (c .before .before .before .before .before .before .before .if1 .left) .1) in (
+      omega (arith, fits, root .pre .0),
+      omega (arith, fits, root .pre .0, root .pre .1, root .pre .2),
+      omega (arith, root .pre .2),
+    )
 
 returns-2 : tie.Need-returns-2
 unfolding storeTried storeMemory
 returns-2 c =
-    let root = c .before .before .before .before .before .before .before .before .before .before .before .before .before .before .before .before in
+    let root =
+    c .before .before .before .before .before .before .before .before .before .before .before .before .before .before
+    .before .before in
     let x = writeAt (root .args .address) (root .args .value) in
-    let one = c .before .before .before .before .before .before .before .before .before .before .before .before .before .one-write .ensures in
-    let ends = c .before .before .before .before .before .before .before .before .before .before .before .before .ends-span .ensures in
+    let one =
+    c .before .before .before .before .before .before .before .before .before .before .before .before .before
+    .one-write .ensures in
+    let ends =
+    c .before .before .before .before .before .before .before .before .before .before .before .before .ends-span
+    .ensures in
     let on = c .before .before .before .before .before .before .before .before .if1 .left in
     let put = c .before .before .before .before .before .put-write .ensures in (
       rw (← one, ← ends, on) (c .stored-whole .ensures),

@@ -5,7 +5,14 @@ use Rattle.r6501q_gaps.proofs.events.is_reset.Tie as tie
 
 returns : tie.Need-returns
 unfolding isReset
-returns c = rw (← (c .before .before .before .before .before .before .before .before .ports-fresh .ensures), ← (c .before .before .before .before .before .before .before .control-fresh .ensures), ← (c .before .before .before .before .before .before .transmitter-idle .ensures), ← (c .before .before .before .before .before .receiver-idle .ensures), ← (c .before .before .before .byte-waits .ensures))
+returns c =
+    rw (
+      ← (c .before .before .before .before .before .before .before .before .ports-fresh .ensures),
+      ← (c .before .before .before .before .before .before .before .control-fresh .ensures),
+      ← (c .before .before .before .before .before .before .transmitter-idle .ensures),
+      ← (c .before .before .before .before .before .receiver-idle .ensures),
+      ← (c .before .before .before .byte-waits .ensures),
+    )
 
 pub is-reset-spec : {M : Type 1} → statement M
 is-reset-spec =

@@ -6,7 +6,9 @@ use Rattle.r6501q_registers.proofs.write.entering_mode.Tie as tie
 
 returns : tie.Need-returns
 unfolding entering
-returns c = rw (c .before .set-where .ensures, c .before .before .mode-a2 .ensures, c .before .before .before .mode-a .ensures) refl
+returns c =
+    rw (c .before .set-where .ensures, c .before .before .mode-a2 .ensures, c .before .before .before .mode-a .ensures)
+    refl
 
 pub entering-mode-spec : {M : Type 1} → statement M
 entering-mode-spec =

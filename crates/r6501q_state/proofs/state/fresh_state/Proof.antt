@@ -5,7 +5,13 @@ use Rattle.r6501q_state.proofs.state.fresh_state.Tie as tie
 
 returns : tie.Need-returns
 unfolding fresh
-returns c = rw (c .fresh-levels2 .ensures, c .before .fresh-levels .ensures, c .before .before .fresh-peripherals .ensures, c .before .before .before .fresh-cpu .ensures)
+returns c =
+    rw (
+      c .fresh-levels2 .ensures,
+      c .before .fresh-levels .ensures,
+      c .before .before .fresh-peripherals .ensures,
+      c .before .before .before .fresh-cpu .ensures,
+    )
 
 pub fresh-state-spec : {M : Type 1} → statement M
 fresh-state-spec =

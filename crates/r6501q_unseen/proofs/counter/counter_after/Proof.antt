@@ -13,7 +13,12 @@ returns c = rw (not-true (c .before .args .running) (c .if1 .taken))
 
 returns-2 : tie.Need-returns-2
 unfolding countAfter
-returns-2 c = rw (le-leb _ _ (c .before .if2 .taken), not-false (c .before .before .before .before .before .args .running) (c .before .before .before .before .if1 .left))
+returns-2 c =
+    rw (
+      le-leb _ _ (c .before .if2 .taken),
+      not-false (c .before .before .before .before .before .args .running)
+          (c .before .before .before .before .if1 .left),
+    )
 
 sub-c : tie.Need-sub-c
 sub-c c =
@@ -22,7 +27,12 @@ sub-c c =
 
 returns-3 : tie.Need-returns-3
 unfolding countAfter
-returns-3 c = rw (lt-leb _ _ (c .before .before .before .if2 .left), not-false (c .before .before .before .before .before .before .before .args .running) (c .before .before .before .before .before .before .if1 .left))
+returns-3 c =
+    rw (
+      lt-leb _ _ (c .before .before .before .if2 .left),
+      not-false (c .before .before .before .before .before .before .before .args .running)
+          (c .before .before .before .before .before .before .if1 .left),
+    )
 
 pub counter-after-spec : {M : Type 1} → statement M
 counter-after-spec =

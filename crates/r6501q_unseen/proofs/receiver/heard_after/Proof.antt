@@ -12,7 +12,8 @@ unfolding heardAfter
 returns c =
     rw (
       ← (c .before .before .receiver-asynchronous .ensures),
-      not-true (c .before .before .receiver-asynchronous .result && leb (c .before .before .before .args .r .subinterval) 7) (c .if1 .taken),
+      not-true (c .before .before .receiver-asynchronous .result && leb
+          (c .before .before .before .args .r .subinterval) 7) (c .if1 .taken),
     )
 
 waited-for-requires : tie.Need-waited-for-requires
@@ -20,15 +21,18 @@ waited-for-requires c κs =
     let a = c .before .before .before .before .before .before .args in
     let pre = c .before .before .before .before .before .before .pre in
     let on = rw (c .before .before .before .before .before .receiver-asynchronous .ensures)
-    at (not-false (c .before .before .before .before .before .receiver-asynchronous .result && leb (a .r .subinterval) 7)
+    at
+    (not-false (c .before .before .before .before .before .receiver-asynchronous .result && leb (a .r .subinterval) 7)
     (c .before .before .before .if1 .left)) in
-    λ low. rw (c .before .before .digit8 .ensures) (waits-within (a .ticks) (a .r) (a .sccr) (a .high) on (pre .0) (c .if2 .taken) low)
+    λ low. rw (c .before .before .digit8 .ensures)
+    (waits-within (a .ticks) (a .r) (a .sccr) (a .high) on (pre .0) (c .if2 .taken) low)
 
 returns-2 : tie.Need-returns-2
 unfolding heardAfter lookedFor
 returns-2 c =
     let a = c .before .before .before .before .before .before .before .args in
-    let on = not-false (c .before .before .before .before .before .before .receiver-asynchronous .result && leb (a .r .subinterval) 7)
+    let on = not-false
+    (c .before .before .before .before .before .before .receiver-asynchronous .result && leb (a .r .subinterval) 7)
     (c .before .before .before .before .if1 .left) in
     rw (
       c .waited-for .ensures,
@@ -43,15 +47,18 @@ taken-for-requires c κs =
     let a = c .before .before .before .before .before .before .args in
     let pre = c .before .before .before .before .before .before .pre in
     let on = rw (c .before .before .before .before .before .receiver-asynchronous .ensures)
-    at (not-false (c .before .before .before .before .before .receiver-asynchronous .result && leb (a .r .subinterval) 7)
+    at
+    (not-false (c .before .before .before .before .before .receiver-asynchronous .result && leb (a .r .subinterval) 7)
     (c .before .before .before .if1 .left)) in
-    rw (c .before .before .digit8 .ensures) (takes-within (a .ticks) (a .r) (a .sccr) (a .high) on (pre .0) (c .if2 .left))
+    rw (c .before .before .digit8 .ensures)
+    (takes-within (a .ticks) (a .r) (a .sccr) (a .high) on (pre .0) (c .if2 .left))
 
 returns-3 : tie.Need-returns-3
 unfolding heardAfter lookedFor
 returns-3 c =
     let a = c .before .before .before .before .before .before .before .args in
-    let on = not-false (c .before .before .before .before .before .before .receiver-asynchronous .result && leb (a .r .subinterval) 7)
+    let on = not-false
+    (c .before .before .before .before .before .before .receiver-asynchronous .result && leb (a .r .subinterval) 7)
     (c .before .before .before .before .if1 .left) in
     rw (
       c .taken-for .ensures,

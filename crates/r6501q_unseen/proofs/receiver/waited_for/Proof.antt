@@ -6,10 +6,12 @@ use Rattle.r6501q_unseen.proofs.receiver.waited_for.Statement.{statemen
 use Rattle.r6501q_unseen.proofs.receiver.waited_for.Tie as tie
 
 add-r : tie.Need-add-r
-add-r c = let k = c .before .before .pre (not-true (c .before .before .args .high) (c .before .if1 .taken)) in omega arith
+add-r c =
+    let k = c .before .before .pre (not-true (c .before .before .args .high) (c .before .if1 .taken)) in omega arith
 
 cast-r-2 : tie.Need-cast-r-2
-cast-r-2 c = let k = c .before .before .pre (not-true (c .before .before .args .high) (c .before .if1 .taken)) in omega arith
+cast-r-2 c =
+    let k = c .before .before .pre (not-true (c .before .before .args .high) (c .before .if1 .taken)) in omega arith
 
 returns : tie.Need-returns
 unfolding waitedLooks

@@ -17,15 +17,18 @@ loop-holds c = refl
 loop-again : tie.Need-loop-again Inv-loop μ-loop
 loop-again c =
     rw (c .with-level .ensures)
-    (levels-less (c .before .before .loop .left) (c .before .before .loop .next) (c .before .before .before .args .high) (c .before .loop-test .taken)
+    (levels-less (c .before .before .loop .left) (c .before .before .loop .next) (c .before .before .before .args .high)
+    (c .before .loop-test .taken)
     ∙ c .before .before .loop .inv)
 
 returns : tie.Need-returns Inv-loop μ-loop
 returns c =
-    sym (levels-none (c .before .loop .left) (c .before .loop .next) (c .before .before .args .high) (c .loop-test .left))
+    sym (levels-none (c .before .loop .left) (c .before .loop .next) (c .before .before .args .high)
+    (c .loop-test .left))
     ∙ c .before .loop .inv
 
 pub with-levels-spec : {M : Type 1} → statement M
 with-levels-spec =
     tie.close
-    (tie.spec Inv-loop μ-loop loop-holds (λ c κs. search needs) (λ c. search needs) (λ c. search needs) loop-again returns)
+    (tie.spec Inv-loop μ-loop loop-holds (λ c κs. search needs) (λ c. search needs) (λ c. search needs) loop-again
+    returns)

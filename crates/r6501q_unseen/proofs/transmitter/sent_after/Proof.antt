@@ -6,12 +6,14 @@ use Rattle.r6501q_unseen.proofs.transmitter.sent_after.Tie as tie
 
 add-t : tie.Need-add-t
 add-t c =
-    let k = c .before .before .before .before .pre (rw (c .before .before .before .transmitter-on .ensures) at (c .before .if1 .taken)) in
+    let k = c .before .before .before .before .pre
+    (rw (c .before .before .before .transmitter-on .ensures) at (c .before .if1 .taken)) in
     omega arith
 
 cast-t-2 : tie.Need-cast-t-2
 cast-t-2 c =
-    let k = c .before .before .before .before .pre (rw (c .before .before .before .transmitter-on .ensures) at (c .before .if1 .taken)) in
+    let k = c .before .before .before .before .pre
+    (rw (c .before .before .before .transmitter-on .ensures) at (c .before .if1 .taken)) in
     omega arith
 
 returns : tie.Need-returns

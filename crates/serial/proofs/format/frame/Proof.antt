@@ -16,11 +16,13 @@ cast-frame-ending c = rw (c .data-span .ensures) (record { fits = data-lt _ _ })
 
 -- the frame's parts fit
 fits : (c : tie.After-frame-ending)
-    → (c .before .before .args .byte % c .before .data-span .result + c .before .data-span .result * c .frame-ending .result) * 2 ≤ 2046
+    → (c .before .before .args .byte % c .before .data-span .result + c .before .data-span .result
+    * c .frame-ending .result) * 2 ≤ 2046
 fits c =
     frame-le (c .before .before .args .byte) (c .frame-ending .result) (c .before .data-span .result)
     (rw (c .before .data-span .ensures) (span-pos _)) (rw (c .before .data-span .ensures) (span-le _))
-    (rw (c .frame-ending .ensures) (ending-le (c .before .before .args .sccr) (bitsOf 8 (c .before .before .args .byte % c .before .data-span .result))))
+    (rw (c .frame-ending .ensures) (ending-le (c .before .before .args .sccr)
+    (bitsOf 8 (c .before .before .args .byte % c .before .data-span .result))))
 
 mul-result : tie.Need-mul-result
 mul-result c = omega (arith, fits c)

@@ -4,7 +4,13 @@ use Rattle.serial.proofs.format.frame_ending.Statement.{statement}
 use Rattle.serial.proofs.format.frame_ending.Tie as tie
 
 returns : tie.Need-returns
-returns c = rw (c .digit8 .ensures, c .before .parity-bit .ensures, ← (c .before .before .before .has-parity .ensures), c .before .before .if1 .taken) refl
+returns c =
+    rw (
+      c .digit8 .ensures,
+      c .before .parity-bit .ensures,
+      ← (c .before .before .before .has-parity .ensures),
+      c .before .before .if1 .taken,
+    ) refl
 
 returns-2 : tie.Need-returns-2
 returns-2 c = rw (← (c .before .has-parity .ensures), c .if1 .left)

@@ -6,7 +6,12 @@ use Rattle.serial.proofs.format.keeps_transmitter.Tie as tie
 
 returns : tie.Need-returns
 unfolding keepsTransmitter transmitterAsynchronous
-returns c = rw (c .transmitter-shifts2 .ensures, c .before .transmitter-shifts .ensures, c .before .before .transmitter-on .ensures) refl
+returns c =
+    rw (
+      c .transmitter-shifts2 .ensures,
+      c .before .transmitter-shifts .ensures,
+      c .before .before .transmitter-on .ensures,
+    ) refl
 
 pub keeps-transmitter-spec : {M : Type 1} → statement M
 keeps-transmitter-spec =

@@ -9,9 +9,12 @@ sub-result : tie.Need-sub-result
 sub-result c = rw (c .parity-size .ensures) (omega (arith, digit-le (hasParity (c .before .args .sccr))))
 
 sub-result-2 : tie.Need-sub-result-2
-sub-result-2 c = rw (c .data-width .ensures, c .before .parity-size .ensures) (omega (arith, digit-le (hasParity (c .before .before .args .sccr))))
+sub-result-2 c =
+    rw (c .data-width .ensures, c .before .parity-size .ensures)
+    (omega (arith, digit-le (hasParity (c .before .before .args .sccr))))
 
 pub data-place-spec : {M : Type 1} → statement M
 data-place-spec =
     tie.close
-    (tie.spec (λ c κs. search needs) sub-result (λ c κs. search needs) sub-result-2 (λ c. search needs) (λ c. search needs))
+    (tie.spec (λ c κs. search needs) sub-result (λ c κs. search needs) sub-result-2 (λ c. search needs)
+    (λ c. search needs))

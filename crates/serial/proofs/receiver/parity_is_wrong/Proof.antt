@@ -6,7 +6,13 @@ use Rattle.serial.proofs.receiver.parity_is_wrong.Tie as tie
 
 returns : tie.Need-returns
 unfolding wrongParity
-returns c = rw (← parity-byte, ← (c .before .before .byte-of .ensures), ← (c .before .parity-bit .ensures), ← (c .has-parity .ensures))
+returns c =
+    rw (
+      ← parity-byte,
+      ← (c .before .before .byte-of .ensures),
+      ← (c .before .parity-bit .ensures),
+      ← (c .has-parity .ensures),
+    )
 
 pub parity-is-wrong-spec : {M : Type 1} → statement M
 parity-is-wrong-spec =

@@ -7,11 +7,23 @@ use Rattle.serial.proofs.receiver.status_after.Tie as tie
 
 returns : tie.Need-returns
 unfolding statusAfter
-returns c = rw (c .set-where3 .ensures, c .before .set-where2 .ensures, c .before .before .set-where .ensures, eq-eqb _ _ (c .before .before .before .if1 .taken)) refl
+returns c =
+    rw (
+      c .set-where3 .ensures,
+      c .before .set-where2 .ensures,
+      c .before .before .set-where .ensures,
+      eq-eqb _ _ (c .before .before .before .if1 .taken),
+    ) refl
 
 returns-2 : tie.Need-returns-2
 unfolding statusAfter
-returns-2 c = rw (c .set-where6 .ensures, c .before .set-where5 .ensures, c .before .before .set-where4 .ensures, ne-eqb _ _ (c .before .before .before .if1 .left)) refl
+returns-2 c =
+    rw (
+      c .set-where6 .ensures,
+      c .before .set-where5 .ensures,
+      c .before .before .set-where4 .ensures,
+      ne-eqb _ _ (c .before .before .before .if1 .left),
+    ) refl
 
 pub status-after-spec : {M : Type 1} → statement M
 status-after-spec =

@@ -8,11 +8,22 @@ use Rattle.serial.proofs.transmitter.framed.Tie as tie
 
 returns : tie.Need-returns
 unfolding framed sentBits
-returns c = rw (← (c .before .transmitter-shifts .ensures), c .if1 .taken, number-byte (c .before .before .args .byte) (search needs)) refl
+returns c =
+    rw (
+      ← (c .before .transmitter-shifts .ensures),
+      c .if1 .taken,
+      number-byte (c .before .before .args .byte) (search needs),
+    ) refl
 
 returns-2 : tie.Need-returns-2
 unfolding framed sentBits
-returns-2 c = rw (c .frame .ensures, c .before .frame-length .ensures, ← (c .before .before .before .transmitter-shifts .ensures), c .before .before .if1 .left) refl
+returns-2 c =
+    rw (
+      c .frame .ensures,
+      c .before .frame-length .ensures,
+      ← (c .before .before .before .transmitter-shifts .ensures),
+      c .before .before .if1 .left,
+    ) refl
 
 pub framed-spec : {M : Type 1} → statement M
 framed-spec =

@@ -24,7 +24,11 @@ shared-slice-read-is-digit : tie.Need-shared-slice-read-is-digit Inv-loop μ-loo
 shared-slice-read-is-digit c = omega arith
 
 returns : tie.Need-returns Inv-loop μ-loop
-returns c = sym (rw (← c .before .is-digit .ensures, not-true (c .before .is-digit .result) (c .if1 .taken)) at (digits-next (now (c .before .before .before .before .before .before .args .text)) (c .before .before .before .before .loop .i) (c .before .before .before .loop-test .taken))) ∙ c .before .before .before .before .loop .inv
+returns c =
+    sym (rw (← c .before .is-digit .ensures, not-true (c .before .is-digit .result) (c .if1 .taken))
+    at (digits-next (now (c .before .before .before .before .before .before .args .text))
+    (c .before .before .before .before .loop .i) (c .before .before .before .loop-test .taken)))
+    ∙ c .before .before .before .before .loop .inv
 
 add-i : tie.Need-add-i Inv-loop μ-loop
 add-i c = omega arith
@@ -33,10 +37,16 @@ loop-less : tie.Need-loop-less Inv-loop μ-loop
 loop-less c = omega arith
 
 loop-again : tie.Need-loop-again Inv-loop μ-loop
-loop-again c = sym (rw (← c .before .is-digit .ensures, not-false (c .before .is-digit .result) (c .if1 .left)) at (digits-next (now (c .before .before .before .before .before .before .args .text)) (c .before .before .before .before .loop .i) (c .before .before .before .loop-test .taken))) ∙ c .before .before .before .before .loop .inv
+loop-again c =
+    sym (rw (← c .before .is-digit .ensures, not-false (c .before .is-digit .result) (c .if1 .left))
+    at (digits-next (now (c .before .before .before .before .before .before .args .text))
+    (c .before .before .before .before .loop .i) (c .before .before .before .loop-test .taken)))
+    ∙ c .before .before .before .before .loop .inv
 
 returns-2 : tie.Need-returns-2 Inv-loop μ-loop
-returns-2 c = sym (digits-end (now (c .before .before .before .args .text)) (c .before .loop .i) (c .loop-test .left)) ∙ c .before .loop .inv
+returns-2 c =
+    sym (digits-end (now (c .before .before .before .args .text)) (c .before .loop .i) (c .loop-test .left))
+    ∙ c .before .loop .inv
 
 pub all-digits-spec : {M : Type 1} → statement M
 all-digits-spec =

@@ -9,10 +9,24 @@ mul-result : tie.Need-mul-result
 mul-result c = omega (arith, c .value .ensures, value-most (c .before .args .high))
 
 add-result : tie.Need-add-result
-add-result c = omega (arith, c .before .value .ensures, value-most (c .before .before .args .high), c .value2 .ensures, value-most (c .before .before .args .low))
+add-result c =
+    omega (
+      arith,
+      c .before .value .ensures,
+      value-most (c .before .before .args .high),
+      c .value2 .ensures,
+      value-most (c .before .before .args .low),
+    )
 
 cast-result : tie.Need-cast-result
-cast-result c = omega (arith, c .before .value .ensures, value-most (c .before .before .args .high), c .value2 .ensures, value-most (c .before .before .args .low))
+cast-result c =
+    omega (
+      arith,
+      c .before .value .ensures,
+      value-most (c .before .before .args .high),
+      c .value2 .ensures,
+      value-most (c .before .before .args .low),
+    )
 
 returns : tie.Need-returns
 unfolding byteOf

@@ -11,7 +11,8 @@ use Rattle.tape.proofs.digits.total.Statement.{statement}
 use Rattle.tape.proofs.digits.total.Tie as tie
 
 abbrev Inv-loop : tie.InvT-loop
-Inv-loop digits sum₀ k₀ sum k = (sum ≤ 255 * k) × (sum + totalOf (bytesOf (drop (2 * k) digits)) ≡ totalOf (bytesOf digits))
+Inv-loop digits sum₀ k₀ sum k =
+    (sum ≤ 255 * k) × (sum + totalOf (bytesOf (drop (2 * k) digits)) ≡ totalOf (bytesOf digits))
 
 abbrev μ-loop : tie.MeasureT-loop
 μ-loop digits sum₀ k₀ sum k = length digits / 2 - k
@@ -35,7 +36,14 @@ shared-slice-read-byte-2 : tie.Need-shared-slice-read-byte-2 Inv-loop μ-loop
 shared-slice-read-byte-2 c = omega arith
 
 add-sum : tie.Need-add-sum Inv-loop μ-loop
-add-sum c = omega (arith, c .byte .ensures, byte-most (getD (now (c .before .before .before .before .before .before .args .digits)) (2 * c .before .before .before .before .loop .k) 0) (getD (now (c .before .before .before .before .before .before .args .digits)) (2 * c .before .before .before .before .loop .k + 1) 0))
+add-sum c =
+    omega (
+      arith,
+      c .byte .ensures,
+      byte-most (getD (now (c .before .before .before .before .before .before .args .digits))
+          (2 * c .before .before .before .before .loop .k) 0) (getD (now (c .before .before .before .before .before
+          .before .args .digits)) (2 * c .before .before .before .before .loop .k + 1) 0),
+    )
 
 add-k : tie.Need-add-k Inv-loop μ-loop
 add-k c = omega arith
@@ -44,10 +52,30 @@ loop-less : tie.Need-loop-less Inv-loop μ-loop
 loop-less c = omega arith
 
 loop-again : tie.Need-loop-again Inv-loop μ-loop
-loop-again c = (omega (arith, c .byte .ensures, byte-most (getD (now (c .before .before .before .before .before .before .args .digits)) (2 * c .before .before .before .before .loop .k) 0) (getD (now (c .before .before .before .before .before .before .args .digits)) (2 * c .before .before .before .before .loop .k + 1) 0)), omega (arith, c .byte .ensures, total-next (now (c .before .before .before .before .before .before .args .digits)) (c .before .before .before .before .loop .k) (c .before .before .before .loop-test .taken), c .before .before .before .before .loop .inv .1))
+loop-again c = (
+  omega (
+    arith,
+    c .byte .ensures,
+    byte-most (getD (now (c .before .before .before .before .before .before .args .digits))
+        (2 * c .before .before .before .before .loop .k) 0) (getD (now (c .before .before .before .before
+        .before .before .args .digits)) (2 * c .before .before .before .before .loop .k + 1) 0),
+  ),
+  omega (
+    arith,
+    c .byte .ensures,
+    total-next (now (c .before .before .before .before .before .before .args .digits))
+        (c .before .before .before .before .loop .k) (c .before .before .before .loop-test .taken),
+    c .before .before .before .before .loop .inv .1,
+  ),
+)
 
 returns : tie.Need-returns Inv-loop μ-loop
-returns c = omega (arith, total-end (now (c .before .before .before .args .digits)) (c .before .loop .k) (c .loop-test .left), c .before .loop .inv .1)
+returns c =
+    omega (
+      arith,
+      total-end (now (c .before .before .before .args .digits)) (c .before .loop .k) (c .loop-test .left),
+      c .before .loop .inv .1,
+    )
 
 pub total-spec : {M : Type 1} → statement M
 total-spec =

@@ -11,8 +11,12 @@ returns c =
     let start = c .before .before .before .before .before .before .before .before .before .before in
     let at = start .args in
     let put = c .before .before .before .before .put-bytes in
-    let back = put-back (at .address) (now (at .memory)) (put .last .0) (start .pre .0) registerEnd (bytesOf (now (at .digits))) (put .ensures .0) in
-    (back, sums-back (at .address) (now (at .memory)) (put .last .0) (start .pre .0) (now (at .sums)) (put .last .1 .1 .0) (put .ensures .1))
+    let back = put-back (at .address) (now (at .memory)) (put .last .0) (start .pre .0) registerEnd
+    (bytesOf (now (at .digits))) (put .ensures .0) in (
+      back,
+      sums-back (at .address) (now (at .memory)) (put .last .0) (start .pre .0) (now (at .sums)) (put .last .1 .1 .0)
+          (put .ensures .1),
+    )
 
 pub land-spec : {M : Type 1} → statement M
 land-spec =

@@ -17,7 +17,8 @@ abbrev Inv-loop : tie.InvT-loop
 Inv-loop part₀ address sums₀ digits k₀ part sums k =
     (length part ≡ length part₀)
     × (registerEnd - address ≤ k)
-    × (putFrom (registerEnd - address) k (bytesOf (drop (2 * k) digits)) part ≡ putFrom (registerEnd - address) 0 (bytesOf digits) part₀)
+    × (putFrom (registerEnd - address) k (bytesOf (drop (2 * k) digits)) part
+    ≡ putFrom (registerEnd - address) 0 (bytesOf digits) part₀)
     × (sums ≡ sumsAfterPart address sums₀ part₀ part)
 
 abbrev μ-loop : tie.MeasureT-loop
@@ -27,8 +28,12 @@ loop-holds : tie.Need-loop-holds Inv-loop μ-loop
 loop-holds c =
     let at = c .before .before .before .before .args in
     let low = c .dropped .ensures in
-    let words : SixteenBits (now (at .sums)) = λ p. omega (arith, c .before .before .slice-known2 .given p) in
-    (refl, omega (arith, low), rw low (put-first (registerEnd - at .address) (now (at .digits)) (now (at .part))), sums-kept (at .address) (now (at .sums)) (now (at .part)) words)
+    let words : SixteenBits (now (at .sums)) = λ p. omega (arith, c .before .before .slice-known2 .given p) in (
+      refl,
+      omega (arith, low),
+      rw low (put-first (registerEnd - at .address) (now (at .digits)) (now (at .part))),
+      sums-kept (at .address) (now (at .sums)) (now (at .part)) words,
+    )
 
 mul-byte : tie.Need-mul-byte Inv-loop μ-loop
 mul-byte c = omega arith
@@ -54,14 +59,18 @@ commit-byte-requires c κs =
     (inside, omega (arith, loop .inv .0, start .pre .1, inside))
 
 add-k : tie.Need-add-k Inv-loop μ-loop
-add-k c = omega (arith, c .before .before .before .before .before .before .before .before .before .before .loop-test .taken)
+add-k c =
+    omega (arith, c .before .before .before .before .before .before .before .before .before .before .loop-test .taken)
 
 loop-less : tie.Need-loop-less Inv-loop μ-loop
-loop-less c = omega (arith, c .before .before .before .before .before .before .before .before .before .before .loop-test .taken)
+loop-less c =
+    omega (arith, c .before .before .before .before .before .before .before .before .before .before .loop-test .taken)
 
 loop-again : tie.Need-loop-again Inv-loop μ-loop
 loop-again c =
-    let at = c .before .before .before .before .before .before .before .before .before .before .before .before .before .before .before .before .args in
+    let at =
+    c .before .before .before .before .before .before .before .before .before .before .before .before .before .before
+    .before .before .args in
     let loop = c .before .before .before .before .before .before .before .before .before .before .before .loop in
     let test = c .before .before .before .before .before .before .before .before .before .before .loop-test .taken in
     let put = c .before .before .before .before .commit-byte in
@@ -70,7 +79,8 @@ loop-again c =
       omega (arith, loop .inv .1),
       rw (put .ensures .0, c .before .before .before .before .before .byte .ensures)
           (sym (put-on low (now (at .digits)) (loop .k) (loop .part) (loop .inv .1) test) ∙ loop .inv .2),
-      sums-then (at .address) (now (at .sums)) (now (at .part)) (loop .part) (put .last .0) (loop .inv .3) (put .ensures .1),
+      sums-then (at .address) (now (at .sums)) (now (at .part)) (loop .part) (put .last .0) (loop .inv .3)
+          (put .ensures .1),
     )
 
 same-length : tie.Need-same-length Inv-loop μ-loop
@@ -79,13 +89,17 @@ same-length c = c .before .loop .inv .0
 same-length-2 : tie.Need-same-length-2 Inv-loop μ-loop
 same-length-2 c =
     let at = c .before .before .before .before .before .before .args in
-    ap length (c .before .loop .inv .3) ∙ sums-length (at .address) (now (at .sums)) (now (at .part)) (c .before .loop .part)
+    ap length (c .before .loop .inv .3)
+    ∙ sums-length (at .address) (now (at .sums)) (now (at .part)) (c .before .loop .part)
 
 returns : tie.Need-returns Inv-loop μ-loop
 returns c =
     let at = c .before .before .before .before .before .before .args in
-    let loop = c .before .loop in
-    (sym (put-end (registerEnd - at .address) (now (at .digits)) (loop .k) (loop .part) (c .loop-test .left)) ∙ loop .inv .2, loop .inv .3)
+    let loop = c .before .loop in (
+      sym (put-end (registerEnd - at .address) (now (at .digits)) (loop .k) (loop .part) (c .loop-test .left))
+          ∙ loop .inv .2,
+      loop .inv .3,
+    )
 
 pub put-bytes-spec : {M : Type 1} → statement M
 put-bytes-spec =

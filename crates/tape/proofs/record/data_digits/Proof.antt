@@ -17,7 +17,13 @@ mul-part c = omega (arith, c .count .ensures, count-most (now (c .before .before
 
 returns-2 : tie.Need-returns-2
 unfolding dataOf
-returns-2 c = rw (c .part .ensures, ← c .before .before .before .fault .ensures, eq-eqb _ _ (c .before .before .if1 .left), ← c .before .count .ensures) refl
+returns-2 c =
+    rw (
+      c .part .ensures,
+      ← c .before .before .before .fault .ensures,
+      eq-eqb _ _ (c .before .before .if1 .left),
+      ← c .before .count .ensures,
+    ) refl
 
 pub data-digits-spec : {M : Type 1} → statement M
 data-digits-spec =

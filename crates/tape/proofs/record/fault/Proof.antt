@@ -10,11 +10,25 @@ returns c = rw (← (c .before .is-malformed .ensures), c .if1 .taken)
 
 returns-2 : tie.Need-returns-2
 unfolding faultOf
-returns-2 c = rw (← (c .before .before .before .before .is-malformed .ensures), ← (c .before .before .sum .ensures), ← (c .before .check-sum .ensures), eq-eqb _ _ (c .if2 .taken), c .before .before .before .if1 .left)
+returns-2 c =
+    rw (
+      ← (c .before .before .before .before .is-malformed .ensures),
+      ← (c .before .before .sum .ensures),
+      ← (c .before .check-sum .ensures),
+      eq-eqb _ _ (c .if2 .taken),
+      c .before .before .before .if1 .left,
+    )
 
 returns-3 : tie.Need-returns-3
 unfolding faultOf
-returns-3 c = rw (← (c .before .before .before .before .is-malformed .ensures), ← (c .before .before .sum .ensures), ← (c .before .check-sum .ensures), ne-eqb _ _ (c .if2 .left), c .before .before .before .if1 .left)
+returns-3 c =
+    rw (
+      ← (c .before .before .before .before .is-malformed .ensures),
+      ← (c .before .before .sum .ensures),
+      ← (c .before .check-sum .ensures),
+      ne-eqb _ _ (c .if2 .left),
+      c .before .before .before .if1 .left,
+    )
 
 pub fault-spec : {M : Type 1} → statement M
 fault-spec =

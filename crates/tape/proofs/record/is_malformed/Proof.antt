@@ -16,7 +16,14 @@ add-are-digits-2 : tie.Need-add-are-digits-2
 add-are-digits-2 c = omega (arith, c .before .count .ensures, count-most (now (c .before .before .before .args .text)))
 
 add-result : tie.Need-add-result
-add-result c = omega (arith, c .before .before .count .ensures, count-most (now (c .before .before .before .before .args .text)), c .before .address .ensures, address-most (now (c .before .before .before .before .args .text)))
+add-result c =
+    omega (
+      arith,
+      c .before .before .count .ensures,
+      count-most (now (c .before .before .before .before .args .text)),
+      c .before .address .ensures,
+      address-most (now (c .before .before .before .before .args .text)),
+    )
 
 returns : tie.Need-returns
 unfolding malformed

@@ -9,13 +9,24 @@ use Rattle.tape.proofs.record.part.Statement.{statement}
 use Rattle.tape.proofs.record.part.Tie as tie
 
 returns : tie.Need-returns
-returns c = rw (drop-of-length-le (now (c .before .before .args .text)) (c .before .if1 .taken)) (sym (take-nil (c .before .before .args .n)))
+returns c =
+    rw (drop-of-length-le (now (c .before .before .args .text)) (c .before .if1 .taken))
+    (sym (take-nil (c .before .before .args .n)))
 
 returns-2 : tie.Need-returns-2
-returns-2 c = take-all (length (now (c .before .before .before .args .text)) - c .before .before .before .args .from) (drop (c .before .before .before .args .from) (now (c .before .before .before .args .text))) (omega (arith, length-drop (c .before .before .before .args .from) (now (c .before .before .before .args .text)))) ∙ sym (take-all (c .before .before .before .args .n) (drop (c .before .before .before .args .from) (now (c .before .before .before .args .text))) (omega (arith, length-drop (c .before .before .before .args .from) (now (c .before .before .before .args .text)))))
+returns-2 c =
+    take-all (length (now (c .before .before .before .args .text)) - c .before .before .before .args .from)
+    (drop (c .before .before .before .args .from) (now (c .before .before .before .args .text)))
+    (omega (arith, length-drop (c .before .before .before .args .from) (now (c .before .before .before .args .text))))
+    ∙ sym (take-all (c .before .before .before .args .n)
+    (drop (c .before .before .before .args .from) (now (c .before .before .before .args .text)))
+    (omega (arith, length-drop (c .before .before .before .args .from) (now (c .before .before .before .args .text)))))
 
 returns-3 : tie.Need-returns-3
-returns-3 c = let e : c .before .before .before .args .from + c .before .before .before .args .n - c .before .before .before .args .from ≡ c .before .before .before .args .n = omega arith in rw e
+returns-3 c =
+    let e : c .before .before .before .args .from + c .before .before .before .args .n
+    - c .before .before .before .args .from ≡ c .before .before .before .args .n = omega arith in
+    rw e
 
 pub part-spec : {M : Type 1} → statement M
 part-spec =

@@ -15,7 +15,13 @@ add-part : tie.Need-add-part
 add-part c = omega (arith, c .count .ensures, count-most (now (c .before .before .args .text)))
 
 total-requires : tie.Need-total-requires
-total-requires c κs = omega (arith, simp length-take at (ap length (c .part .ensures)), c .before .count .ensures, count-most (now (c .before .before .before .args .text)))
+total-requires c κs =
+    omega (
+      arith,
+      simp length-take at (ap length (c .part .ensures)),
+      c .before .count .ensures,
+      count-most (now (c .before .before .before .args .text)),
+    )
 
 returns : tie.Need-returns
 unfolding sumOf

@@ -7,7 +7,8 @@ use Rattle.test_clocks.proofs.scenario.read_inputs.Statement.{statement
 use Rattle.test_clocks.proofs.scenario.read_inputs.Tie as tie
 
 abbrev Inv-loop : tie.InvT-loop
-Inv-loop text from clocks₀ codes₀ count₀ at₀ clocks codes count at = (count ≤ length clocks) × (length clocks ≡ length clocks₀) × (length codes ≡ length codes₀)
+Inv-loop text from clocks₀ codes₀ count₀ at₀ clocks codes count at =
+    (count ≤ length clocks) × (length clocks ≡ length clocks₀) × (length codes ≡ length codes₀)
 
 abbrev μ-loop : tie.MeasureT-loop
 μ-loop text from clocks₀ codes₀ count₀ at₀ clocks codes count at = length text - at

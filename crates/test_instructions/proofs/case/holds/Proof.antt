@@ -14,8 +14,12 @@ returns-2 c = (λ e. absurd (never e), λ e. absurd (never e))
 
 returns-3 : tie.Need-returns-3
 returns-3 c =
-    let tests = tested (c .before .before .done-with .result) ∷ tested (c .same-bytes .result) ∷ [] in
-    (λ e. c .before .before .before .before .before .run-alone .ensures .0 ∙ c .before .before .done-with .ensures (all tests e .0), λ e. c .before .before .before .before .before .run-alone .ensures .1 ∙ c .same-bytes .ensures (all tests e .1 .0))
+    let tests = tested (c .before .before .done-with .result) ∷ tested (c .same-bytes .result) ∷ [] in (
+      λ e. c .before .before .before .before .before .run-alone .ensures .0
+          ∙ c .before .before .done-with .ensures (all tests e .0),
+      λ e. c .before .before .before .before .before .run-alone .ensures .1
+          ∙ c .same-bytes .ensures (all tests e .1 .0),
+    )
 
 pub holds-spec : {M : Type 1} → statement M
 holds-spec =

@@ -5,7 +5,8 @@ use Rattle.test_instructions.proofs.instruction.clock_alone.Statement.{
 use Rattle.test_instructions.proofs.instruction.clock_alone.Tie as tie
 
 clock-requires : tie.Need-clock-requires
-clock-requires c κs = (rw (c .before .before .prepared .ensures) (omega arith), c .before .before .before .opcode-table .ensures)
+clock-requires c κs =
+    (rw (c .before .before .prepared .ensures) (omega arith), c .before .before .before .opcode-table .ensures)
 
 returns : tie.Need-returns
 returns c = c .clock .ensures ∙ rw (c .before .before .before .prepared .ensures)

@@ -4,10 +4,13 @@ use Rattle.test_instructions.proofs.instruction.instruction_writes.Stat
 use Rattle.test_instructions.proofs.instruction.instruction_writes.Tie as tie
 
 returns : tie.Need-returns
-returns c = c .no-writes .ensures ∙ rw (← (c .before .before .before .clock-alone .ensures), c .before .enum-told .given .1)
+returns c =
+    c .no-writes .ensures ∙ rw (← (c .before .before .before .clock-alone .ensures), c .before .enum-told .given .1)
 
 returns-2 : tie.Need-returns-2
-returns-2 c = c .writes-with .ensures ∙ rw (← (c .before .before .before .before .clock-alone .ensures), c .before .before .clocked .given .1)
+returns-2 c =
+    c .writes-with .ensures
+    ∙ rw (← (c .before .before .before .before .clock-alone .ensures), c .before .before .clocked .given .1)
 
 pub instruction-writes-spec : {M : Type 1} → statement M
 instruction-writes-spec =

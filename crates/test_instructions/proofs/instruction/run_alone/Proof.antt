@@ -6,7 +6,9 @@ use Rattle.test_instructions.proofs.instruction.run_alone.Tie as tie
 
 returns : tie.Need-returns
 returns c =
-    let called = rw (c .before .before .before .before .before .before .before .before .before .before .prepared .ensures) at (c .before .before .before .before .run .ensures .0) in
+    let called = rw
+    (c .before .before .before .before .before .before .before .before .before .before .prepared .ensures)
+    at (c .before .before .before .before .run .ensures .0) in
     (ap (λ (h : Handed). h .result) (sym called), ap (λ (h : Handed). h .memory) (sym called))
 
 pub run-alone-spec : {M : Type 1} → statement M

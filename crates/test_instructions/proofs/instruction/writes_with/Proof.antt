@@ -7,4 +7,5 @@ returns-2 : tie.Need-returns-2
 returns-2 c = c .one-write .ensures ∙ rw (c .before .before .waiting .given .1)
 
 pub writes-with-spec : {M : Type 1} → statement M
-writes-with-spec = tie.close (tie.spec (λ c. search needs) (λ c. search needs) (λ c κs. search needs) (λ c. search needs) returns-2)
+writes-with-spec =
+    tie.close (tie.spec (λ c. search needs) (λ c. search needs) (λ c κs. search needs) (λ c. search needs) returns-2)

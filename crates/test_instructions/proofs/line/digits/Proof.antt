@@ -30,7 +30,11 @@ add-n : tie.Need-add-n Inv-loop μ-loop
 add-n c = omega (arith, reading-fits _ _ _ _ (omega arith) (c .before .before .before .before .loop .inv .0))
 
 loop-again : tie.Need-loop-again Inv-loop μ-loop
-loop-again c = (reading-on _ _ _ _ _ (omega arith) (c .if3 .left) (c .before .value .ensures .1 (c .if3 .left)) (c .before .before .before .before .loop .inv .0), omega arith)
+loop-again c = (
+  reading-on _ _ _ _ _ (omega arith) (c .if3 .left) (c .before .value .ensures .1 (c .if3 .left))
+      (c .before .before .before .before .loop .inv .0),
+  omega arith,
+)
 
 returns-4 : tie.Need-returns-4 Inv-loop μ-loop
 returns-4 c e = reading-ends _ _ _ _ _ (c .before .loop .inv .1) (c .loop-test .left) (c .before .loop .inv .0)

@@ -13,4 +13,5 @@ returns-4 c = (omega arith, λ _. letter-digit _ (c .before .if3 .left))
 pub value-spec : {M : Type 1} → statement M
 value-spec =
     tie.close
-    (tie.spec (λ c. search needs) (λ c. search needs) returns-2 (λ c. search needs) (λ c. search needs) (λ c. search needs) returns-4 (λ c. search needs))
+    (tie.spec (λ c. search needs) (λ c. search needs) returns-2 (λ c. search needs) (λ c. search needs)
+    (λ c. search needs) returns-4 (λ c. search needs))

@@ -22,7 +22,11 @@ returns-2 : tie.Need-returns-2 Inv-loop μ-loop
 returns-2 c e = absurd (never e)
 
 loop-again : tie.Need-loop-again Inv-loop μ-loop
-loop-again c = (omega arith, c .before .before .before .before .loop .inv .1, below-more _ _ (c .before .before .before .before .loop .inv .2) (c .if2 .left))
+loop-again c = (
+  omega arith,
+  c .before .before .before .before .loop .inv .1,
+  below-more _ _ (c .before .before .before .before .loop .inv .2) (c .if2 .left),
+)
 
 returns-3 : tie.Need-returns-3 Inv-loop μ-loop
 returns-3 c e = ext-getD 0 _ _ (c .before .loop .inv .1) (λ k h. c .before .loop .inv .2 k (omega arith))

@@ -12,4 +12,5 @@ returns-2 c e = c .before .before .a .given .1 ∙ sym (c .is-waiting .ensures e
 
 pub same-waiting-spec : {M : Type 1} → statement M
 same-waiting-spec =
-    tie.close (tie.spec (λ c. search needs) (λ c κs. search needs) (λ c. search needs) (λ c κs. search needs) returns returns-2)
+    tie.close
+    (tie.spec (λ c. search needs) (λ c κs. search needs) (λ c. search needs) (λ c κs. search needs) returns returns-2)

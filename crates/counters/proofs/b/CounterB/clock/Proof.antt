@@ -11,7 +11,13 @@ returns c = rw (c .down .ensures, lt-ltb _ _ (c .before .if1 .taken)) refl
 
 returns-2 : tie.Need-returns-2
 unfolding clockB
-returns-2 c = rw (c .down2 .ensures, c .before .if3 .taken, eq-eqb _ _ (c .before .before .if2 .taken), le-ltb _ _ (c .before .before .before .if1 .left)) refl
+returns-2 c =
+    rw (
+      c .down2 .ensures,
+      c .before .if3 .taken,
+      eq-eqb _ _ (c .before .before .if2 .taken),
+      le-ltb _ _ (c .before .before .before .if1 .left),
+    ) refl
 
 returns-3 : tie.Need-returns-3
 unfolding clockB
@@ -19,11 +25,23 @@ returns-3 c = rw (c .if3 .left, eq-eqb _ _ (c .before .if2 .taken), le-ltb _ _ (
 
 returns-4 : tie.Need-returns-4
 unfolding clockB
-returns-4 c = rw (c .reload .ensures, c .before .if4 .taken, ne-eqb _ _ (c .before .before .if2 .left), le-ltb _ _ (c .before .before .before .if1 .left)) refl
+returns-4 c =
+    rw (
+      c .reload .ensures,
+      c .before .if4 .taken,
+      ne-eqb _ _ (c .before .before .if2 .left),
+      le-ltb _ _ (c .before .before .before .if1 .left),
+    ) refl
 
 returns-5 : tie.Need-returns-5
 unfolding clockB
-returns-5 c = rw (c .down3 .ensures, c .before .if4 .left, ne-eqb _ _ (c .before .before .if2 .left), le-ltb _ _ (c .before .before .before .if1 .left)) refl
+returns-5 c =
+    rw (
+      c .down3 .ensures,
+      c .before .if4 .left,
+      ne-eqb _ _ (c .before .before .if2 .left),
+      le-ltb _ _ (c .before .before .before .if1 .left),
+    ) refl
 
 pub clock-spec : {M : Type 1} → statement M
 clock-spec =

@@ -5,7 +5,13 @@ use Rattle.r6501q_state.proofs.state.Control.flags.Tie as tie
 
 returns : tie.Need-returns
 unfolding flagsOf
-returns c = rw (← (c .before .before .before .receiver-flag .ensures), ← (c .before .before .transmitter-flag .ensures), ← (c .before .with-bit .ensures), ← (c .with-bit2 .ensures))
+returns c =
+    rw (
+      ← (c .before .before .before .receiver-flag .ensures),
+      ← (c .before .before .transmitter-flag .ensures),
+      ← (c .before .with-bit .ensures),
+      ← (c .with-bit2 .ensures),
+    )
 
 pub flags-spec : {M : Type 1} → statement M
 flags-spec =

@@ -3,7 +3,13 @@ use Rattle.r6501q_state.proofs.state.Peripherals.reset.Statement.{state
 use Rattle.r6501q_state.proofs.state.Peripherals.reset.Tie as tie
 
 returns : tie.Need-returns
-returns c = rw (← (c .before .before .before .fresh-ports .ensures), ← (c .before .before .fresh-control .ensures), ← (c .before .idle-transmitter .ensures), ← (c .idle-receiver .ensures))
+returns c =
+    rw (
+      ← (c .before .before .before .fresh-ports .ensures),
+      ← (c .before .before .fresh-control .ensures),
+      ← (c .before .idle-transmitter .ensures),
+      ← (c .idle-receiver .ensures),
+    )
 
 pub reset-spec : {M : Type 1} → statement M
 reset-spec =

@@ -9,7 +9,13 @@ returns c = rw (← (c .before .before .levels .ensures), ← (c .before .record
 
 returns-2 : tie.Need-returns-2
 unfolding sensed sensedAt
-returns-2 c = rw (← (c .before .before .before .levels .ensures), ← (c .before .before .record-edges .ensures), ← (c .reset-low .ensures), c .before .if1 .left)
+returns-2 c =
+    rw (
+      ← (c .before .before .before .levels .ensures),
+      ← (c .before .before .record-edges .ensures),
+      ← (c .reset-low .ensures),
+      c .before .if1 .left,
+    )
 
 pub sense-spec : {M : Type 1} → statement M
 sense-spec =

@@ -33,7 +33,13 @@ returns-2 c =
 
 returns-3 : tie.Need-returns-3
 unfolding receiverClock
-returns-3 c = rw (← (c .before .before .before .receiver-asynchronous .ensures), ← (c .before .receiver-shifting .ensures), c .if2 .left, c .before .before .if1 .left)
+returns-3 c =
+    rw (
+      ← (c .before .before .before .receiver-asynchronous .ensures),
+      ← (c .before .receiver-shifting .ensures),
+      c .if2 .left,
+      c .before .before .if1 .left,
+    )
 
 pub clock-spec : {M : Type 1} → statement M
 clock-spec =

@@ -5,7 +5,13 @@ use Rattle.serial.proofs.receiver.Receiver.end_frame.Tie as tie
 
 returns : tie.Need-returns
 unfolding frameEnded
-returns c = rw (← (c .before .before .before .before .parity-is-wrong .ensures), ← (c .before .before .status-after .ensures), ← (c .before .byte-of .ensures), ← (c .keep .ensures))
+returns c =
+    rw (
+      ← (c .before .before .before .before .parity-is-wrong .ensures),
+      ← (c .before .before .status-after .ensures),
+      ← (c .before .byte-of .ensures),
+      ← (c .keep .ensures),
+    )
 
 pub end-frame-spec : {M : Type 1} → statement M
 end-frame-spec =

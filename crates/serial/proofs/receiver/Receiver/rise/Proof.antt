@@ -6,7 +6,12 @@ use Rattle.serial.proofs.receiver.Receiver.rise.Tie as tie
 
 returns : tie.Need-returns
 unfolding receiveRise
-returns c = rw (← (c .before .before .before .shift-at-rise .ensures), ← (c .end-byte .ensures), eq-eqb _ _ (c .before .if1 .taken))
+returns c =
+    rw (
+      ← (c .before .before .before .shift-at-rise .ensures),
+      ← (c .end-byte .ensures),
+      eq-eqb _ _ (c .before .if1 .taken),
+    )
 
 returns-2 : tie.Need-returns-2
 unfolding receiveRise

@@ -11,7 +11,8 @@ returns c = rw (← (c .before .before .with-level .ensures), eq-eqb _ _ (c .if1
 
 returns-2 : tie.Need-returns-2
 unfolding shiftedAtRise
-returns-2 c = rw (c .one-less .ensures, ← (c .before .before .before .with-level .ensures), ne-eqb _ _ (c .before .if1 .left))
+returns-2 c =
+    rw (c .one-less .ensures, ← (c .before .before .before .with-level .ensures), ne-eqb _ _ (c .before .if1 .left))
 
 pub shift-at-rise-spec : {M : Type 1} → statement M
 shift-at-rise-spec = tie.close (tie.spec (λ c κs. search needs) returns (λ c κs. search needs) returns-2)

@@ -10,11 +10,24 @@ returns c = rw (lt-ltb _ _ (c .before .if1 .taken))
 
 returns-2 : tie.Need-returns-2
 unfolding lookTaken
-returns-2 c = rw (← (c .before .before .before .before .with-level .ensures), ← (c .before .before .before .one-less .ensures), ← (c .end-frame .ensures), eq-eqb _ _ (c .before .if2 .taken), le-ltb _ _ (c .before .before .before .before .before .if1 .left))
+returns-2 c =
+    rw (
+      ← (c .before .before .before .before .with-level .ensures),
+      ← (c .before .before .before .one-less .ensures),
+      ← (c .end-frame .ensures),
+      eq-eqb _ _ (c .before .if2 .taken),
+      le-ltb _ _ (c .before .before .before .before .before .if1 .left),
+    )
 
 returns-3 : tie.Need-returns-3
 unfolding lookTaken
-returns-3 c = rw (← (c .before .before .before .with-level .ensures), ← (c .before .before .one-less .ensures), ne-eqb _ _ (c .if2 .left), le-ltb _ _ (c .before .before .before .before .if1 .left))
+returns-3 c =
+    rw (
+      ← (c .before .before .before .with-level .ensures),
+      ← (c .before .before .one-less .ensures),
+      ne-eqb _ _ (c .if2 .left),
+      le-ltb _ _ (c .before .before .before .before .if1 .left),
+    )
 
 pub take-look-spec : {M : Type 1} → statement M
 take-look-spec =

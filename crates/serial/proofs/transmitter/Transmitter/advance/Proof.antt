@@ -5,7 +5,13 @@ use Rattle.serial.proofs.transmitter.Transmitter.advance.Tie as tie
 
 returns : tie.Need-returns
 unfolding ticked
-returns c = rw (← (c .before .before .before .before .next-phase .ensures), ← (c .before .before .before .ends-bit .ensures), ← (c .one-less .ensures), c .before .before .if1 .taken)
+returns c =
+    rw (
+      ← (c .before .before .before .before .next-phase .ensures),
+      ← (c .before .before .before .ends-bit .ensures),
+      ← (c .one-less .ensures),
+      c .before .before .if1 .taken,
+    )
 
 returns-2 : tie.Need-returns-2
 unfolding ticked

@@ -7,7 +7,8 @@ use Rattle.serial.proofs.transmitter.Transmitter.bit_tick.Tie as tie
 
 returns : tie.Need-returns
 unfolding bitTick
-returns c = rw (c .frame-end .ensures, ← (c .before .before .before .advance .ensures), eq-eqb _ _ (c .before .if1 .taken)) refl
+returns c =
+    rw (c .frame-end .ensures, ← (c .before .before .before .advance .ensures), eq-eqb _ _ (c .before .if1 .taken)) refl
 
 returns-2 : tie.Need-returns-2
 unfolding bitTick

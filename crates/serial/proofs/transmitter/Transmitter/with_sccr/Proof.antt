@@ -9,7 +9,8 @@ returns c = rw (← (c .before .keeps-transmitter .ensures), c .if1 .taken)
 
 returns-2 : tie.Need-returns-2
 unfolding transmitterWithSccr
-returns-2 c = rw (← (c .before .before .keeps-transmitter .ensures), ← (c .idle-transmitter .ensures), c .before .if1 .left)
+returns-2 c =
+    rw (← (c .before .before .keeps-transmitter .ensures), ← (c .idle-transmitter .ensures), c .before .if1 .left)
 
 pub with-sccr-spec : {M : Type 1} → statement M
 with-sccr-spec =
