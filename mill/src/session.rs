@@ -41,6 +41,7 @@ pub struct Session<I: Iterator<Item = Input>> {
     base: u64,
     sizes: Sizes,
     inputs: Peekable<I>,
+    /// Inputs that were taken for a piece and are not read yet.
     window: Vec<Input>,
     output_clocks: Vec<u32>,
     output_words: Vec<u32>,
@@ -80,20 +81,20 @@ impl<I: Iterator<Item = Input>> Session<I> {
         }
     }
 
-    /// The clock of the next input that is not lent yet.
+    /// The clock of the next input that is not read yet.
     pub fn next_input(&mut self) -> Option<u64> {
-        self.inputs.peek().map(|input| input.clock)
+        self.window.first().or(self.inputs.peek()).map(|input| input.clock)
     }
 
-    /// Runs to a clock, or to a stop before it: 0 where the clock is reached.
-    pub fn advance(&mut self, to: u64, sink: &mut impl Sink) -> Result<Number, Failure> {
+    /// Runs to a clock, or to a stop before it: 0 where the clock is reached, 12 behind a write to the halt address.
+    pub fn advance(&mut self, to: u64, halt: Option<u16>, sink: &mut impl Sink) -> Result<Number, Failure> {
         while self.now() < to {
             if self.state.clock >= self.sizes.set_back {
                 self.base += u64::from(self.state.clock);
                 self.state.clock = 0;
             }
             let clocks = (to - self.now()).min(u64::from(self.sizes.piece)) as u32;
-            let number = self.piece(clocks, sink)?;
+            let number = self.piece(clocks, halt, sink)?;
             if number != Number::Done {
                 return Ok(number);
             }
@@ -102,7 +103,7 @@ impl<I: Iterator<Item = Input>> Session<I> {
     }
 
     /// So many clocks, in as many calls as the space for records makes necessary.
-    fn piece(&mut self, clocks: u32, sink: &mut impl Sink) -> Result<Number, Failure> {
+    fn piece(&mut self, clocks: u32, halt: Option<u16>, sink: &mut impl Sink) -> Result<Number, Failure> {
         let end = self.state.clock + clocks;
         let (input_clocks, input_codes) = self.lend(self.base + u64::from(end));
         let mut read = 0;
@@ -115,13 +116,14 @@ impl<I: Iterator<Item = Input>> Session<I> {
                 &mut self.output_clocks,
                 &mut self.output_words,
                 end - self.state.clock,
-                None,
+                halt,
             );
             self.state = result.state;
             self.window[read..read + result.read].iter().try_for_each(|input| sink.input(*input))?;
             read += result.read;
             self.hand_on(result.written, sink)?;
             if result.number != Number::NoFreeRecord {
+                self.window.drain(..read);
                 return Ok(result.number);
             }
         }
@@ -129,7 +131,6 @@ impl<I: Iterator<Item = Input>> Session<I> {
 
     /// The inputs up to a clock, as the library takes them.
     fn lend(&mut self, last: u64) -> (Vec<u32>, Vec<u8>) {
-        self.window.clear();
         while let Some(input) = self.inputs.next_if(|input| input.clock <= last) {
             self.window.push(input);
         }
@@ -185,7 +186,7 @@ mod tests {
         let mut session = Session::fresh(copying(), inputs().into_iter(), sizes);
         let mut kept = Kept::default();
         for cut in cuts {
-            assert_eq!(session.advance(*cut, &mut kept), Ok(Number::Done));
+            assert_eq!(session.advance(*cut, None, &mut kept), Ok(Number::Done));
             assert_eq!(session.now(), *cut);
         }
         (kept, session.now(), session.state().cpu.pc)
@@ -207,11 +208,30 @@ mod tests {
     }
 
     #[test]
+    fn halts_change_nothing() {
+        let whole = kept(Sizes::default(), &[20_000]);
+        for sizes in [Sizes::default(), Sizes { piece: 7, space: 3, set_back: 50 }] {
+            let mut session = Session::fresh(copying(), inputs().into_iter(), sizes);
+            let (mut kept, mut halts) = (Kept::default(), 0);
+            while session.now() < 20_000 {
+                match session.advance(20_000, Some(0x0002), &mut kept) {
+                    Ok(Number::HaltedAtWrite) => halts += 1,
+                    number => assert_eq!(number, Ok(Number::Done)),
+                }
+                let next = inputs().into_iter().find(|input| input.clock > session.now());
+                assert_eq!(session.next_input(), next.map(|input| input.clock));
+            }
+            assert!(halts > 1_000);
+            assert_eq!((kept, session.now(), session.state().cpu.pc), whole);
+        }
+    }
+
+    #[test]
     fn an_undefined_opcode_is_a_stop() {
         let mut memory = copying();
         memory[0x0206] = 0xDA;
         let mut session = Session::fresh(memory, list("1,RES,1").unwrap().into_iter(), Sizes::default());
-        assert_eq!(session.advance(1_000, &mut Kept::default()), Ok(Number::UndefinedOpcode));
+        assert_eq!(session.advance(1_000, None, &mut Kept::default()), Ok(Number::UndefinedOpcode));
         assert_eq!((session.state().cpu.pc, session.byte(0x0206), session.byte(0x3F)), (0x0206, Some(0xDA), None));
         assert!(session.now() < 30);
     }
@@ -221,7 +241,7 @@ mod tests {
         let inputs = list("1,RES,1\n1000,RES,0\n5000000000,RES,1").unwrap();
         let mut session = Session::fresh(copying(), inputs.into_iter(), Sizes::default());
         let mut kept = Kept::default();
-        assert_eq!(session.advance(5_000_000_999, &mut kept), Ok(Number::Done));
+        assert_eq!(session.advance(5_000_000_999, None, &mut kept), Ok(Number::Done));
         let early: Vec<(u64, u32)> = kept.records.iter().copied().filter(|(clock, _)| *clock < 900).collect();
         let late: Vec<(u64, u32)> = kept.records.iter().filter(|(clock, _)| *clock > 5_000_000_000).copied().collect();
         let shifted: Vec<(u64, u32)> = early.iter().map(|(clock, word)| (clock + 4_999_999_999, *word)).collect();

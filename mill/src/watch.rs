@@ -6,18 +6,19 @@ use r6501q::{Frame, Parity, State};
 /// The tolerance of a bit, in thousandths.
 const TOLERANCE: u128 = 20;
 
-/// Clocks from one look to the next, at most, while a frame may come: a change of settings is seen soon.
+/// Clocks from one look to the next, at most, while a frame is being received: another latch is seen soon.
 const APART: u64 = 4_096;
+
+/// Clocks that any frame takes at least behind the fall of its start bit: 5 data bits and a stop, each of 16 clocks.
+const SHORTEST: u64 = 6 * 16;
+
+/// The address of SCCR.
+const SCCR: u16 = 0x0015;
 
 /// Whether the receiver is on and takes frames: SCCR6, and not shifting (SCCR4 without SCCR5).
 fn receives(state: &State) -> bool {
     let sccr = state.peripherals.control.sccr;
     sccr & 0x40 != 0 && sccr & 0x30 != 0x10
-}
-
-/// Clocks of a bit, 16 ticks of counter A.
-fn bit(state: &State) -> u64 {
-    16 * (u64::from(state.peripherals.countera.latch) + 1)
 }
 
 /// Clocks until a frame ends that is being received. The receiver looks at PA7 each second tick, and each eighth look
@@ -31,12 +32,6 @@ fn to_frame_end(state: &State) -> Option<u64> {
     Some(u64::from(counter.count) + 1 + (ticks - 1) * (u64::from(counter.latch) + 1))
 }
 
-/// Clocks that a frame takes at least behind its first look: data, parity, one stop.
-fn shortest_frame(state: &State) -> u64 {
-    let sccr = u64::from(state.peripherals.control.sccr);
-    (8 - (sccr >> 2 & 3) + (sccr >> 1 & 1) + 1) * bit(state)
-}
-
 /// Whether PA7 stays high until an input changes it: neither an input nor the port latch holds it low.
 fn quiet(state: &State) -> bool {
     state.external.ports & 0x80 != 0 && state.peripherals.ports.a & 0x80 != 0
@@ -48,23 +43,32 @@ pub struct Look {
     pub clock: u64,
     /// Whether a frame ends on that clock.
     pub frame_end: bool,
+    /// The address at whose write to look before that clock.
+    pub halt: Option<u16>,
 }
 
 /// The next look: a frame's end, if one is being received; else before one can end.
+///
+/// No frame ends between two looks. A held chip receives nothing, and an input releases it. A receiver that is off is
+/// turned on by a write to SCCR alone, and that write is itself a look; so are those that change the frame's form or
+/// turn it off. A receiver that waits takes a start bit where PA7 falls, by an input, and no frame is over within
+/// `SHORTEST` clocks of that, whatever the latch is by then. A frame that is being received ends when counter A has
+/// made its ticks. Two things are left that only a strange firmware does: to shorten latch A in the midst of a frame,
+/// and to pull PA7 low by its own port latch while it receives.
 pub fn next_look(state: &State, now: u64, next_input: Option<u64>) -> Look {
-    let at = |clock| Look { clock, frame_end: false };
+    let at = |clock| Look { clock, frame_end: false, halt: Some(SCCR) };
     let input = next_input.map_or(u64::MAX, |clock| clock.max(now + 1));
     if state.external.res == 0 {
-        return at(input);
+        return Look { halt: None, ..at(input) };
     }
     if !receives(state) {
-        return at(now + APART);
+        return at(u64::MAX);
     }
     match to_frame_end(state) {
-        Some(clocks) if clocks <= APART => Look { clock: now + clocks, frame_end: true },
+        Some(clocks) if clocks <= APART => Look { frame_end: true, ..at(now + clocks) },
         Some(_) => at(now + APART),
-        None if quiet(state) => at(input.saturating_add(shortest_frame(state).min(APART)) - 1),
-        None => at(now + shortest_frame(state).min(APART)),
+        None if quiet(state) => at(input.saturating_add(SHORTEST - 1)),
+        None => at(now + SHORTEST),
     }
 }
 
@@ -102,8 +106,8 @@ impl<'a> Watch<'a> {
 
     /// A look where a frame ends.
     pub fn frame_ends(&mut self, state: &State, clock: u64) {
-        if state.peripherals.receiver.left != 0 {
-            return; // the firmware changed the latch meanwhile
+        if state.peripherals.receiver.left != 0 || !receives(state) {
+            return; // another latch made it longer, or RES cut it off
         }
         self.frames += 1;
         self.compare(state, clock);
@@ -227,20 +231,23 @@ mod tests {
     }
 
     fn watched(line: &Line, memory: Vec<u8>, path: &[u8]) -> (Vec<String>, u64, [u64; 3]) {
-        let start = list("1,RES,1").unwrap();
-        let inputs = Merged::of(line.inputs(path), start.into_iter());
+        watched_with("1,RES,1", line, memory, path)
+    }
+
+    fn watched_with(others: &str, line: &Line, memory: Vec<u8>, path: &[u8]) -> (Vec<String>, u64, [u64; 3]) {
+        let inputs = Merged::of(line.inputs(path), list(others).unwrap().into_iter());
         let mut session = Session::fresh(memory, inputs, Sizes::default());
         let mut watch = Watch::over(Some(line));
         let path_end = line.end(path.len() as u64).unwrap();
         let end = path_end + 5_000;
-        session.advance(line.start, &mut Nobody).unwrap();
+        session.advance(line.start, None, &mut Nobody).unwrap();
         watch.path_begins(session.state(), line.start);
         while session.now() < end {
             let next_input = session.next_input();
             let look = next_look(session.state(), session.now(), next_input);
             assert!(look.clock > session.now());
-            session.advance(look.clock.min(end), &mut Nobody).unwrap();
-            if look.frame_end && look.clock <= end {
+            session.advance(look.clock.min(end), look.halt, &mut Nobody).unwrap();
+            if look.frame_end && look.clock == session.now() {
                 watch.frame_ends(session.state(), look.clock);
             }
         }
@@ -255,6 +262,29 @@ mod tests {
         assert_eq!(good, (vec![], 200, [0, 0, 0]));
         let fast = watched(&line(62_500), receiver(0, 0x40, true), &path);
         assert_eq!(fast, (vec![], 200, [0, 0, 0]));
+    }
+
+    #[test]
+    fn a_frame_right_behind_a_reset_is_counted() {
+        // The receiver is off until the firmware turns it on again; the sixth frame begins on clock 22,000.
+        for (baud, latch) in [(4_800, 12), (62_500, 0)] {
+            let line = Line { every: Some(4_000), ..line(baud) };
+            for released in [21_000, 21_500, 21_900] {
+                let others = format!("1,RES,1\n20900,RES,0\n{released},RES,1");
+                let good = watched_with(&others, &line, receiver(latch, 0x40, true), &[0x55; 10]);
+                assert_eq!(good, (vec![], 10, [0, 0, 0]), "{baud} {released}");
+            }
+        }
+    }
+
+    #[test]
+    fn a_frame_that_is_cut_off_by_a_reset_is_not_counted() {
+        let line = Line { every: Some(4_000), ..line(4_800) };
+        for released in [23_100, 24_100, 25_900] {
+            let others = format!("1,RES,1\n23000,RES,0\n{released},RES,1");
+            let (warnings, frames, _) = watched_with(&others, &line, receiver(12, 0x40, true), &[0xFF; 10]);
+            assert_eq!((warnings.len(), frames), (1, 9), "{released}: {warnings:?}");
+        }
     }
 
     #[test]

@@ -120,18 +120,22 @@ impl<I: Iterator<Item = Input>> Run<'_, I> {
         Ok(if cut { End::Interrupted } else { End::Number(number) })
     }
 
-    /// Runs to the next look at the receiver, where the path begins and where a frame ends, but not too far.
+    /// Runs to the next look at the receiver, to where the path begins or a frame ends, but not too far.
     fn stretch(&mut self, end: u64, begin: &mut u64) -> Result<Number, Failure> {
         let (now, next_input) = (self.session.now(), self.session.next_input());
         let look = next_look(self.session.state(), now, next_input);
         let to = look.clock.min(now + STRETCH).min(*begin).min(end);
-        let number = self.session.advance(to, &mut self.writer)?;
-        if number == Number::Done && to == *begin {
-            self.watch.path_begins(self.session.state(), to);
+        let number = match self.session.advance(to, look.halt, &mut self.writer)? {
+            Number::HaltedAtWrite => Number::Done, // a look
+            number => number,
+        };
+        let reached = self.session.now();
+        if number == Number::Done && reached == *begin {
+            self.watch.path_begins(self.session.state(), reached);
             *begin = u64::MAX;
         }
-        if number == Number::Done && look.frame_end && to == look.clock {
-            self.watch.frame_ends(self.session.state(), to);
+        if number == Number::Done && look.frame_end && reached == look.clock {
+            self.watch.frame_ends(self.session.state(), reached);
         }
         Ok(number)
     }
