@@ -29,6 +29,8 @@ pub struct Writer {
     inputs: BufWriter<File>,
     /// The records written.
     pub count: u64,
+    /// The last one's clock.
+    pub last: Option<u64>,
 }
 
 impl Writer {
@@ -43,7 +45,7 @@ impl Writer {
             Ok(file)
         };
         let (records, inputs) = (headed(RECORDS, RECORDS_HEADING)?, headed(INPUTS, HEADING)?);
-        Ok(Writer { folder, records, inputs, count: 0 })
+        Ok(Writer { folder, records, inputs, count: 0, last: None })
     }
 
     /// Writes the summary in the place of an earlier one, behind all records so far.
@@ -61,6 +63,7 @@ impl Sink for Writer {
 
     fn record(&mut self, clock: u64, word: u32) -> Result<(), Failure> {
         self.count += 1;
+        self.last = Some(clock);
         writeln!(self.records, "{clock},{word:08X}").map_err(|error| failed(&self.folder.join(RECORDS), error))
     }
 }

@@ -12,7 +12,7 @@ use crate::plan::Plan;
 use crate::progress::Progress;
 use crate::session::Session;
 use crate::undefined::of_65c02;
-use crate::units::{grouped, seconds};
+use crate::units::{grouped, hundredths, seconds};
 use crate::watch::{next_look, Watch, FAULTS};
 use r6501q::Number;
 use std::path::Path;
@@ -61,6 +61,10 @@ pub const COMMAND: Command = Command {
 /// Clocks between two looks at progress and signals, at most.
 const STRETCH: u64 = 1 << 20;
 
+/// Milliseconds before the end in which a change of the output is noted: a cutter that moves makes more than 50 steps a
+/// second.
+const STILL: u128 = 20;
+
 /// How a run ended.
 #[derive(Clone, Copy, PartialEq, Eq)]
 enum End {
@@ -88,6 +92,7 @@ fn act(arguments: &Arguments) -> Result<Verdict, Failure> {
     interrupt::noted();
     let end = run.driven()?;
     run.writer.summarize(&run.summary(Some(end)))?;
+    run.moving(Some(end)).iter().for_each(|words| note(&format!("mill: note: {words}")));
     run.watch.warnings.iter().for_each(|words| note(&format!("mill: warning: {words}")));
     print(&format!("{folder}: {}\n", run.told(end)))?;
     run.verdict(end)
@@ -155,6 +160,17 @@ impl<I: Iterator<Item = Input>> Run<'_, I> {
         }
     }
 
+    /// What is noted where the output still changed shortly before all clocks were done: a move may be cut off.
+    fn moving(&self, end: Option<End>) -> Option<String> {
+        let (since, rate) = (u128::from(self.session.now() - self.writer.last?), u128::from(self.plan.rate));
+        let near = 1_000 * since < STILL * rate;
+        let milliseconds = hundredths(1_000 * since, rate);
+        let option = if self.plan.length.is_some() { "--for" } else { "--tail" };
+        (near && end == Some(End::Number(Number::Done))).then(|| {
+            format!("the output still changed {milliseconds} ms before the end: a longer {option} may be wanted")
+        })
+    }
+
     /// What went in, what was asked for, and how it ended; no end: the run is under way.
     fn summary(&self, end: Option<End>) -> Json {
         let mut fields = vec![
@@ -170,7 +186,7 @@ impl<I: Iterator<Item = Input>> Run<'_, I> {
     }
 
     /// The summary's fields of what was reached.
-    fn reached(&self, end: Option<End>) -> [(&'static str, Json); 10] {
+    fn reached(&self, end: Option<End>) -> [(&'static str, Json); 11] {
         let number = match end {
             Some(End::Number(number)) => Json::from(u32::from(u8::from(number))),
             _ => Json::Null,
@@ -188,6 +204,7 @@ impl<I: Iterator<Item = Input>> Run<'_, I> {
             ("frames_received", self.watch.frames.into()),
             ("frames_with", Json::Object(faults.collect())),
             ("warnings", Json::List(self.watch.warnings.iter().map(|words| words.as_str().into()).collect())),
+            ("notes", Json::List(self.moving(end).into_iter().map(Json::from).collect())),
         ]
     }
 
