@@ -5,7 +5,7 @@ use crate::input::{in_order, parsed, Input, HEADING};
 use crate::json::{self, Json};
 use crate::session::Sink;
 use std::fs::File;
-use std::io::{BufRead, BufReader, BufWriter, Write};
+use std::io::{BufRead, BufReader, BufWriter, Read, Seek, SeekFrom, Write};
 use std::path::{Path, PathBuf};
 
 const RECORDS: &str = "records.csv";
@@ -73,9 +73,9 @@ pub struct Folder {
     path: PathBuf,
     /// Clocks a second.
     pub rate: u32,
-    /// The last clock done.
+    /// The last clock done; of a run that is not complete, the last one known.
     pub last_clock: u64,
-    /// Whether the run was cut short.
+    /// Whether the run is not complete: it was cut short, or still goes on.
     pub partial: bool,
 }
 
@@ -91,7 +91,9 @@ impl Folder {
         let rate = rate.ok_or_else(|| missing("options.clock"))?;
         let last_clock = summary.get("last_clock").and_then(Json::count).ok_or_else(|| missing("last_clock"))?;
         let partial = summary.get("partial") != Some(&Json::Bool(false));
-        Ok(Folder { path, rate, last_clock, partial })
+        // The summary of a run that goes on, or was killed, is that of its start.
+        let recorded = if partial { last_recorded(&path.join(RECORDS)) } else { None };
+        Ok(Folder { path, rate, last_clock: last_clock.max(recorded.unwrap_or(0)), partial })
     }
 
     /// A run of this name and rate, without its files.
@@ -108,14 +110,14 @@ impl Folder {
     /// The records, in order.
     pub fn records(&self) -> Result<impl Iterator<Item = Result<Record, Failure>>, Failure> {
         let mut last = 0;
-        Ok(lines(self.path.join(RECORDS), RECORDS_HEADING)?
+        Ok(lines(self.path.join(RECORDS), RECORDS_HEADING, self.partial)?
             .map(move |line| line.and_then(|line| line.parsed(|text| record(text, &mut last)))))
     }
 
     /// The inputs that the run read, in order.
     pub fn inputs(&self) -> Result<impl Iterator<Item = Result<Input, Failure>>, Failure> {
         let mut last: Option<Input> = None;
-        Ok(lines(self.path.join(INPUTS), HEADING)?.map(move |line| {
+        Ok(lines(self.path.join(INPUTS), HEADING, self.partial)?.map(move |line| {
             let input = line?.parsed(|text| parsed(text).and_then(|input| in_order(last.as_ref(), input)))?;
             last = Some(input);
             Ok(input)
@@ -138,10 +140,12 @@ impl Line {
     }
 }
 
-/// The lines of a file behind its heading.
-fn lines(path: PathBuf, heading: &str) -> Result<impl Iterator<Item = Result<Line, Failure>>, Failure> {
+/// The lines of a file behind its heading. Where the run is not complete, a last line without its end is left out: it
+/// is half written.
+fn lines(path: PathBuf, heading: &str, partial: bool) -> Result<impl Iterator<Item = Result<Line, Failure>>, Failure> {
     let file = File::open(&path).map_err(|error| failed(&path, error))?;
-    let mut lines = BufReader::new(file).lines();
+    let mut file = BufReader::new(file);
+    let mut lines = std::iter::from_fn(move || whole_line(&mut file, partial).transpose());
     match lines.next() {
         Some(Ok(first)) if first == heading => {}
         _ => return Err(failed(&path, format!("the first line is not `{heading}`"))),
@@ -150,6 +154,32 @@ fn lines(path: PathBuf, heading: &str) -> Result<impl Iterator<Item = Result<Lin
         let text = line.map_err(|error| failed(&path, format!("line {number}: {error}")))?;
         Ok(Line { path: path.clone(), number, text })
     }))
+}
+
+/// The next line without its end; none behind the last one, and none for one that has no end where that is left out.
+fn whole_line(file: &mut impl BufRead, partial: bool) -> std::io::Result<Option<String>> {
+    let mut line = Vec::new();
+    file.read_until(b'\n', &mut line)?;
+    let ended = line.pop_if(|byte| *byte == b'\n').is_some();
+    if !ended && (partial || line.is_empty()) {
+        return Ok(None);
+    }
+    line.pop_if(|byte| *byte == b'\r');
+    let no_text = |error| std::io::Error::new(std::io::ErrorKind::InvalidData, error);
+    String::from_utf8(line).map(Some).map_err(no_text)
+}
+
+/// The clock of the last whole line of a record list, if it has one.
+fn last_recorded(path: &Path) -> Option<u64> {
+    const LINES: u64 = 256; // bytes that hold more than two lines
+    let mut file = File::open(path).ok()?;
+    let length = file.metadata().ok()?.len();
+    file.seek(SeekFrom::Start(length.saturating_sub(LINES))).ok()?;
+    let mut end = Vec::new();
+    file.take(LINES).read_to_end(&mut end).ok()?;
+    let whole = end.iter().rposition(|byte| *byte == b'\n')?;
+    let line = end[..whole].rsplit(|byte| *byte == b'\n').next()?;
+    record(std::str::from_utf8(line).ok()?, &mut 0).ok().map(|record| record.clock)
 }
 
 /// A record as a line has it, behind one of an earlier clock.
@@ -175,8 +205,12 @@ mod tests {
     }
 
     fn summary() -> Json {
+        summary_of(100, false)
+    }
+
+    fn summary_of(last_clock: u32, partial: bool) -> Json {
         let options = Json::object([("clock", 1_000_000u32.into())]);
-        Json::object([("options", options), ("last_clock", 100u32.into()), ("partial", false.into())])
+        Json::object([("options", options), ("last_clock", last_clock.into()), ("partial", partial.into())])
     }
 
     #[test]
@@ -194,6 +228,35 @@ mod tests {
         let records: Vec<Record> = read.records().unwrap().map(Result::unwrap).collect();
         assert_eq!(records, [Record { clock: 10, word: 0xFFFF_FF55 }, Record { clock: 7_200_000_000, word: 0xDD }]);
         assert_eq!(read.inputs().unwrap().map(Result::unwrap).collect::<Vec<_>>(), [input]);
+        std::fs::remove_dir_all(folder).unwrap();
+    }
+
+    #[test]
+    fn a_half_written_line_is_left_out_where_the_run_is_not_complete() {
+        let folder = scratch("half");
+        std::fs::create_dir_all(&folder).unwrap();
+        let read = |records: &str, inputs: &str, partial: bool| {
+            std::fs::write(folder.join(RECORDS), format!("clock,word\n{records}")).unwrap();
+            std::fs::write(folder.join(INPUTS), format!("clock,pin,level\n{inputs}")).unwrap();
+            std::fs::write(folder.join(SUMMARY), summary_of(0, partial).to_string()).unwrap();
+            let folder = Folder::open(folder.to_str().unwrap()).unwrap();
+            let records = folder.records().unwrap().map(|record| record.map(|record| record.clock));
+            let inputs = folder.inputs().unwrap().map(|input| input.map(|input| input.clock));
+            let (records, inputs) = (records.collect::<Result<Vec<_>, _>>(), inputs.collect::<Result<Vec<_>, _>>());
+            (records.ok(), inputs.ok(), folder.last_clock)
+        };
+        let (records, inputs) = ("10,FFFFFF55\n200,FFFFFFFF\n", "1,RES,1\n5,PB0,0\n");
+        assert_eq!(read(records, inputs, true), (Some(vec![10, 200]), Some(vec![1, 5]), 200));
+        assert_eq!(read(records, inputs, false), (Some(vec![10, 200]), Some(vec![1, 5]), 0));
+        for cut in 13..records.len() {
+            assert_eq!(read(&records[..cut], "1,RES,1\n5,P", true), (Some(vec![10]), Some(vec![1]), 10), "{cut}");
+        }
+        assert_eq!(read("10", "1", true), (Some(vec![]), Some(vec![]), 0));
+        assert_eq!(read("", "", true), (Some(vec![]), Some(vec![]), 0));
+        assert_eq!(read("10,FFFFFF55\n200,", "1,RES,1\n5,P", false), (None, None, 0));
+        // A whole file may lack its last line's end; a damaged line is refused wherever it has one.
+        assert_eq!(read("10,FFFFFF55", "1,RES,1", false), (Some(vec![10]), Some(vec![1]), 0));
+        assert_eq!(read("10,FFFFFF55\n200,\n", "1,RES,1\n", true), (None, Some(vec![1]), 0));
         std::fs::remove_dir_all(folder).unwrap();
     }
 

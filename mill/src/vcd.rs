@@ -96,7 +96,7 @@ fn mark(place: usize) -> char {
     char::from(b'!' + place as u8)
 }
 
-/// Writes a dump of some pins to a last clock.
+/// Writes a dump of some pins to a last clock, or to the last change where that is behind it.
 pub fn write(
     out: &mut dyn Write,
     pins: &[Pin],
@@ -112,14 +112,16 @@ pub fn write(
     head(out, pins, name, rate, &shown)?;
     let mut changes = Changes { records: records.peekable(), inputs: inputs.peekable() };
     let mut next = changes.next()?;
+    let mut end = last_clock;
     while let Some((clock, _)) = next {
+        end = end.max(clock); // a run that is not complete may have more than is known of it
         while let Some((_, change)) = next.filter(|(other, _)| *other == clock) {
             levels.set(change);
             next = changes.next()?;
         }
         show(out, pins, &levels, &mut shown, time(clock))?;
     }
-    writeln!(out, "#{}", time(last_clock))?;
+    writeln!(out, "#{}", time(end))?;
     Ok(())
 }
 

@@ -34,7 +34,7 @@ fn axis(arguments: &Arguments) -> Result<Axis, Failure> {
 fn opened(name: &str) -> Result<Folder, Failure> {
     let folder = Folder::open(name)?;
     if folder.partial {
-        note(&format!("mill: {name}: partial, the run was cut short"));
+        note(&format!("mill: {name}: partial, the run is not complete"));
     }
     Ok(folder)
 }
