@@ -32,7 +32,8 @@ fn act(arguments: &Arguments) -> Result<Verdict, Failure> {
     let second = Side::read(&arguments.others()[1], axis)?;
     if first.folder.rate != second.folder.rate {
         let rates = [&first, &second].map(|side| grouped(side.folder.rate));
-        return Err(Failure::Usage(format!("the runs have {} and {} clocks a second", rates[0], rates[1])));
+        let words = "runs are compared at one clock rate alone";
+        return Err(Failure::Usage(format!("the runs have {} and {} clocks a second: {words}", rates[0], rates[1])));
     }
     let comparison = compared(&first.steps, &second.steps, clocks);
     print(&report(&first, &second, &comparison))?;
