@@ -146,7 +146,8 @@ fn with_shared(ticking: Ticking, shared: u32, start: u32, succeeded: bool, gone:
 
 // The instructions that start in a span, one after the other, up to the first that is left to the clock's own rules:
 // one that reads a register, writes to one or at the halt address, BRK, an undefined opcode, or a store whose last
-// clock lies behind the span. The match stands in the loop itself, so that the work stays in the host's registers.
+// clock lies behind the span. The match stands in the loop itself, so that the work stays in the host's registers; and
+// the memory's length is looked at before it, so that no access within asks again.
 pub fn run_opcodes(
     start: Work,
     span: Clocks,
@@ -162,9 +163,15 @@ pub fn run_opcodes(
     ensures { λ r. ⌜ WithinSpan (r .work) (span .0) ⌝ }
     ensures { λ _. ⌜ now (sums .exit) ≡ sumsAfter (now (sums .entry)) (now (memory .entry)) (now (memory .exit)) ⌝ }
 {
+    if memory.len() != MEMORY_SPAN {
+        return Ran {
+            work: start,
+            shared: 0,
+        };
+    }
     let mut w = same_work(start);
     let mut shared = 0u32;
-    let mut on = memory.len() == MEMORY_SPAN;
+    let mut on = true;
     while on & ((w.wait as u32) < span.0 - w.gone.0) {
         let pc = w.registers.pc;
         if is_register(pc) | (LAST_WHOLE < pc) {

@@ -19,43 +19,44 @@ use Rattle.cpu_operations.specs.declared.Worked.{Worked}
 use Rattle.cpu.specs.declared.Outcome.{Outcome}
 use Rattle.cpu.specs.declared.Outcome.the-variants as outcome
 use Rattle.cpu.specs.declared.quiet.Work.{Work}
-use Rattle.cpu.specs.Instruction.{instructionOf}
 use Rattle.cpu.specs.Quiet.{WithinSpan}
 use Rattle.leaps.specs.Leaps.{run, no-leap}
 use Rattle.leaps.proofs.Laws.{by-leaps-run}
+use Rattle.r6501q_state.specs.declared.state.State.{State}
 use Rattle.r6501q_clock.specs.declared.Clocked.the-variants.{Done}
 use Rattle.r6501q_clock.specs.Commit.{putWrite, committed}
 use Rattle.r6501q_step.specs.R6501q.{chip}
 use Rattle.r6501q_step.specs.World.{worldOf}
 use Rattle.r6501q_spans.specs.Spans.{noneWaiting, writesRegister, endsSpan, continuedBy, committedBy, workBy, memoryBy}
-use Rattle.r6501q_spans.specs.Spans.{workAfter, memoryAfter, putWork, putsWithin, workPut, memoryPut}
+use Rattle.r6501q_spans.specs.Spans.{outcomeWithin, nextWorking, workAfter, memoryAfter, putWork, putsWithin, workPut}
+use Rattle.r6501q_spans.specs.Spans.{memoryPut}
 use Rattle.r6501q_spans.specs.declared.Working.{Working}
 use Rattle.r6501q_spans.proofs.Ends.{ends-not}
-use Rattle.r6501q_spans.proofs.Ticked.{nextWorking, byteWaiting}
+use Rattle.r6501q_spans.proofs.Ticked.{byteWaiting}
 use Rattle.r6501q_run.specs.declared.Leaped.{Leaped}
 use Rattle.r6501q_run.specs.Leap.{runFrom, Leaping}
 use Rattle.r6501q_run.specs.Spanned.{Spanned}
 use Rattle.r6501q_run.proofs.Laws.{lawful}
 
 -- the next instruction is a leap, or nothing happens
-pub work-either : (halt : Halt) (span : ℕ) (w : Work) (memory : List ℕ) (P : Working → List ℕ → Type 0)
+pub work-either : (halt : Halt) (s : State) (span : ℕ) (w : Work) (memory : List ℕ) (P : Working → List ℕ → Type 0)
     → w .gone .0 ≤ span → P (noneWaiting w) memory
-    → ((worked : Worked) → w .gone .0 + w .wait < span → instructionOf (w .registers) [] memory ≡ outcome.Done worked
+    → ((worked : Worked) → w .gone .0 + w .wait < span → outcomeWithin s (w .registers) memory ≡ outcome.Done worked
     → endsSpan halt (pushesOf (worked .written)) ≡ false
     → P (nextWorking w worked) (committed memory (pushesOf (worked .written))))
-    → P (workAfter halt span w memory) (memoryAfter halt span w memory)
+    → P (workAfter halt s span w memory) (memoryAfter halt s span w memory)
 unfolding workAfter memoryAfter continuedBy committedBy
-work-either halt span w memory P room none next = by-test (leb (span - w .gone .0) (w .wait)) refl
+work-either halt s span w memory P room none next = by-test (leb (span - w .gone .0) (w .wait)) refl
   where
     by-writes : (worked : Worked) → w .gone .0 + w .wait < span
-        → instructionOf (w .registers) [] memory ≡ outcome.Done worked → (t : Bool)
+        → outcomeWithin s (w .registers) memory ≡ outcome.Done worked → (t : Bool)
         → endsSpan halt (pushesOf (worked .written)) ≡ t
         → P (cond t (noneWaiting w) (nextWorking w worked))
         (cond t memory (committed memory (pushesOf (worked .written))))
     by-writes worked inside e true q = none
     by-writes worked inside e false q = next worked inside e q
 
-    by-outcome : (o : Outcome) → w .gone .0 + w .wait < span → instructionOf (w .registers) [] memory ≡ o
+    by-outcome : (o : Outcome) → w .gone .0 + w .wait < span → outcomeWithin s (w .registers) memory ≡ o
         → P (workBy halt w o) (memoryBy halt memory o)
     by-outcome (outcome.Stopped number) inside e = none
     by-outcome (outcome.Asked ask) inside e = none
@@ -63,11 +64,11 @@ work-either halt span w memory P room none next = by-test (leb (span - w .gone .
         by-writes worked inside e (endsSpan halt (pushesOf (worked .written))) refl
 
     by-test : (t : Bool) → leb (span - w .gone .0) (w .wait) ≡ t
-        → P (cond t (noneWaiting w) (workBy halt w (instructionOf (w .registers) [] memory)))
-        (cond t memory (memoryBy halt memory (instructionOf (w .registers) [] memory)))
+        → P (cond t (noneWaiting w) (workBy halt w (outcomeWithin s (w .registers) memory)))
+        (cond t memory (memoryBy halt memory (outcomeWithin s (w .registers) memory)))
     by-test true q = none
     by-test false q =
-        by-outcome (instructionOf (w .registers) [] memory)
+        by-outcome (outcomeWithin s (w .registers) memory)
         (omega (arith, leb-false (span - w .gone .0) (w .wait) q, room)) refl
 
 -- the byte that waits is put by a leap, or nothing happens
@@ -96,10 +97,10 @@ put-either halt span w x memory P room none put = by-test (putsWithin halt span 
     by-test false q = none
 
 -- what is gone stays within the span, and each leap takes a clock at least
-pub room-after : (halt : Halt) (span : ℕ) (w : Work) (memory : List ℕ) → WithinSpan w span
-    → WithinSpan (workAfter halt span w memory .work) span
-room-after halt span w memory room =
-    work-either halt span w memory (λ (v : Working) (memory' : List ℕ). WithinSpan (v .work) span) (room .gone) room
+pub room-after : (halt : Halt) (s : State) (span : ℕ) (w : Work) (memory : List ℕ) → WithinSpan w span
+    → WithinSpan (workAfter halt s span w memory .work) span
+room-after halt s span w memory room =
+    work-either halt s span w memory (λ (v : Working) (memory' : List ℕ). WithinSpan (v .work) span) (room .gone) room
     (λ worked inside e q. record { gone = omega arith; leaps = omega (arith, room .leaps) })
 
 pub room-put : (halt : Halt) (span : ℕ) (w : Work) (x : Write) → WithinSpan w span

@@ -40,12 +40,14 @@ use Rattle.r6501q_unseen.proofs.Laws.{ticks-one, first-tick, ticks-most}
 use Rattle.r6501q_step.specs.declared.Progress.{Progress}
 use Rattle.r6501q_step.specs.R6501q.{World, r6501q, chip}
 use Rattle.r6501q_step.specs.World.{worldOf}
-use Rattle.r6501q_spans.specs.Spans.{beginWork, noneWaiting, endsSpan, workAfter, memoryAfter, putWork, workPut}
+use Rattle.r6501q_spans.specs.Spans.{beginWork, noneWaiting, outcomeWithin, nextWorking, endsSpan, workAfter}
+use Rattle.r6501q_spans.specs.Spans.{memoryAfter, putWork, workPut}
 use Rattle.r6501q_spans.specs.Spans.{memoryPut, WorkedOn}
 use Rattle.r6501q_spans.specs.Ticked.{AloneSeen, tickedState}
 use Rattle.r6501q_spans.specs.declared.Working.{Working}
 use Rattle.r6501q_spans.proofs.Ends.{ends-neither}
-use Rattle.r6501q_spans.proofs.Ticked.{waited, nextWorking, byteWaiting, ticked-left-b, ticked-due, ticked-clock}
+use Rattle.r6501q_spans.proofs.Steady.{within-done}
+use Rattle.r6501q_spans.proofs.Ticked.{waited, byteWaiting, ticked-left-b, ticked-due, ticked-clock}
 use Rattle.r6501q_spans.proofs.Ticked.{ticked-waits, tick-gap, cpu-gap, ticked-passed, ticked-none, until-start}
 use Rattle.r6501q_spans.proofs.Ticked.{instruction-there, until-put, byte-there}
 use Rattle.r6501q_run.specs.declared.Leaped.{Leaped}
@@ -308,7 +310,7 @@ module _ (halt : Halt) (at : Leaped) (clocks : List ℕ) (span : ℕ) (on : at .
   -- by an instruction
   pub leapt-next : (w : Work) (shared : ℕ) (memory₀ memory : List ℕ) → LeaptTo memory₀ (noneWaiting w) shared memory
       → (worked : Worked) → w .gone .0 + w .wait < span
-      → instructionOf (w .registers) [] memory ≡ outcome.Done worked
+      → outcomeWithin s (w .registers) memory ≡ outcome.Done worked
       → endsSpan halt (pushesOf (worked .written)) ≡ false
       → LeaptTo memory₀ (nextWorking w worked)
       (shared + digit (ticksNext (s .last .ports) (workedFor (w .gone .0 + w .wait) (s .last .ports) (s .peripherals))))
@@ -364,7 +366,8 @@ module _ (halt : Halt) (at : Leaped) (clocks : List ℕ) (span : ℕ) (on : at .
         → LeaptTo memory₀ (noneWaiting (nextWork w worked)) (shared + digit (onTick ticking (w .gone .0 + w .wait + 1)))
         (committed memory (pushesOf (worked .written)))
     leapt-pushing w shared memory₀ memory so-far worked inside e none q =
-        rw (none, ticks (w .gone .0 + w .wait) inside) at (leapt-next w shared memory₀ memory so-far worked inside e q)
+        rw (none, ticks (w .gone .0 + w .wait) inside) at
+        (leapt-next w shared memory₀ memory so-far worked inside (within-done s (w .registers) memory worked e) q)
 
     -- the byte that waits
     pub leapt-putting : (w : Work) (x : Write) (shared : ℕ) (memory₀ memory : List ℕ)
@@ -393,7 +396,8 @@ module _ (halt : Halt) (at : Leaped) (clocks : List ℕ) (span : ℕ) (on : at .
         let pushes : pushesOf (worked .written) ≡ noWrites = rw z in
         let waits : waitingOf (worked .written) ≡ waiting.Byte x = rw z in
         let begun =
-        leapt-next w shared memory₀ memory so-far worked (omega arith) e (rw pushes (no-end halt Nothing refl)) in
+        leapt-next w shared memory₀ memory so-far worked (omega arith) (within-done s (w .registers) memory worked e)
+        (rw pushes (no-end halt Nothing refl)) in
         leapt-putting (nextWork w worked) x (shared + digit (onTick ticking (start + 1))) memory₀ memory
         (rw (pushes, waits, same-memory memory Nothing refl, ticks start (omega arith)) at begun) (omega arith)
         (omega arith) q
@@ -429,11 +433,11 @@ module _ (halt : Halt) (at : Leaped) (clocks : List ℕ) (span : ℕ) (on : at .
     -- the next step of the CPU, whatever it comes to
     pub leapt-worked : (w : Work) (shared : ℕ) (memory₀ memory : List ℕ) → w .gone .0 ≤ span
         → LeaptTo memory₀ (noneWaiting w) shared memory
-        → LeaptTo memory₀ (workAfter halt span w memory)
-        (shared + sharedIn ticking (noneWaiting w) (workAfter halt span w memory))
-        (memoryAfter halt span w memory)
+        → LeaptTo memory₀ (workAfter halt s span w memory)
+        (shared + sharedIn ticking (noneWaiting w) (workAfter halt s span w memory))
+        (memoryAfter halt s span w memory)
     leapt-worked w shared memory₀ memory room so-far =
-        work-either halt span w memory
+        work-either halt s span w memory
         (λ (v : Working) (memory' : List ℕ). LeaptTo memory₀ v (shared + sharedIn ticking (noneWaiting w) v) memory')
         room
         (rw (shares-none ticking (noneWaiting w) (noneWaiting w) (omega arith), add-zero shared) so-far)
@@ -468,10 +472,10 @@ begin-same at n clocks span a =
     rw (a .status, add-zero (at .progress .state .clock), all, add-zero (at .leaps))
 
 -- no step goes back
-goes-after : (halt : Halt) (span : ℕ) (w : Work) (memory : List ℕ) → w .gone .0 ≤ span
-    → w .gone .0 ≤ workAfter halt span w memory .work .gone .0
-goes-after halt span w memory room =
-    work-either halt span w memory (λ (v : Working) (memory' : List ℕ). w .gone .0 ≤ v .work .gone .0) room
+goes-after : (halt : Halt) (s : State) (span : ℕ) (w : Work) (memory : List ℕ) → w .gone .0 ≤ span
+    → w .gone .0 ≤ workAfter halt s span w memory .work .gone .0
+goes-after halt s span w memory room =
+    work-either halt s span w memory (λ (v : Working) (memory' : List ℕ). w .gone .0 ≤ v .work .gone .0) room
     (omega arith)
     (λ worked inside e q. omega arith)
 
@@ -522,6 +526,9 @@ pub record Within (halt : Halt) (at : Leaped) (clocks : List ℕ) (span : ℕ) (
   pub kept : length memory ≡ length memory₀
 
 module _ (halt : Halt) (at : Leaped) (clocks : List ℕ) (span : ℕ) (memory₀ : List ℕ) where
+  abbrev start : State
+  start = at .progress .state
+
   abbrev ports : ℕ
   ports = at .progress .state .last .ports
 
@@ -552,7 +559,8 @@ module _ (halt : Halt) (at : Leaped) (clocks : List ℕ) (span : ℕ) (memory₀
       (ticks : (g : ℕ) → g < span → ticksNext ports (workedFor g ports here) ≡ onTick t (g + 1)) where
     within-after : (memory memory' : List ℕ) (w : Work) (shared : ℕ) (v : Working)
         → Within halt at clocks span memory₀ memory (noneWaiting w) shared
-        → v ≡ workAfter halt span w memory → memory' ≡ memoryAfter halt span w memory → length memory' ≡ length memory
+        → v ≡ workAfter halt start span w memory → memory' ≡ memoryAfter halt start span w memory → length memory'
+        ≡ length memory
         → Within halt at clocks span memory₀ memory' v (shared + sharedIn t (noneWaiting w) v)
     within-after memory memory' w shared v i e m k =
         let b = i .begun in
@@ -562,12 +570,12 @@ module _ (halt : Halt) (at : Leaped) (clocks : List ℕ) (span : ℕ) (memory₀
               rw (e, m)
               (leapt-worked halt at clocks span (b .on) (b .alone) t ticks w shared memory₀ memory (i .room .gone)
               (i .leapt));
-          room = rw e (room-after halt span w memory (i .room));
+          room = rw e (room-after halt start span w memory (i .room));
           shares =
               omega (
                 arith,
                 i .shares,
-                shares-most t (noneWaiting w) v (rw e (goes-after halt span w memory (i .room .gone))),
+                shares-most t (noneWaiting w) v (rw e (goes-after halt start span w memory (i .room .gone))),
               );
           kept = k ∙ i .kept;
         }
@@ -596,7 +604,7 @@ module _ (halt : Halt) (at : Leaped) (clocks : List ℕ) (span : ℕ) (memory₀
 
     within-on : (memory memory' : List ℕ) (w : Work) (waits : Waiting) (shared : ℕ) (v : Working)
         → Within halt at clocks span memory₀ memory (record { work = w; waiting = waits }) shared
-        → WorkedOn halt span w waits memory v memory' → length memory' ≡ length memory
+        → WorkedOn halt start span w waits memory v memory' → length memory' ≡ length memory
         → Within halt at clocks span memory₀ memory' v (shared + sharedIn t (record { work = w; waiting = waits }) v)
     within-on memory memory' w waiting.Nothing shared v i o k = within-after memory memory' w shared v i (o .0) (o .1) k
     within-on memory memory' w (waiting.Byte x) shared v i o k =
@@ -604,7 +612,7 @@ module _ (halt : Halt) (at : Leaped) (clocks : List ℕ) (span : ℕ) (memory₀
 
     pub within-goes : (memory memory' : List ℕ) (u v : Working) (shared : ℕ)
         → Within halt at clocks span memory₀ memory u shared
-        → WorkedOn halt span (u .work) (u .waiting) memory v memory' → length memory' ≡ length memory
+        → WorkedOn halt start span (u .work) (u .waiting) memory v memory' → length memory' ≡ length memory
         → Within halt at clocks span memory₀ memory' v (shared + sharedIn t u v)
     within-goes memory memory' u v shared i o k = within-on memory memory' (u .work) (u .waiting) shared v i o k
 
@@ -629,7 +637,7 @@ module _ (halt : Halt) (at : Leaped) (clocks : List ℕ) (span : ℕ) (memory₀
     within-ran memory memory' w (waiting.Byte x) shared r i o room k = rw (o .0, o .1, add-zero shared) i
 
     pub within-steps : (memory memory' : List ℕ) (v : Working) (shared : ℕ) (r : Stepped)
-        → Within halt at clocks span memory₀ memory v shared → StepsOn halt span t v memory r memory'
+        → Within halt at clocks span memory₀ memory v shared → StepsOn halt start span t v memory r memory'
         → Within halt at clocks span memory₀ memory' (r .working) (shared + r .shared)
     within-steps memory memory' v shared r i o =
         let ran =

@@ -8,6 +8,7 @@ use lib.ListN.{drop, length}
 use Rattle.bits.specs.Bits.{digit}
 use Rattle.cpu_access.specs.declared.halt.Halt.{Halt}
 use Rattle.cpu.specs.Quiet.{WithinSpan}
+use Rattle.r6501q_state.specs.declared.state.State.{State}
 use Rattle.r6501q_gaps.specs.Gaps.{clocksOf}
 use Rattle.r6501q_unseen.specs.declared.Ticking.{Ticking}
 use Rattle.r6501q_unseen.specs.Unseen.{ticksIn, Unseen, onTick}
@@ -57,14 +58,14 @@ pub record Ending (at : Leaped) (v : Working) (shared : ℕ) : Type 0 where
   pub fewer : shared ≤ leapsTo at v
   pub leaps : at .leaps + (leapsTo at v - shared) ≤ 4294967295
 
--- the leaps of a span further on from `v`: instructions by their opcodes (`middle`, `between`), then one more step of
--- the CPU, with how many of the clocks that it acted on had a tick too
-pub record StepsOn (halt : Halt) (span : ℕ) (t : Ticking) (v : Working) (memory : List ℕ) (r : Stepped)
+-- the leaps of a span that began with the state s, further on from `v`: instructions by their opcodes (`middle`,
+-- `between`), then one more step of the CPU, with how many of the clocks that it acted on had a tick too
+pub record StepsOn (halt : Halt) (s : State) (span : ℕ) (t : Ticking) (v : Working) (memory : List ℕ) (r : Stepped)
     (memory' : List ℕ) : Type 0 where
   pub middle : RanOn
   pub between : List ℕ
   pub ran : RunsOn halt span t (v .work) (v .waiting) memory middle between
-  pub step : WorkedOn halt span (middle .working .work) (middle .working .waiting) between (r .working) memory'
+  pub step : WorkedOn halt s span (middle .working .work) (middle .working .waiting) between (r .working) memory'
   pub shared : r .shared ≡ middle .shared + sharedIn t (middle .working) (r .working)
   pub room : WithinSpan (middle .working .work) span
   pub fewer : middle .shared ≤ middle .working .work .gone .0

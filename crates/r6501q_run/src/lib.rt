@@ -206,7 +206,9 @@ fn shared_in(ticking: Ticking, v: Working, next: Working) -> u32
 }
 
 // The leaps of a span further on: instructions by their opcodes, as many as there are, then one more step of the CPU.
+// The span began with the state s.
 fn steps_on(
+    s: State,
     v: Working,
     span: Clocks,
     ticking: Ticking,
@@ -218,12 +220,12 @@ fn steps_on(
     requires { ⌜ WithinSpan (v .work) (span .0) ⌝ }
     requires { ⌜ (span .0 ≤ 2147483647) × (0 < ticking .period) ⌝ }
     requires { ⌜ now entries ≡ opcodeTable ⌝ }
-    ensures { λ r. ⌜ StepsOn halt (span .0) ticking v (now (memory .entry)) r (now (memory .exit)) ⌝ }
+    ensures { λ r. ⌜ StepsOn halt s (span .0) ticking v (now (memory .entry)) r (now (memory .exit)) ⌝ }
     ensures { λ _. ⌜ now (sums .exit) ≡ sumsAfter (now (sums .entry)) (now (memory .entry)) (now (memory .exit)) ⌝ }
 {
     let ran = run_working(v, span, ticking, memory, sums, halt);
     let between = ran.working;
-    let next = work_once(between, span, memory, sums, entries, halt);
+    let next = work_once(s, between, span, memory, sums, entries, halt);
     Stepped {
         working: next,
         shared: ran.shared + shared_in(ticking, between, next),
@@ -274,7 +276,7 @@ fn leap_within(
     let mut shared = 0u32;
     let mut on = true;
     while on {
-        let stepped = steps_on(v, span, ticking, memory, sums, entries, halt);
+        let stepped = steps_on(before, v, span, ticking, memory, sums, entries, halt);
         let next = stepped.working;
         on = v.work.gone.0 < next.work.gone.0;
         shared = shared + stepped.shared;

@@ -1,16 +1,21 @@
 -- Which clock ends a span: one that writes a register or the halt address.
 use mathlib.Core.Path.{_≡_, refl, sym, ap, _∙_}
 use mathlib.Core.Bool.{Bool, true, false, _&&_, _||_, not, false≢true}
+use mathlib.Core.List.{List}
 use Prim.Native.Nat.{ℕ, _-_}
 use lib.Dec.{ltb, leb}
 use Rattle.bits.proofs.Cond.{and-both}
 use Rattle.cpu_access.specs.declared.stack.Write.{Write}
-use Rattle.cpu_access.specs.Stack.{oneWrite}
+use Rattle.cpu_access.specs.Stack.{noWrites, oneWrite}
+use Rattle.cpu_access.proofs.Told.{unwritten}
+use Rattle.cpu_operations.specs.declared.Worked.{Worked}
+use Rattle.cpu_operations.specs.Effects.{pushesOf}
 use Rattle.cpu.specs.declared.quiet.Work.{Work}
 use Rattle.cpu_access.specs.declared.stack.Writes.{Writes}
 use Rattle.cpu_access.specs.declared.halt.Halt.{Halt}
 use Rattle.cpu_access.specs.Halt.{halts}
-use Rattle.r6501q_spans.specs.Spans.{writesRegister, endsSpan, putsWithin}
+use Rattle.r6501q_clock.specs.Commit.{putWrite, committed}
+use Rattle.r6501q_spans.specs.Spans.{writesRegister, endsSpan, nextWorking, continuedBy, committedBy, putsWithin}
 
 pub either-false : (p q : Bool) → (p || q) ≡ false → (p ≡ false) × (q ≡ false)
 either-false true q e = absurd (false≢true (sym e))
@@ -30,6 +35,17 @@ pub ends-neither : (halt : Halt) (w : Writes) → endsSpan halt w ≡ false
     → (writesRegister w ≡ false) × (halts halt w ≡ false)
 unfolding endsSpan
 ends-neither halt w e = either-false (writesRegister w) (halts halt w) e
+
+-- an instruction that pushes nothing goes on, and leaves memory as it is
+no-writes-end : (halt : Halt) → endsSpan halt noWrites ≡ false
+unfolding writesRegister
+no-writes-end halt = ends-not halt noWrites refl (unwritten halt noWrites refl)
+
+pub nothing-pushed : (halt : Halt) (w : Work) (memory : List ℕ) (worked : Worked) → pushesOf (worked .written)
+    ≡ noWrites
+    → (continuedBy halt w worked ≡ nextWorking w worked) × (committedBy halt memory worked ≡ memory)
+unfolding continuedBy committedBy committed putWrite
+nothing-pushed halt w memory worked e = (rw (e, no-writes-end halt) refl, rw (e, no-writes-end halt) refl)
 
 -- a byte is put within the span, or it is not
 module _ (halt : Halt) (span : ℕ) (w : Work) (x : Write) where

@@ -1,2 +1,4 @@
 pub mod Ends
+pub mod Steady
+pub mod Known
 pub mod Ticked

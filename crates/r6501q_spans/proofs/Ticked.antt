@@ -26,15 +26,19 @@ use Rattle.cpu_access.specs.Accesses.{peripheralsWritten}
 use Rattle.memory.specs.Memory.{isRegister}
 use Rattle.cpu_operations.specs.declared.Worked.{Worked}
 use Rattle.cpu_operations.specs.Effects.{pushesOf, waitingOf}
+use Rattle.cpu.specs.declared.Ask.{Ask}
+use Rattle.cpu.specs.declared.Outcome.{Outcome}
 use Rattle.cpu.specs.declared.Outcome.the-variants as outcome
 use Rattle.cpu.specs.declared.quiet.Work.{Work}
 use Rattle.cpu.specs.Instruction.{instructionOf}
 use Rattle.cpu.specs.Quiet.{nextWork}
+use Rattle.cpu.specs.Sequence.{undefinedStop}
+use Rattle.r6501q_cpu.specs.declared.Processed.{Processed}
 use Rattle.r6501q_cpu.specs.declared.Processed.the-variants as processed
-use Rattle.r6501q_cpu.specs.declared.Turn.the-variants.{Over}
+use Rattle.r6501q_cpu.specs.declared.Turn.the-variants.{Over, Answered}
 use Rattle.r6501q_cpu.specs.Processor.{irqDue, bytePut, processorOf}
-use Rattle.r6501q_cpu.specs.Asking.{putRegister, registersAfter, turnOf, answeredInstruction}
-use Rattle.r6501q_cpu.proofs.Asks.{turn-over}
+use Rattle.r6501q_cpu.specs.Asking.{putRegister, registersAfter, turnOf, instructionFrom, answeredInstruction}
+use Rattle.r6501q_cpu.proofs.Asks.{turn-over, turn-answered}
 use Rattle.r6501q_cpu.proofs.Answered.{instruction-answered}
 use Rattle.r6501q_cpu.proofs.Ranges.{never-both}
 use Rattle.r6501q_cpu.proofs.Stores.{clock-waits, waited-less, instruction-starts, byte-put}
@@ -51,9 +55,11 @@ use Rattle.r6501q_unseen.specs.Unseen.{workedFor, ticksIn, SameSeen, Unseen}
 use Rattle.r6501q_unseen.proofs.TickClocks.{worked-add}
 use Rattle.r6501q_unseen.proofs.Laws.{worked-one, none-ticks, unseen-left-b, worked-passes}
 use Rattle.r6501q_spans.specs.declared.Working.{Working}
-use Rattle.r6501q_spans.specs.Spans.{onlyCpu, noneWaiting, writesRegister, putWork}
+use Rattle.r6501q_spans.specs.Spans.{onlyCpu, noneWaiting, writesRegister, putWork, steadyAsk, steadyAnswer}
+use Rattle.r6501q_spans.specs.Spans.{answeredOnce, outcomeWithin, nextWorking}
 use Rattle.r6501q_spans.specs.Ticked.{AloneSeen, tickedState}
 use Rattle.r6501q_spans.proofs.Ends.{either-false}
+use Rattle.r6501q_spans.proofs.Steady.{isDone, steady-answer}
 
 -- ---- no write at a register's address
 
@@ -287,40 +293,75 @@ module _ (n : ℕ) (s : State) (clocks : List ℕ) (span : ℕ) (a : AloneSeen n
 
 -- ---- an instruction starts
 
--- what it comes to
-abbrev pub nextWorking : Work → Worked → Working
-nextWorking w worked = record { work = nextWork w worked; waiting = waitingOf (worked .written) }
-
 pub until-start : (s : State) (w : Work) → untilCpu (tickedState s (noneWaiting w) .cpu) ≡ w .wait
 unfolding untilCpu byteWaits
 until-start s w = omega arith
 
 module _ (n : ℕ) (s : State) (clocks : List ℕ) (span : ℕ) (a : AloneSeen n s clocks span) (w : Work)
     (inside : w .gone .0 + w .wait < span)
-    (memory : List ℕ) (worked : Worked) (done : instructionOf (w .registers) [] memory ≡ outcome.Done worked)
+    (memory : List ℕ) (worked : Worked) (done : outcomeWithin s (w .registers) memory ≡ outcome.Done worked)
     (inMemory : writesRegister (pushesOf (worked .written)) ≡ false) where
   abbrev begun : State
   begun = tickedState s (counted (waited (noneWaiting w) (w .wait)))
 
-  turn-there : turnOf begun (begun .peripherals) [] memory
-      ≡ Over
-      (processed.Done (record { state = tickedState s (nextWorking w worked); writes = pushesOf (worked .written) }))
+  abbrev next : Processed
+  next =
+      processed.Done (record { state = tickedState s (nextWorking w worked); writes = pushesOf (worked .written) })
+
+  -- the turn that ends it
+  turn-there : (answers : List ℕ) → instructionOf (w .registers) answers memory ≡ outcome.Done worked
+      → turnOf begun (begun .peripherals) answers memory ≡ Over next
   unfolding turnOf
-  turn-there =
+  turn-there answers e =
       rw (
         unpacked-packed (w .registers .status),
-        done,
+        e,
         no-registers (begun .peripherals) (pushesOf (worked .written)) inMemory,
       )
 
+  -- a turn that asks for a register whose value stays
+  asks-there : (ask : Ask) → instructionOf (w .registers) [] memory ≡ outcome.Asked ask → steadyAsk ask ≡ true
+      → turnOf begun (begun .peripherals) [] memory
+      ≡ Answered (record { value = steadyAnswer s ask; peripherals = begun .peripherals })
+  unfolding turnOf
+  asks-there ask e t =
+      let seen = a .unseen .same (w .gone .0 + w .wait + 1) (omega arith) in
+      rw (
+        unpacked-packed (w .registers .status),
+        e,
+        steady-answer (s .peripherals) (begun .peripherals) seen (s .last .ports) ask t,
+      )
+
+  ends-there : answeredInstruction begun memory ≡ next
+  unfolding answeredInstruction outcomeWithin
+  ends-there = by-outcome (instructionOf (w .registers) [] memory) refl done
+    where
+      by-ask : (ask : Ask) → instructionOf (w .registers) [] memory ≡ outcome.Asked ask → (t : Bool)
+          → steadyAsk ask ≡ t
+          → cond t (instructionOf (w .registers) (steadyAnswer s ask ∷ []) memory) (outcome.Asked ask)
+          ≡ outcome.Done worked
+          → instructionFrom (processed.Stopped undefinedStop) 6 begun (begun .peripherals) [] memory ≡ next
+      by-ask ask e true t d =
+          turn-answered _ begun (begun .peripherals) [] memory 6 5 _ refl (asks-there ask e t)
+          ∙ turn-over _ begun (begun .peripherals) (steadyAnswer s ask ∷ []) memory 5 _ (omega arith)
+          (turn-there (steadyAnswer s ask ∷ []) d)
+      by-ask ask e false t d = absurd (false≢true (ap isDone d))
+
+      by-outcome : (o : Outcome) → instructionOf (w .registers) [] memory ≡ o
+          → answeredOnce s (w .registers) memory o ≡ outcome.Done worked
+          → instructionFrom (processed.Stopped undefinedStop) 6 begun (begun .peripherals) [] memory ≡ next
+      by-outcome (outcome.Stopped number) e d = absurd (false≢true (ap isDone d))
+      by-outcome (outcome.Asked ask) e d = by-ask ask e (steadyAsk ask) refl d
+      by-outcome (outcome.Done x) e d =
+          turn-over _ begun (begun .peripherals) [] memory 6 _ (omega arith) (turn-there [] (e ∙ d))
+
   pub instruction-there : processorOf (tickedState s (counted (waited (noneWaiting w) (w .wait)))) memory
       ≡ processed.Done (record { state = tickedState s (nextWorking w worked); writes = pushesOf (worked .written) })
-  unfolding answeredInstruction
   instruction-there =
       let irq = ticked-irq n s clocks span a (counted (waited (noneWaiting w) (w .wait))) (omega arith) in
       instruction-starts begun memory (a .res) (omega arith) (a .reset) (a .nmi) irq
       ∙ instruction-answered begun memory
-      ∙ turn-over _ begun (begun .peripherals) [] memory 6 _ (omega arith) turn-there
+      ∙ ends-there
 
 -- ---- a byte is put
 

@@ -1,12 +1,15 @@
 -- Spans: clocks in which nothing but the CPU does what can be seen.
 use mathlib.Core.Path.{_≡_}
 use mathlib.Core.Bool.{Bool, false, _&&_, _||_, not, cond}
-use mathlib.Core.List.{List, []}
+use mathlib.Core.List.{List, [], _∷_}
 use Prim.Native.Nat.{ℕ, _+_, _-_}
 use lib.Dec.{ltb, leb, eqb}
 use Rattle.cpu_alu.specs.Status.{packed, unpacked}
 use Rattle.r6501q_state.specs.declared.state.State.{State}
 use Rattle.r6501q_state.specs.Control.{pending}
+use Rattle.r6501q_registers.specs.Addresses.{serialDataAddress, startBAddress}
+use Rattle.r6501q_registers.specs.Read.{registerValue}
+use Rattle.cpu_access.specs.declared.CpuRegisters.{CpuRegisters}
 use Rattle.cpu_access.specs.declared.stack.Write.{Write}
 use Rattle.cpu_access.specs.declared.stack.Writes.{Writes}
 use Rattle.cpu_access.specs.declared.halt.Halt.{Halt}
@@ -17,6 +20,7 @@ use Rattle.cpu_access.specs.Halt.{halts}
 use Rattle.memory.specs.Memory.{isRegister}
 use Rattle.cpu_operations.specs.declared.Worked.{Worked}
 use Rattle.cpu_operations.specs.Effects.{pushesOf, waitingOf}
+use Rattle.cpu.specs.declared.Ask.{Ask}
 use Rattle.cpu.specs.declared.Outcome.{Outcome}
 use Rattle.cpu.specs.declared.Outcome.the-variants.{Stopped, Asked, Done}
 use Rattle.cpu.specs.declared.quiet.Work.{Work}
@@ -53,19 +57,48 @@ writesRegister w =
 unfoldable pub endsSpan : Halt → Writes → Bool
 endsSpan halt w = writesRegister w || halts halt w
 
+-- ---- reads of registers
+
+-- a read of the register has no effect, and what it reads as stays in a span: neither the data received, 17h, nor the
+-- counters, up to 1Eh
+unfoldable pub steadyAt : ℕ → Bool
+steadyAt a = ltb a serialDataAddress || ltb startBAddress a
+
+-- an instruction asks for such a register, and wrote nothing before
+unfoldable pub steadyAsk : Ask → Bool
+steadyAsk ask = eqb (ask .writes .count) 0 && steadyAt (ask .address)
+
+-- what it reads as since the span's start
+abbrev pub steadyAnswer : State → Ask → ℕ
+steadyAnswer s ask = registerValue (s .peripherals) (s .last .ports) (ask .latch) (ask .address)
+
+-- one such question is answered
+abbrev pub answeredOnce : State → CpuRegisters → List ℕ → Outcome → Outcome
+answeredOnce s r memory (Stopped number) = Stopped number
+answeredOnce s r memory (Asked ask) =
+    cond (steadyAsk ask) (instructionOf r (steadyAnswer s ask ∷ []) memory) (Asked ask)
+answeredOnce s r memory (Done worked) = Done worked
+
+-- what the next instruction comes to in a span that began with the state s
+unfoldable pub outcomeWithin : State → CpuRegisters → List ℕ → Outcome
+outcomeWithin s r memory = answeredOnce s r memory (instructionOf r [] memory)
+
 -- ---- no byte waits: instructions
+
+-- an instruction that was worked out
+abbrev pub nextWorking : Work → Worked → Working
+nextWorking w worked = record { work = nextWork w worked; waiting = waitingOf (worked .written) }
 
 -- a store only begins to wait here, whatever its address
 unfoldable pub continuedBy : Halt → Work → Worked → Working
 continuedBy halt w worked =
-    cond (endsSpan halt (pushesOf (worked .written))) (noneWaiting w)
-    (record { work = nextWork w worked; waiting = waitingOf (worked .written) })
+    cond (endsSpan halt (pushesOf (worked .written))) (noneWaiting w) (nextWorking w worked)
 
 unfoldable pub committedBy : Halt → List ℕ → Worked → List ℕ
 committedBy halt memory worked =
     cond (endsSpan halt (pushesOf (worked .written))) memory (committed memory (pushesOf (worked .written)))
 
--- with no answer about a register: an instruction that asks for one, or is undefined, is left to the clock's own rules
+-- an instruction that still asks for a register, or is undefined, is left to the clock's own rules
 abbrev pub workBy : Halt → Work → Outcome → Working
 workBy halt w (Stopped number) = noneWaiting w
 workBy halt w (Asked ask) = noneWaiting w
@@ -77,13 +110,13 @@ memoryBy halt memory (Asked ask) = memory
 memoryBy halt memory (Done worked) = committedBy halt memory worked
 
 -- the next instruction, if it starts within the span
-unfoldable pub workAfter : Halt → ℕ → Work → List ℕ → Working
-workAfter halt span w memory =
-    cond (leb (span - w .gone .0) (w .wait)) (noneWaiting w) (workBy halt w (instructionOf (w .registers) [] memory))
+unfoldable pub workAfter : Halt → State → ℕ → Work → List ℕ → Working
+workAfter halt s span w memory =
+    cond (leb (span - w .gone .0) (w .wait)) (noneWaiting w) (workBy halt w (outcomeWithin s (w .registers) memory))
 
-unfoldable pub memoryAfter : Halt → ℕ → Work → List ℕ → List ℕ
-memoryAfter halt span w memory =
-    cond (leb (span - w .gone .0) (w .wait)) memory (memoryBy halt memory (instructionOf (w .registers) [] memory))
+unfoldable pub memoryAfter : Halt → State → ℕ → Work → List ℕ → List ℕ
+memoryAfter halt s span w memory =
+    cond (leb (span - w .gone .0) (w .wait)) memory (memoryBy halt memory (outcomeWithin s (w .registers) memory))
 
 -- ---- a byte waits: it is put
 
@@ -107,8 +140,8 @@ workPut halt span w x = cond (putsWithin halt span w x) (putWork w) (record { wo
 unfoldable pub memoryPut : Halt → ℕ → Work → Write → List ℕ → List ℕ
 memoryPut halt span w x memory = cond (putsWithin halt span w x) (committed memory (oneWrite x)) memory
 
-abbrev pub WorkedOn : Halt → ℕ → Work → Waiting → List ℕ → Working → List ℕ → Type 0
-WorkedOn halt span w waiting.Nothing memory r memory' =
-    (r ≡ workAfter halt span w memory) × (memory' ≡ memoryAfter halt span w memory)
-WorkedOn halt span w (waiting.Byte x) memory r memory' =
+abbrev pub WorkedOn : Halt → State → ℕ → Work → Waiting → List ℕ → Working → List ℕ → Type 0
+WorkedOn halt s span w waiting.Nothing memory r memory' =
+    (r ≡ workAfter halt s span w memory) × (memory' ≡ memoryAfter halt s span w memory)
+WorkedOn halt s span w (waiting.Byte x) memory r memory' =
     (r ≡ workPut halt span w x) × (memory' ≡ memoryPut halt span w x memory)

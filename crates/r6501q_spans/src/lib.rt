@@ -1,5 +1,8 @@
 // Spans: clocks in which nothing but the CPU does what can be seen. Each instruction that starts in a span is a leap of
 // its own; it is done on a small record, and the rest of the chip is brought up to date once, at the end.
+mod direct; // direct.rt: operands that are registers in the zero page
+mod served; // served.rt: instructions that read a register of the chip
+
 ghost use mathlib.Core.Path.{_≡_};
 ghost use Prim.Native.Nat.{_+_, _≤_, _<_};
 ghost use Rattle.page_sums.specs.PageSums.{sumsAfter};
@@ -8,13 +11,12 @@ ghost use Rattle.cpu.specs.Quiet.{WithinSpan};
 ghost use Rattle.r6501q_unseen.specs.Unseen.{Unseen};
 ghost use Rattle.r6501q_spans.specs.Spans.{onlyCpu, beginWork, noneWaiting, writesRegister, endsSpan};
 ghost use Rattle.r6501q_spans.specs.Spans.{continuedBy, committedBy, workAfter, memoryAfter, putWork, workPut};
-ghost use Rattle.r6501q_spans.specs.Spans.{memoryPut, WorkedOn};
+ghost use Rattle.r6501q_spans.specs.Spans.{memoryPut, WorkedOn, outcomeWithin, workBy, memoryBy, nextWorking};
 ghost use Rattle.r6501q_spans.specs.Ticked.{AloneSeen, tickedState};
 use counters::time::Clocks;
 use cpu::Outcome;
 use cpu::quiet::Work;
 use cpu::quiet::next_work;
-use cpu::quiet::one_outcome;
 use cpu_access::halt::Halt;
 use cpu_access::halt::halts;
 use cpu_access::stack::Write;
@@ -24,6 +26,7 @@ use cpu_access::waiting::Waiting;
 use cpu_operations::Worked;
 use cpu_operations::pushes_of;
 use cpu_operations::waiting_of;
+use direct::known_outcome;
 use memory::is_register;
 use r6501q_clock::commit::commit;
 use r6501q_cpu::cpu_of;
@@ -34,6 +37,7 @@ use r6501q_gaps::nearer;
 use r6501q_state::state::State;
 use r6501q_unseen::unseen_clocks;
 use r6501q_unseen::work_unseen;
+use served::outcome_within;
 
 // The CPU at work in a span, and the byte that waits.
 pub struct Working {
@@ -148,9 +152,49 @@ fn continue_work(
     }
 }
 
-// The next instruction, if it starts within the span, reads no register of the chip, and pushes neither to one nor at
-// the halt address. `entries` is what `cpu_opcodes::opcode_table` gave.
+// The next instruction by the outcome of its accesses one after the other. `entries` is what
+// `cpu_opcodes::opcode_table` gave.
+fn work_outcome(
+    s: State,
+    w: Work,
+    memory: &mut [u8],
+    sums: &mut [u16],
+    entries: &[u16],
+    halt: Halt,
+) -> Working
+    requires { ⌜ (w .gone .0 + w .wait + 1 ≤ 4294967295) × (w .leaps + 1 ≤ 4294967295) ⌝ }
+    requires { ⌜ now entries ≡ opcodeTable ⌝ }
+    ensures { λ r. ⌜ r ≡ workBy halt w (outcomeWithin s (w .registers) (now (memory .entry))) ⌝ }
+    ensures { λ _. ⌜ now (memory .exit)
+        ≡ memoryBy halt (now (memory .entry)) (outcomeWithin s (w .registers) (now (memory .entry))) ⌝ }
+    ensures { λ _. ⌜ now (sums .exit) ≡ sumsAfter (now (sums .entry)) (now (memory .entry)) (now (memory .exit)) ⌝ }
+{
+    let outcome = outcome_within(s, w.registers, memory, entries);
+    match outcome {
+        Outcome::Stopped(_) => none_waiting(w),
+        Outcome::Asked(_) => none_waiting(w),
+        Outcome::Done(worked) => continue_work(w, worked, memory, sums, halt),
+    }
+}
+
+// An instruction that pushes nothing.
+fn begin_next(w: Work, worked: Worked) -> Working
+    requires { ⌜ (w .gone .0 + w .wait + 1 ≤ 4294967295) × (w .leaps + 1 ≤ 4294967295) ⌝ }
+    ensures { λ r. ⌜ r ≡ nextWorking w worked ⌝ }
+{
+    let written = worked.written;
+    let waiting = waiting_of(written);
+    Working {
+        work: next_work(w, worked),
+        waiting: waiting,
+    }
+}
+
+// The next instruction, if it starts within the span, reads one register of the chip at most, whose value stays since
+// the span began with the state s, and pushes neither to one nor at the halt address. `entries` is what
+// `cpu_opcodes::opcode_table` gave.
 fn work_instruction(
+    s: State,
     w: Work,
     span: Clocks,
     memory: &mut [u8],
@@ -160,20 +204,18 @@ fn work_instruction(
 ) -> Working
     requires { ⌜ WithinSpan w (span .0) ⌝ }
     requires { ⌜ now entries ≡ opcodeTable ⌝ }
-    ensures { λ r. ⌜ r ≡ workAfter halt (span .0) w (now (memory .entry)) ⌝ }
-    ensures { λ _. ⌜ now (memory .exit) ≡ memoryAfter halt (span .0) w (now (memory .entry)) ⌝ }
+    ensures { λ r. ⌜ r ≡ workAfter halt s (span .0) w (now (memory .entry)) ⌝ }
+    ensures { λ _. ⌜ now (memory .exit) ≡ memoryAfter halt s (span .0) w (now (memory .entry)) ⌝ }
     ensures { λ _. ⌜ now (sums .exit) ≡ sumsAfter (now (sums .entry)) (now (memory .entry)) (now (memory .exit)) ⌝ }
 {
     if span.0 - w.gone.0 <= w.wait as u32 {
         return none_waiting(w);
     }
-    let answers = [0u8; 0];
-    let outcome = one_outcome(w.registers, &answers, memory, entries);
-    match outcome {
-        Outcome::Stopped(_) => none_waiting(w),
-        Outcome::Asked(_) => none_waiting(w),
-        Outcome::Done(worked) => continue_work(w, worked, memory, sums, halt),
+    let direct = known_outcome(s, w.registers, memory, entries);
+    if direct.known {
+        return begin_next(w, direct.worked);
     }
+    work_outcome(s, w, memory, sums, entries, halt)
 }
 
 // The last clock of a store.
@@ -220,8 +262,9 @@ fn put_within(
 }
 
 // The CPU's next step in a span: the byte that waits is put, or an instruction starts; none where neither can be done
-// in it. `entries` is what `cpu_opcodes::opcode_table` gave.
+// in it, which began with the state s. `entries` is what `cpu_opcodes::opcode_table` gave.
 pub fn work_once(
+    s: State,
     v: Working,
     span: Clocks,
     memory: &mut [u8],
@@ -231,13 +274,13 @@ pub fn work_once(
 ) -> Working
     requires { ⌜ WithinSpan (v .work) (span .0) ⌝ }
     requires { ⌜ now entries ≡ opcodeTable ⌝ }
-    ensures { λ r. ⌜ WorkedOn halt (span .0) (v .work) (v .waiting) (now (memory .entry)) r (now (memory .exit)) ⌝ }
+    ensures { λ r. ⌜ WorkedOn halt s (span .0) (v .work) (v .waiting) (now (memory .entry)) r (now (memory .exit)) ⌝ }
     ensures { λ _. ⌜ now (sums .exit) ≡ sumsAfter (now (sums .entry)) (now (memory .entry)) (now (memory .exit)) ⌝ }
 {
     let work = v.work;
     let waiting = v.waiting;
     match waiting {
-        Waiting::Nothing => work_instruction(work, span, memory, sums, entries, halt),
+        Waiting::Nothing => work_instruction(s, work, span, memory, sums, entries, halt),
         Waiting::Byte(x) => put_within(work, x, span, memory, sums, halt),
     }
 }

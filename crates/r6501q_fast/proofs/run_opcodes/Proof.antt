@@ -26,11 +26,18 @@ abbrev μ-loop : tie.MeasureT-loop
 μ-loop span ticking memory₀ sums₀ halt w₀ shared₀ on₀ memory sums w shared on =
     cond on (span .0 - w .gone .0 + 1) 0
 
-loop-holds : tie.Need-loop-holds Inv-loop μ-loop
-loop-holds c =
+returns : tie.Need-returns Inv-loop μ-loop
+returns c =
     let root = c .before .before .before in
     let at = root .args in
     let words : SixteenBits (now (at .sums)) = λ k. omega (arith, c .before .slice-known2 .given k) in
+    (none, (root .pre .0, sums-kept 0 (now (at .sums)) (now (at .memory)) words))
+
+loop-holds : tie.Need-loop-holds Inv-loop μ-loop
+loop-holds c =
+    let root = c .before .before .before .before in
+    let at = root .args in
+    let words : SixteenBits (now (at .sums)) = λ k. omega (arith, c .before .before .slice-known2 .given k) in
     (rw (c .same-work .ensures) (root .pre .0), none, sums-kept 0 (now (at .sums)) (now (at .memory)) words, refl)
 
 same-length : tie.Need-same-length Inv-loop μ-loop
@@ -38,13 +45,13 @@ same-length c = c .before .before .before .before .before .before .loop .inv .3
 
 same-length-2 : tie.Need-same-length-2 Inv-loop μ-loop
 same-length-2 c =
-    let at = c .before .before .before .before .before .before .before .before .before .before .args in
+    let at = c .before .before .before .before .before .before .before .before .before .before .before .args in
     ap length (c .before .before .before .before .before .before .loop .inv .2)
     ∙ sums-length 0 (now (at .sums)) (now (at .memory))
     (c .before .before .before .before .before .before .loop .memory)
 
-returns : tie.Need-returns Inv-loop μ-loop
-returns c =
+returns-2 : tie.Need-returns-2 Inv-loop μ-loop
+returns-2 c =
     let inv = c .before .before .before .before .before .before .loop .inv in
     (rw (c .before .before .before .before .before .before .before .same-work .ensures) at (inv .1), (inv .0, inv .2))
 
@@ -53,11 +60,12 @@ row-0-requires c κs =
     let loop = c .before .before .before .before .before .before .before .before .before .before .before .loop in
     let at =
     c .before .before .before .before .before .before .before .before .before .before .before .before .before .before
+    .before
     .before .args in
     let within = starts-within (loop .on) (loop .w) (at .span .0)
-    (c .before .before .before .before .before .before .before .if1 .taken) in
+    (c .before .before .before .before .before .before .before .if2 .taken) in
     let free = either-false (c .before .before .before .before .before .before .is-register .result) _
-    (c .before .before .before .before .before .if2 .left) .0 in (
+    (c .before .before .before .before .before .if3 .left) .0 in (
       (within, loop .inv .0 .leaps),
       (
         sym (c .before .before .before .before .before .before .is-register .ensures) ∙ free,
@@ -70,11 +78,12 @@ row-1-requires c κs =
     let loop = c .before .before .before .before .before .before .before .before .before .before .before .loop in
     let at =
     c .before .before .before .before .before .before .before .before .before .before .before .before .before .before
+    .before
     .before .args in
     let within = starts-within (loop .on) (loop .w) (at .span .0)
-    (c .before .before .before .before .before .before .before .if1 .taken) in
+    (c .before .before .before .before .before .before .before .if2 .taken) in
     let free = either-false (c .before .before .before .before .before .before .is-register .result) _
-    (c .before .before .before .before .before .if2 .left) .0 in (
+    (c .before .before .before .before .before .if3 .left) .0 in (
       (within, loop .inv .0 .leaps),
       (
         sym (c .before .before .before .before .before .before .is-register .ensures) ∙ free,
@@ -87,11 +96,12 @@ row-2-requires c κs =
     let loop = c .before .before .before .before .before .before .before .before .before .before .before .loop in
     let at =
     c .before .before .before .before .before .before .before .before .before .before .before .before .before .before
+    .before
     .before .args in
     let within = starts-within (loop .on) (loop .w) (at .span .0)
-    (c .before .before .before .before .before .before .before .if1 .taken) in
+    (c .before .before .before .before .before .before .before .if2 .taken) in
     let free = either-false (c .before .before .before .before .before .before .is-register .result) _
-    (c .before .before .before .before .before .if2 .left) .0 in (
+    (c .before .before .before .before .before .if3 .left) .0 in (
       (within, loop .inv .0 .leaps),
       (
         sym (c .before .before .before .before .before .before .is-register .ensures) ∙ free,
@@ -104,11 +114,12 @@ row-3-requires c κs =
     let loop = c .before .before .before .before .before .before .before .before .before .before .before .loop in
     let at =
     c .before .before .before .before .before .before .before .before .before .before .before .before .before .before
+    .before
     .before .args in
     let within = starts-within (loop .on) (loop .w) (at .span .0)
-    (c .before .before .before .before .before .before .before .if1 .taken) in
+    (c .before .before .before .before .before .before .before .if2 .taken) in
     let free = either-false (c .before .before .before .before .before .before .is-register .result) _
-    (c .before .before .before .before .before .if2 .left) .0 in (
+    (c .before .before .before .before .before .if3 .left) .0 in (
       (within, loop .inv .0 .leaps),
       (
         sym (c .before .before .before .before .before .before .is-register .ensures) ∙ free,
@@ -121,11 +132,12 @@ row-4-requires c κs =
     let loop = c .before .before .before .before .before .before .before .before .before .before .before .loop in
     let at =
     c .before .before .before .before .before .before .before .before .before .before .before .before .before .before
+    .before
     .before .args in
     let within = starts-within (loop .on) (loop .w) (at .span .0)
-    (c .before .before .before .before .before .before .before .if1 .taken) in
+    (c .before .before .before .before .before .before .before .if2 .taken) in
     let free = either-false (c .before .before .before .before .before .before .is-register .result) _
-    (c .before .before .before .before .before .if2 .left) .0 in (
+    (c .before .before .before .before .before .if3 .left) .0 in (
       (within, loop .inv .0 .leaps),
       (
         sym (c .before .before .before .before .before .before .is-register .ensures) ∙ free,
@@ -138,11 +150,12 @@ row-5-requires c κs =
     let loop = c .before .before .before .before .before .before .before .before .before .before .before .loop in
     let at =
     c .before .before .before .before .before .before .before .before .before .before .before .before .before .before
+    .before
     .before .args in
     let within = starts-within (loop .on) (loop .w) (at .span .0)
-    (c .before .before .before .before .before .before .before .if1 .taken) in
+    (c .before .before .before .before .before .before .before .if2 .taken) in
     let free = either-false (c .before .before .before .before .before .before .is-register .result) _
-    (c .before .before .before .before .before .if2 .left) .0 in (
+    (c .before .before .before .before .before .if3 .left) .0 in (
       (within, loop .inv .0 .leaps),
       (
         sym (c .before .before .before .before .before .before .is-register .ensures) ∙ free,
@@ -155,11 +168,12 @@ row-6-requires c κs =
     let loop = c .before .before .before .before .before .before .before .before .before .before .before .loop in
     let at =
     c .before .before .before .before .before .before .before .before .before .before .before .before .before .before
+    .before
     .before .args in
     let within = starts-within (loop .on) (loop .w) (at .span .0)
-    (c .before .before .before .before .before .before .before .if1 .taken) in
+    (c .before .before .before .before .before .before .before .if2 .taken) in
     let free = either-false (c .before .before .before .before .before .before .is-register .result) _
-    (c .before .before .before .before .before .if2 .left) .0 in (
+    (c .before .before .before .before .before .if3 .left) .0 in (
       (within, loop .inv .0 .leaps),
       (
         sym (c .before .before .before .before .before .before .is-register .ensures) ∙ free,
@@ -172,11 +186,12 @@ row-7-requires c κs =
     let loop = c .before .before .before .before .before .before .before .before .before .before .before .loop in
     let at =
     c .before .before .before .before .before .before .before .before .before .before .before .before .before .before
+    .before
     .before .args in
     let within = starts-within (loop .on) (loop .w) (at .span .0)
-    (c .before .before .before .before .before .before .before .if1 .taken) in
+    (c .before .before .before .before .before .before .before .if2 .taken) in
     let free = either-false (c .before .before .before .before .before .before .is-register .result) _
-    (c .before .before .before .before .before .if2 .left) .0 in (
+    (c .before .before .before .before .before .if3 .left) .0 in (
       (within, loop .inv .0 .leaps),
       (
         sym (c .before .before .before .before .before .before .is-register .ensures) ∙ free,
@@ -189,11 +204,12 @@ row-8-requires c κs =
     let loop = c .before .before .before .before .before .before .before .before .before .before .before .loop in
     let at =
     c .before .before .before .before .before .before .before .before .before .before .before .before .before .before
+    .before
     .before .args in
     let within = starts-within (loop .on) (loop .w) (at .span .0)
-    (c .before .before .before .before .before .before .before .if1 .taken) in
+    (c .before .before .before .before .before .before .before .if2 .taken) in
     let free = either-false (c .before .before .before .before .before .before .is-register .result) _
-    (c .before .before .before .before .before .if2 .left) .0 in (
+    (c .before .before .before .before .before .if3 .left) .0 in (
       (within, loop .inv .0 .leaps),
       (
         sym (c .before .before .before .before .before .before .is-register .ensures) ∙ free,
@@ -206,11 +222,12 @@ row-9-requires c κs =
     let loop = c .before .before .before .before .before .before .before .before .before .before .before .loop in
     let at =
     c .before .before .before .before .before .before .before .before .before .before .before .before .before .before
+    .before
     .before .args in
     let within = starts-within (loop .on) (loop .w) (at .span .0)
-    (c .before .before .before .before .before .before .before .if1 .taken) in
+    (c .before .before .before .before .before .before .before .if2 .taken) in
     let free = either-false (c .before .before .before .before .before .before .is-register .result) _
-    (c .before .before .before .before .before .if2 .left) .0 in (
+    (c .before .before .before .before .before .if3 .left) .0 in (
       (within, loop .inv .0 .leaps),
       (
         sym (c .before .before .before .before .before .before .is-register .ensures) ∙ free,
@@ -223,11 +240,12 @@ row-a-requires c κs =
     let loop = c .before .before .before .before .before .before .before .before .before .before .before .loop in
     let at =
     c .before .before .before .before .before .before .before .before .before .before .before .before .before .before
+    .before
     .before .args in
     let within = starts-within (loop .on) (loop .w) (at .span .0)
-    (c .before .before .before .before .before .before .before .if1 .taken) in
+    (c .before .before .before .before .before .before .before .if2 .taken) in
     let free = either-false (c .before .before .before .before .before .before .is-register .result) _
-    (c .before .before .before .before .before .if2 .left) .0 in (
+    (c .before .before .before .before .before .if3 .left) .0 in (
       (within, loop .inv .0 .leaps),
       (
         sym (c .before .before .before .before .before .before .is-register .ensures) ∙ free,
@@ -240,11 +258,12 @@ row-b-requires c κs =
     let loop = c .before .before .before .before .before .before .before .before .before .before .before .loop in
     let at =
     c .before .before .before .before .before .before .before .before .before .before .before .before .before .before
+    .before
     .before .args in
     let within = starts-within (loop .on) (loop .w) (at .span .0)
-    (c .before .before .before .before .before .before .before .if1 .taken) in
+    (c .before .before .before .before .before .before .before .if2 .taken) in
     let free = either-false (c .before .before .before .before .before .before .is-register .result) _
-    (c .before .before .before .before .before .if2 .left) .0 in (
+    (c .before .before .before .before .before .if3 .left) .0 in (
       (within, loop .inv .0 .leaps),
       (
         sym (c .before .before .before .before .before .before .is-register .ensures) ∙ free,
@@ -257,11 +276,12 @@ row-c-requires c κs =
     let loop = c .before .before .before .before .before .before .before .before .before .before .before .loop in
     let at =
     c .before .before .before .before .before .before .before .before .before .before .before .before .before .before
+    .before
     .before .args in
     let within = starts-within (loop .on) (loop .w) (at .span .0)
-    (c .before .before .before .before .before .before .before .if1 .taken) in
+    (c .before .before .before .before .before .before .before .if2 .taken) in
     let free = either-false (c .before .before .before .before .before .before .is-register .result) _
-    (c .before .before .before .before .before .if2 .left) .0 in (
+    (c .before .before .before .before .before .if3 .left) .0 in (
       (within, loop .inv .0 .leaps),
       (
         sym (c .before .before .before .before .before .before .is-register .ensures) ∙ free,
@@ -274,11 +294,12 @@ row-d-requires c κs =
     let loop = c .before .before .before .before .before .before .before .before .before .before .before .loop in
     let at =
     c .before .before .before .before .before .before .before .before .before .before .before .before .before .before
+    .before
     .before .args in
     let within = starts-within (loop .on) (loop .w) (at .span .0)
-    (c .before .before .before .before .before .before .before .if1 .taken) in
+    (c .before .before .before .before .before .before .before .if2 .taken) in
     let free = either-false (c .before .before .before .before .before .before .is-register .result) _
-    (c .before .before .before .before .before .if2 .left) .0 in (
+    (c .before .before .before .before .before .if3 .left) .0 in (
       (within, loop .inv .0 .leaps),
       (
         sym (c .before .before .before .before .before .before .is-register .ensures) ∙ free,
@@ -291,11 +312,12 @@ row-e-requires c κs =
     let loop = c .before .before .before .before .before .before .before .before .before .before .before .loop in
     let at =
     c .before .before .before .before .before .before .before .before .before .before .before .before .before .before
+    .before
     .before .args in
     let within = starts-within (loop .on) (loop .w) (at .span .0)
-    (c .before .before .before .before .before .before .before .if1 .taken) in
+    (c .before .before .before .before .before .before .before .if2 .taken) in
     let free = either-false (c .before .before .before .before .before .before .is-register .result) _
-    (c .before .before .before .before .before .if2 .left) .0 in (
+    (c .before .before .before .before .before .if3 .left) .0 in (
       (within, loop .inv .0 .leaps),
       (
         sym (c .before .before .before .before .before .before .is-register .ensures) ∙ free,
@@ -308,11 +330,12 @@ row-f-requires c κs =
     let loop = c .before .before .before .before .before .before .before .before .before .before .before .loop in
     let at =
     c .before .before .before .before .before .before .before .before .before .before .before .before .before .before
+    .before
     .before .args in
     let within = starts-within (loop .on) (loop .w) (at .span .0)
-    (c .before .before .before .before .before .before .before .if1 .taken) in
+    (c .before .before .before .before .before .before .before .if2 .taken) in
     let free = either-false (c .before .before .before .before .before .before .is-register .result) _
-    (c .before .before .before .before .before .if2 .left) .0 in (
+    (c .before .before .before .before .before .if3 .left) .0 in (
       (within, loop .inv .0 .leaps),
       (
         sym (c .before .before .before .before .before .before .is-register .ensures) ∙ free,
@@ -326,7 +349,7 @@ next-start-requires c κs =
     let root =
     c .before .before .before .before .before .before .before .before .before .before .before .before .before in
     start-fits (loop .w) (root .args .span .0)
-    (starts-within (loop .on) (loop .w) (root .args .span .0) (c .before .before .before .before .before .if1 .taken))
+    (starts-within (loop .on) (loop .w) (root .args .span .0) (c .before .before .before .before .before .if2 .taken))
     (root .pre .1 .0)
 
 with-shared-requires : tie.Need-with-shared-requires Inv-loop μ-loop
@@ -346,6 +369,7 @@ loop-less c =
     c .before .before .before .before .before .before .before .before .before .before .before .before .loop in
     let at =
     c .before .before .before .before .before .before .before .before .before .before .before .before .before .before
+    .before
     .before .before .args in
     let m = c .before .before .before .match in
     let start =
@@ -389,10 +413,10 @@ loop-less c =
       rw (a .8) (a .3 .kept .1 .1 .0),
     )))))))))))))))) (m .came) in
     let within = starts-within (loop .on) (loop .w) (at .span .0)
-    (c .before .before .before .before .before .before .before .before .if1 .taken) in
+    (c .before .before .before .before .before .before .before .before .if2 .taken) in
     rw (
       c .same-work2 .ensures,
-      and-left (loop .on) _ (c .before .before .before .before .before .before .before .before .if1 .taken),
+      and-left (loop .on) _ (c .before .before .before .before .before .before .before .before .if2 .taken),
     )
     (try-less (at .halt) (at .span .0) (at .ticking) start (now (at .memory)) (loop .w) (loop .memory) (m .tried)
     (m .memory) within (step .0))
@@ -403,6 +427,7 @@ loop-again c =
     c .before .before .before .before .before .before .before .before .before .before .before .before .loop in
     let at =
     c .before .before .before .before .before .before .before .before .before .before .before .before .before .before
+    .before
     .before .before .args in
     let m = c .before .before .before .match in
     let start =
@@ -459,12 +484,12 @@ same-length-3 c = c .before .before .before .before .loop .inv .3
 
 same-length-4 : tie.Need-same-length-4 Inv-loop μ-loop
 same-length-4 c =
-    let at = c .before .before .before .before .before .before .before .before .args in
+    let at = c .before .before .before .before .before .before .before .before .before .args in
     ap length (c .before .before .before .before .loop .inv .2)
     ∙ sums-length 0 (now (at .sums)) (now (at .memory)) (c .before .before .before .before .loop .memory)
 
-returns-2 : tie.Need-returns-2 Inv-loop μ-loop
-returns-2 c =
+returns-3 : tie.Need-returns-3 Inv-loop μ-loop
+returns-3 c =
     let inv = c .before .before .before .before .loop .inv in
     (rw (c .before .before .before .before .before .same-work .ensures) at (inv .1), (inv .0, inv .2))
 
@@ -474,6 +499,7 @@ run-opcodes-spec =
     (tie.spec
     Inv-loop
     μ-loop
+    returns
     (λ c κs. search needs)
     loop-holds
     (λ c. search needs)
@@ -481,7 +507,7 @@ run-opcodes-spec =
     (λ c κs. search needs)
     same-length
     same-length-2
-    returns
+    returns-2
     (λ c κs. search needs)
     row-0-requires
     row-1-requires
@@ -506,4 +532,4 @@ run-opcodes-spec =
     loop-again
     same-length-3
     same-length-4
-    returns-2)
+    returns-3)

@@ -1,0 +1,11 @@
+use mathlib.Core.Path.{refl}
+use Rattle.r6501q_spans.specs.Spans.{steadyAt}
+use Rattle.r6501q_spans.proofs.served.steady_at.Statement.{statement}
+use Rattle.r6501q_spans.proofs.served.steady_at.Tie as tie
+
+returns : tie.Need-returns
+unfolding steadyAt
+returns c = refl
+
+pub steady-at-spec : {M : Type 1} → statement M
+steady-at-spec = tie.close (tie.spec returns)
