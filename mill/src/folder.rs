@@ -4,6 +4,8 @@ use crate::files::{created, failed, replace, text};
 use crate::input::{in_order, parsed, Input, HEADING};
 use crate::json::{self, Json};
 use crate::session::Sink;
+use crate::units::grouped;
+use r6501q::Number;
 use std::fs::File;
 use std::io::{BufRead, BufReader, BufWriter, Read, Seek, SeekFrom, Write};
 use std::path::{Path, PathBuf};
@@ -77,6 +79,8 @@ pub struct Folder {
     pub last_clock: u64,
     /// Whether the run is not complete: it was cut short, or still goes on.
     pub partial: bool,
+    /// Whether an undefined opcode ended it, on the clock behind the last one.
+    pub undefined: bool,
 }
 
 impl Folder {
@@ -91,20 +95,32 @@ impl Folder {
         let rate = rate.ok_or_else(|| missing("options.clock"))?;
         let last_clock = summary.get("last_clock").and_then(Json::count).ok_or_else(|| missing("last_clock"))?;
         let partial = summary.get("partial") != Some(&Json::Bool(false));
+        let number = summary.get("number").and_then(Json::count);
+        let undefined = number == Some(u64::from(u8::from(Number::UndefinedOpcode)));
         // The summary of a run that goes on, or was killed, is that of its start.
         let recorded = if partial { last_recorded(&path.join(RECORDS)) } else { None };
-        Ok(Folder { path, rate, last_clock: last_clock.max(recorded.unwrap_or(0)), partial })
+        Ok(Folder { path, rate, last_clock: last_clock.max(recorded.unwrap_or(0)), partial, undefined })
     }
 
     /// A run of this name and rate, without its files.
     #[cfg(test)]
     pub fn named(name: &str, rate: u32) -> Folder {
-        Folder { path: PathBuf::from(name), rate, last_clock: 0, partial: false }
+        Folder { path: PathBuf::from(name), rate, last_clock: 0, partial: false, undefined: false }
     }
 
     /// The folder's name, as it was given.
     pub fn name(&self) -> String {
         self.path.display().to_string()
+    }
+
+    /// What is to be said of the run before it is read: it has not all that was asked for.
+    pub fn unfinished(&self) -> Option<String> {
+        let clock = grouped(self.last_clock.saturating_add(1));
+        match self {
+            _ if self.partial => Some("partial, the run is not complete".to_string()),
+            _ if self.undefined => Some(format!("the run ended at an undefined opcode, clock {clock} (6)")),
+            _ => None,
+        }
     }
 
     /// The records, in order.
@@ -258,6 +274,17 @@ mod tests {
         assert_eq!(read("10,FFFFFF55", "1,RES,1", false), (Some(vec![10]), Some(vec![1]), 0));
         assert_eq!(read("10,FFFFFF55\n200,\n", "1,RES,1\n", true), (None, Some(vec![1]), 0));
         std::fs::remove_dir_all(folder).unwrap();
+    }
+
+    #[test]
+    fn a_run_that_has_not_all_its_clocks_says_so() {
+        let mut folder = Folder { last_clock: 3_060, ..Folder::named("run", 1_000_000) };
+        assert_eq!(folder.unfinished(), None);
+        folder.undefined = true;
+        let words = "the run ended at an undefined opcode, clock 3,061 (6)";
+        assert_eq!(folder.unfinished(), Some(words.to_string()));
+        folder.partial = true;
+        assert_eq!(folder.unfinished(), Some("partial, the run is not complete".to_string()));
     }
 
     #[test]
