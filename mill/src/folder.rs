@@ -7,12 +7,15 @@ use crate::session::Sink;
 use crate::units::grouped;
 use r6501q::Number;
 use std::fs::File;
-use std::io::{BufRead, BufReader, BufWriter, Read, Seek, SeekFrom, Write};
+use std::io::{BufRead, BufReader, BufWriter, ErrorKind, Read, Seek, SeekFrom, Write};
 use std::path::{Path, PathBuf};
 
 const RECORDS: &str = "records.csv";
 const INPUTS: &str = "inputs.csv";
 const SUMMARY: &str = "summary.json";
+
+/// Beside the files of an earlier run: why a later one was refused. While it is there, the folder is not read.
+const REFUSED: &str = "refused";
 
 /// The first line of a record list.
 const RECORDS_HEADING: &str = "clock,word";
@@ -50,11 +53,16 @@ impl Writer {
         Ok(Writer { folder, records, inputs, count: 0, last: None })
     }
 
-    /// Writes the summary in the place of an earlier one, behind all records so far.
+    /// Writes the summary in the place of an earlier one, behind all records so far. No refused run's words stay.
     pub fn summarize(&mut self, summary: &Json) -> Result<(), Failure> {
         self.records.flush().map_err(|error| failed(&self.folder.join(RECORDS), error))?;
         self.inputs.flush().map_err(|error| failed(&self.folder.join(INPUTS), error))?;
-        replace(&self.folder.join(SUMMARY), &format!("{summary}\n"))
+        replace(&self.folder.join(SUMMARY), &format!("{summary}\n"))?;
+        let words = self.folder.join(REFUSED);
+        match std::fs::remove_file(&words) {
+            Err(error) if error.kind() != ErrorKind::NotFound => Err(failed(&words, error)),
+            _ => Ok(()),
+        }
     }
 }
 
@@ -68,6 +76,19 @@ impl Sink for Writer {
         self.last = Some(clock);
         writeln!(self.records, "{clock},{word:08X}").map_err(|error| failed(&self.folder.join(RECORDS), error))
     }
+}
+
+/// Sees to it that the files of an earlier run are not taken for those of one that is refused: puts the refusal's words
+/// beside them, and says what it did. Nothing is done where there is no earlier run.
+pub fn refuse(folder: &Path, failure: &Failure) -> Option<String> {
+    let (name, words) = (folder.display(), folder.join(REFUSED));
+    if !folder.join(SUMMARY).exists() {
+        return None;
+    }
+    Some(match std::fs::write(&words, format!("{failure}\n")) {
+        Ok(()) => format!("{name} holds an earlier run, which is not read while {} is there", words.display()),
+        Err(_) => format!("{name} holds an earlier run, not this one"),
+    })
 }
 
 /// A folder that a run has written.
@@ -84,9 +105,15 @@ pub struct Folder {
 }
 
 impl Folder {
-    /// Opens a folder by its summary.
+    /// Opens a folder by its summary. One in which a later run was refused is not opened.
     pub fn open(name: &str) -> Result<Folder, Failure> {
         let path = PathBuf::from(name);
+        let words = path.join(REFUSED);
+        if words.exists() {
+            let (why, words) = (text(&words).unwrap_or_default(), words.display());
+            let what = "the last run was refused, and an earlier one is here";
+            return Err(Failure::File(format!("{name}: {what}: delete {words} to read it; {}", why.trim_end())));
+        }
         let file = path.join(SUMMARY);
         let summary = json::read(&text(&file)?).map_err(|words| failed(&file, words))?;
         let missing = |field: &str| failed(&file, format!("`{field}` is missing or wrong"));
@@ -244,6 +271,36 @@ mod tests {
         let records: Vec<Record> = read.records().unwrap().map(Result::unwrap).collect();
         assert_eq!(records, [Record { clock: 10, word: 0xFFFF_FF55 }, Record { clock: 7_200_000_000, word: 0xDD }]);
         assert_eq!(read.inputs().unwrap().map(Result::unwrap).collect::<Vec<_>>(), [input]);
+        std::fs::remove_dir_all(folder).unwrap();
+    }
+
+    #[test]
+    fn an_earlier_run_is_not_read_in_the_place_of_a_refused_one() {
+        let folder = scratch("earlier");
+        let name = folder.to_str().unwrap().to_string();
+        let failure = Failure::Tape("mill.tape:3: check sum".into());
+        assert_eq!(refuse(&folder, &failure), None); // no folder
+        std::fs::create_dir_all(&folder).unwrap();
+        assert_eq!(refuse(&folder, &failure), None); // no run
+        assert!(!folder.join(REFUSED).exists());
+
+        let mut writer = Writer::create(&folder).unwrap();
+        writer.record(10, 0xFFFF_FF55).unwrap();
+        writer.summarize(&summary()).unwrap();
+        let words = folder.join(REFUSED).display().to_string();
+        let noted = format!("{name} holds an earlier run, which is not read while {words} is there");
+        assert_eq!(refuse(&folder, &failure), Some(noted));
+        let what = "the last run was refused, and an earlier one is here";
+        let expected = format!("{name}: {what}: delete {words} to read it; mill.tape:3: check sum");
+        assert_eq!(Folder::open(&name).err(), Some(Failure::File(expected)));
+
+        std::fs::remove_file(&words).unwrap(); // by hand: the earlier run is as it was
+        assert_eq!(Folder::open(&name).unwrap().records().unwrap().count(), 1);
+        assert!(refuse(&folder, &failure).is_some());
+        let mut writer = Writer::create(&folder).unwrap(); // by a run
+        assert!(Folder::open(&name).is_err());
+        writer.summarize(&summary()).unwrap();
+        assert_eq!(Folder::open(&name).unwrap().records().unwrap().count(), 0);
         std::fs::remove_dir_all(folder).unwrap();
     }
 
