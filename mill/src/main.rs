@@ -34,8 +34,8 @@ use failure::Failure;
 use files::{note, print};
 use std::process::ExitCode;
 
-const CODES: &str = "Exit codes: 0 done or alike, 1 differs, 2 usage, 3 file, 4 tape refused, 5 input list refused,
-6 undefined opcode, 7 line and receiver do not fit (--strict), 130 interrupted.";
+const CODES: &str = "Exit codes: 0 done or alike, 1 differs or no latch fits, 2 usage, 3 file, 4 tape refused,
+5 input list refused, 6 undefined opcode, 7 line and receiver do not fit (--strict), 130 interrupted.";
 
 fn main() -> ExitCode {
     let words: Result<Vec<String>, _> = std::env::args_os().skip(1).map(|word| word.into_string()).collect();
