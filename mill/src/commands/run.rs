@@ -21,7 +21,7 @@ pub const COMMAND: Command = Command {
     name: "run",
     usage: "mill run TAPE [PATH] -o DIR --clock RATE [--baud RATE] [OPTION..]
   Sends the path's bytes on PA7, runs the tape, and writes records.csv, inputs.csv and summary.json into DIR, in the
-  place of an earlier run's.
+  place of an earlier run's. A refused run puts the file `refused` beside those: they are not read while it is there.
   --clock RATE    clocks a second, as 1MHz
   --baud RATE     bits a second on PA7; needed with a path
   --bits N        data bits, 5 to 8 (8)
