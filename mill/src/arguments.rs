@@ -100,6 +100,15 @@ impl Arguments {
     }
 }
 
+/// The value of an option among words that may be wrong otherwise.
+pub fn behind<'a>(name: &str, words: &'a [String]) -> Option<&'a str> {
+    let given = |word: &'a String| word.strip_prefix(name)?.strip_prefix('=');
+    match words.iter().position(|word| word == name) {
+        Some(place) => words.get(place + 1).map(String::as_str),
+        None => words.iter().find_map(given),
+    }
+}
+
 #[cfg(test)]
 mod tests {
     use super::*;
@@ -119,6 +128,16 @@ mod tests {
         assert!(arguments.flag("--strict"));
         assert_eq!(sorted("-- -o --strict").unwrap().others(), ["-o", "--strict"]);
         assert_eq!(sorted("-").unwrap().others(), ["-"]);
+    }
+
+    #[test]
+    fn a_value_is_found_among_wrong_words() {
+        let found = |line: &str| {
+            let words: Vec<String> = line.split_whitespace().map(String::from).collect();
+            behind("-o", &words).map(String::from)
+        };
+        assert_eq!([found("a --clok 1 -o b"), found("a b c -o=d")], [Some("b".to_string()), Some("d".to_string())]);
+        assert_eq!([found("a -o"), found("a --o=b -ob"), found("")], [None, None, None]);
     }
 
     #[test]

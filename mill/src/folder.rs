@@ -4,13 +4,18 @@ use crate::files::{created, failed, replace, text};
 use crate::input::{in_order, parsed, Input, HEADING};
 use crate::json::{self, Json};
 use crate::session::Sink;
+use crate::units::grouped;
+use r6501q::Number;
 use std::fs::File;
-use std::io::{BufRead, BufReader, BufWriter, Read, Seek, SeekFrom, Write};
+use std::io::{BufRead, BufReader, BufWriter, ErrorKind, Read, Seek, SeekFrom, Write};
 use std::path::{Path, PathBuf};
 
 const RECORDS: &str = "records.csv";
 const INPUTS: &str = "inputs.csv";
 const SUMMARY: &str = "summary.json";
+
+/// Beside the files of an earlier run: why a later one was refused. While it is there, the folder is not read.
+const REFUSED: &str = "refused";
 
 /// The first line of a record list.
 const RECORDS_HEADING: &str = "clock,word";
@@ -48,11 +53,16 @@ impl Writer {
         Ok(Writer { folder, records, inputs, count: 0, last: None })
     }
 
-    /// Writes the summary in the place of an earlier one, behind all records so far.
+    /// Writes the summary in the place of an earlier one, behind all records so far. No refused run's words stay.
     pub fn summarize(&mut self, summary: &Json) -> Result<(), Failure> {
         self.records.flush().map_err(|error| failed(&self.folder.join(RECORDS), error))?;
         self.inputs.flush().map_err(|error| failed(&self.folder.join(INPUTS), error))?;
-        replace(&self.folder.join(SUMMARY), &format!("{summary}\n"))
+        replace(&self.folder.join(SUMMARY), &format!("{summary}\n"))?;
+        let words = self.folder.join(REFUSED);
+        match std::fs::remove_file(&words) {
+            Err(error) if error.kind() != ErrorKind::NotFound => Err(failed(&words, error)),
+            _ => Ok(()),
+        }
     }
 }
 
@@ -68,6 +78,19 @@ impl Sink for Writer {
     }
 }
 
+/// Sees to it that the files of an earlier run are not taken for those of one that is refused: puts the refusal's words
+/// beside them, and says what it did. Nothing is done where there is no earlier run.
+pub fn refuse(folder: &Path, failure: &Failure) -> Option<String> {
+    let (name, words) = (folder.display(), folder.join(REFUSED));
+    if !folder.join(SUMMARY).exists() {
+        return None;
+    }
+    Some(match std::fs::write(&words, format!("{failure}\n")) {
+        Ok(()) => format!("{name} holds an earlier run, which is not read while {} is there", words.display()),
+        Err(_) => format!("{name} holds an earlier run, not this one"),
+    })
+}
+
 /// A folder that a run has written.
 pub struct Folder {
     path: PathBuf,
@@ -77,12 +100,20 @@ pub struct Folder {
     pub last_clock: u64,
     /// Whether the run is not complete: it was cut short, or still goes on.
     pub partial: bool,
+    /// Whether an undefined opcode ended it, on the clock behind the last one.
+    pub undefined: bool,
 }
 
 impl Folder {
-    /// Opens a folder by its summary.
+    /// Opens a folder by its summary. One in which a later run was refused is not opened.
     pub fn open(name: &str) -> Result<Folder, Failure> {
         let path = PathBuf::from(name);
+        let words = path.join(REFUSED);
+        if words.exists() {
+            let (why, words) = (text(&words).unwrap_or_default(), words.display());
+            let what = "the last run was refused, and an earlier one is here";
+            return Err(Failure::File(format!("{name}: {what}: delete {words} to read it; {}", why.trim_end())));
+        }
         let file = path.join(SUMMARY);
         let summary = json::read(&text(&file)?).map_err(|words| failed(&file, words))?;
         let missing = |field: &str| failed(&file, format!("`{field}` is missing or wrong"));
@@ -91,20 +122,32 @@ impl Folder {
         let rate = rate.ok_or_else(|| missing("options.clock"))?;
         let last_clock = summary.get("last_clock").and_then(Json::count).ok_or_else(|| missing("last_clock"))?;
         let partial = summary.get("partial") != Some(&Json::Bool(false));
+        let number = summary.get("number").and_then(Json::count);
+        let undefined = number == Some(u64::from(u8::from(Number::UndefinedOpcode)));
         // The summary of a run that goes on, or was killed, is that of its start.
         let recorded = if partial { last_recorded(&path.join(RECORDS)) } else { None };
-        Ok(Folder { path, rate, last_clock: last_clock.max(recorded.unwrap_or(0)), partial })
+        Ok(Folder { path, rate, last_clock: last_clock.max(recorded.unwrap_or(0)), partial, undefined })
     }
 
     /// A run of this name and rate, without its files.
     #[cfg(test)]
     pub fn named(name: &str, rate: u32) -> Folder {
-        Folder { path: PathBuf::from(name), rate, last_clock: 0, partial: false }
+        Folder { path: PathBuf::from(name), rate, last_clock: 0, partial: false, undefined: false }
     }
 
     /// The folder's name, as it was given.
     pub fn name(&self) -> String {
         self.path.display().to_string()
+    }
+
+    /// What is to be said of the run before it is read: it has not all that was asked for.
+    pub fn unfinished(&self) -> Option<String> {
+        let clock = grouped(self.last_clock.saturating_add(1));
+        match self {
+            _ if self.partial => Some("partial, the run is not complete".to_string()),
+            _ if self.undefined => Some(format!("the run ended at an undefined opcode, clock {clock} (6)")),
+            _ => None,
+        }
     }
 
     /// The records, in order.
@@ -232,6 +275,36 @@ mod tests {
     }
 
     #[test]
+    fn an_earlier_run_is_not_read_in_the_place_of_a_refused_one() {
+        let folder = scratch("earlier");
+        let name = folder.to_str().unwrap().to_string();
+        let failure = Failure::Tape("mill.tape:3: check sum".into());
+        assert_eq!(refuse(&folder, &failure), None); // no folder
+        std::fs::create_dir_all(&folder).unwrap();
+        assert_eq!(refuse(&folder, &failure), None); // no run
+        assert!(!folder.join(REFUSED).exists());
+
+        let mut writer = Writer::create(&folder).unwrap();
+        writer.record(10, 0xFFFF_FF55).unwrap();
+        writer.summarize(&summary()).unwrap();
+        let words = folder.join(REFUSED).display().to_string();
+        let noted = format!("{name} holds an earlier run, which is not read while {words} is there");
+        assert_eq!(refuse(&folder, &failure), Some(noted));
+        let what = "the last run was refused, and an earlier one is here";
+        let expected = format!("{name}: {what}: delete {words} to read it; mill.tape:3: check sum");
+        assert_eq!(Folder::open(&name).err(), Some(Failure::File(expected)));
+
+        std::fs::remove_file(&words).unwrap(); // by hand: the earlier run is as it was
+        assert_eq!(Folder::open(&name).unwrap().records().unwrap().count(), 1);
+        assert!(refuse(&folder, &failure).is_some());
+        let mut writer = Writer::create(&folder).unwrap(); // by a run
+        assert!(Folder::open(&name).is_err());
+        writer.summarize(&summary()).unwrap();
+        assert_eq!(Folder::open(&name).unwrap().records().unwrap().count(), 0);
+        std::fs::remove_dir_all(folder).unwrap();
+    }
+
+    #[test]
     fn a_half_written_line_is_left_out_where_the_run_is_not_complete() {
         let folder = scratch("half");
         std::fs::create_dir_all(&folder).unwrap();
@@ -258,6 +331,17 @@ mod tests {
         assert_eq!(read("10,FFFFFF55", "1,RES,1", false), (Some(vec![10]), Some(vec![1]), 0));
         assert_eq!(read("10,FFFFFF55\n200,\n", "1,RES,1\n", true), (None, Some(vec![1]), 0));
         std::fs::remove_dir_all(folder).unwrap();
+    }
+
+    #[test]
+    fn a_run_that_has_not_all_its_clocks_says_so() {
+        let mut folder = Folder { last_clock: 3_060, ..Folder::named("run", 1_000_000) };
+        assert_eq!(folder.unfinished(), None);
+        folder.undefined = true;
+        let words = "the run ended at an undefined opcode, clock 3,061 (6)";
+        assert_eq!(folder.unfinished(), Some(words.to_string()));
+        folder.partial = true;
+        assert_eq!(folder.unfinished(), Some("partial, the run is not complete".to_string()));
     }
 
     #[test]

@@ -27,9 +27,11 @@ impl fmt::Display for Input {
 /// The first line of an input list.
 pub const HEADING: &str = "clock,pin,level";
 
-/// The inputs of a text, a line each: `clock,pin,level`. A first line of these words, and empty lines, are skipped.
-/// What is wrong is said with its line and number, as `LINE: what (5)`.
-pub fn list(text: &str) -> Result<Vec<Input>, String> {
+/// The inputs of a text, a line each: `clock,pin,level`. A first line of these words, and empty lines, are skipped, and
+/// so is a byte order mark at the start. Where there is a line, its pin is not the text's. What is wrong is said with
+/// its line and number, as `LINE: what (5)`.
+pub fn list_beside(line_pin: Option<Pin>, text: &str) -> Result<Vec<Input>, String> {
+    let text = text.strip_prefix('\u{FEFF}').unwrap_or(text);
     let mut inputs: Vec<Input> = Vec::new();
     for (number, line) in (1..).zip(text.lines()) {
         let line = line.trim();
@@ -37,9 +39,24 @@ pub fn list(text: &str) -> Result<Vec<Input>, String> {
             continue;
         }
         let checked = parsed(line).and_then(|input| in_order(inputs.last(), input));
+        let checked = checked.and_then(|input| free(line_pin, input));
         inputs.push(checked.map_err(|words| format!("{number}: {words} (5)"))?);
     }
     Ok(inputs)
+}
+
+/// The inputs of a text, without a line beside them.
+#[cfg(test)]
+pub fn list(text: &str) -> Result<Vec<Input>, String> {
+    list_beside(None, text)
+}
+
+/// An input of another pin than the line's.
+fn free(line_pin: Option<Pin>, input: Input) -> Result<Input, String> {
+    match line_pin {
+        Some(pin) if pin == input.pin => Err(format!("{pin} is the line's while a path is sent")),
+        _ => Ok(input),
+    }
 }
 
 /// An input as a line has it.
@@ -88,6 +105,26 @@ mod tests {
         let lines: Vec<String> = inputs.iter().map(Input::to_string).collect();
         assert_eq!(lines, ["5,PA7,0", "5,RES,1", "7200000000,PD0,1"]);
         assert_eq!((list(""), list(HEADING)), (Ok(vec![]), Ok(vec![])));
+    }
+
+    #[test]
+    fn a_byte_order_mark_is_skipped_at_the_start_alone() {
+        for text in ["\u{FEFF}clock,pin,level\n5,PB0,0\n", "\u{FEFF}5,PB0,0", "\u{FEFF}\n5,PB0,0"] {
+            assert_eq!(list(text), list("5,PB0,0"), "{text}");
+        }
+        assert_eq!(list("\u{FEFF}"), Ok(vec![]));
+        assert!(list("5,PB0,0\n\u{FEFF}6,PB0,1").unwrap_err().starts_with("2: "));
+        assert!(list("\u{FEFF}\u{FEFF}5,PB0,0").unwrap_err().starts_with("1: "));
+        assert_eq!(list("\u{FEFF}clock,pin,level\n5,PB0,2").unwrap_err(), "2: `2` is no level, 0 or 1 (5)");
+    }
+
+    #[test]
+    fn the_lines_pin_is_refused_beside_a_path() {
+        let text = "clock,pin,level\n5,PB0,0\n\n6,PA7,0\n";
+        let words = "4: PA7 is the line's while a path is sent (5)";
+        assert_eq!(list_beside(Some(Pin::PA7), text), Err(words.to_string()));
+        assert_eq!(list_beside(None, text), list(text));
+        assert!(list(text).is_ok());
     }
 
     #[test]

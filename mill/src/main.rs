@@ -29,13 +29,13 @@ mod vcd;
 mod watch;
 
 use arguments::Arguments;
-use commands::{Command, COMMANDS};
+use commands::{run, Command, COMMANDS};
 use failure::Failure;
 use files::{note, print};
 use std::process::ExitCode;
 
-const CODES: &str = "Exit codes: 0 done or alike, 1 differs, 2 usage, 3 file, 4 tape refused, 5 input list refused,
-6 undefined opcode, 7 line and receiver do not fit (--strict), 130 interrupted.";
+const CODES: &str = "Exit codes: 0 done or alike, 1 differs or no latch fits, 2 usage, 3 file, 4 tape refused,
+5 input list refused, 6 undefined opcode, 7 line and receiver do not fit (--strict), 130 interrupted.";
 
 fn main() -> ExitCode {
     let words: Result<Vec<String>, _> = std::env::args_os().skip(1).map(|word| word.into_string()).collect();
@@ -80,11 +80,18 @@ fn help() -> String {
     format!("{}\n\n{CODES}", usages.join("\n\n"))
 }
 
+/// The words of a command, sorted; a run whose words are wrong is a refused one.
+fn sorted(command: &Command, words: &[String]) -> Result<Arguments, Failure> {
+    let folder = arguments::behind("-o", words).filter(|_| command.name == run::COMMAND.name);
+    Arguments::sorted(words, &command.form)
+        .inspect_err(|failure| folder.iter().for_each(|folder| run::refused(folder, failure)))
+}
+
 fn act(command: &Command, words: &[String]) -> ExitCode {
     if words.iter().any(|word| word == "--help" || word == "-h") {
         return shown(&format!("{}\n\n{CODES}", usage(command)));
     }
-    match Arguments::sorted(words, &command.form).and_then(|arguments| (command.act)(&arguments)) {
+    match sorted(command, words).and_then(|arguments| (command.act)(&arguments)) {
         Ok(verdict) => ExitCode::from(verdict.code()),
         Err(failure) => {
             note(&format!("mill: {failure}"));

@@ -3,7 +3,7 @@ use crate::arguments::Arguments;
 use crate::digest::sha256;
 use crate::failure::Failure;
 use crate::files::{bytes, failed};
-use crate::input::{list, Input};
+use crate::input::{list_beside, Input};
 use crate::json::Json;
 use crate::line::Line;
 use crate::session::Sizes;
@@ -177,11 +177,8 @@ fn inputs(pins: Option<&Source>, line: bool) -> Result<Vec<Input>, Failure> {
     let released = Input { clock: 1, pin: Pin::RES, level: Level::High };
     let Some(pins) = pins else { return Ok(vec![released]) };
     let content = std::str::from_utf8(&pins.bytes).map_err(|_| failed(Path::new(&pins.name), "is no text"))?;
-    let mut inputs = list(content).map_err(|words| Failure::Inputs(format!("{}:{words}", pins.name)))?;
-    if let Some(input) = inputs.iter().find(|input| line && input.pin == Pin::PA7) {
-        let words = format!("{}: {input}: PA7 is the line's while a path is sent (5)", pins.name);
-        return Err(Failure::Inputs(words));
-    }
+    let list = list_beside(line.then_some(Pin::PA7), content);
+    let mut inputs = list.map_err(|words| Failure::Inputs(format!("{}:{words}", pins.name)))?;
     let place = inputs.partition_point(|input| input.place() < released.place());
     if inputs.get(place).is_none_or(|input| input.place() != released.place()) {
         inputs.insert(place, released);
@@ -224,8 +221,13 @@ mod tests {
         assert_eq!(lines("1,RES,0\n9,RES,1").unwrap(), ["1,RES,0", "9,RES,1"]);
         assert_eq!(lines("5,PA7,0").unwrap(), ["1,RES,1", "5,PA7,0"]);
         assert!(matches!(lines("0,PA7,0"), Err(Failure::Inputs(_))));
-        let line = Source { name: "pins".into(), bytes: b"5,PA7,0".to_vec() };
-        assert!(matches!(inputs(Some(&line), true), Err(Failure::Inputs(_))));
+        let line = Source { name: "pins".into(), bytes: b"5,PB0,0\n5,PA7,0".to_vec() };
+        let order = "pins:2: PA7 does not come behind PB0 on clock 5: within a clock pins rise (5)";
+        assert_eq!(inputs(Some(&line), true), Err(Failure::Inputs(order.into())));
+        let line = Source { name: "pins".into(), bytes: b"4,PB0,0\n5,PA7,0".to_vec() };
+        let taken = "pins:2: PA7 is the line's while a path is sent (5)";
+        assert_eq!(inputs(Some(&line), true), Err(Failure::Inputs(taken.into())));
+        assert_eq!(inputs(Some(&line), false).map(|list| list.len()), Ok(3));
     }
 
     #[test]

@@ -47,16 +47,17 @@ fn show(text: &str) {
     let _ = terminal.write_all(text.as_bytes()).and_then(|()| terminal.flush());
 }
 
-/// The bar with the mill's seconds, how much faster than the mill it goes, and the time left.
+/// The bar with the mill's seconds; how much faster than the mill it goes, and the time left, as soon as that is known.
 fn bar(clock: u64, end: u64, rate: f64, taken: Duration) -> String {
     let part = if end == 0 { 1.0 } else { clock as f64 / end as f64 };
     let filled = (part * WIDTH as f64) as usize;
     let (done, all) = (clock as f64 / rate, end as f64 / rate);
     let taken = taken.as_secs_f64();
     let speed = if taken > 0.0 { done / taken } else { 0.0 };
-    let left = if speed > 0.0 { format!("{:.0} s left", (all - done) / speed) } else { String::new() };
+    let known = format!(", {speed:.1} times its speed, {:.0} s left", (all - done) / speed);
+    let known = if speed > 0.0 { known } else { String::new() };
     let bar: String = (0..WIDTH).map(|place| if place < filled { '#' } else { '.' }).collect();
-    format!("[{bar}] {done:.1} of {all:.1} s of the mill, {speed:.1} times its speed, {left}")
+    format!("[{bar}] {done:.1} of {all:.1} s of the mill{known}")
 }
 
 #[cfg(test)]
@@ -68,6 +69,8 @@ mod tests {
         let half = bar(30_000_000, 60_000_000, 1e6, Duration::from_secs(3));
         let words = "] 30.0 of 60.0 s of the mill, 10.0 times its speed, 3 s left";
         assert_eq!(half, format!("[{}{}{words}", "#".repeat(15), ".".repeat(15)));
-        assert!(bar(0, 0, 1e6, Duration::ZERO).contains("0.0 of 0.0 s"));
+        let first = bar(0, 60_000_000, 1e6, Duration::from_millis(1));
+        assert_eq!(first, format!("[{}] 0.0 of 60.0 s of the mill", ".".repeat(30)));
+        assert!(bar(0, 0, 1e6, Duration::ZERO).ends_with("] 0.0 of 0.0 s of the mill"));
     }
 }

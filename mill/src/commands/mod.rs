@@ -30,11 +30,11 @@ fn axis(arguments: &Arguments) -> Result<Axis, Failure> {
     Axis::named(arguments.value("--step"), arguments.value("--direction")).map_err(Failure::Usage)
 }
 
-/// Opens a run's folder; that it is partial is said on standard error.
+/// Opens a run's folder; that the run was cut short, or ended by an undefined opcode, is said on standard error.
 fn opened(name: &str) -> Result<Folder, Failure> {
     let folder = Folder::open(name)?;
-    if folder.partial {
-        note(&format!("mill: {name}: partial, the run is not complete"));
+    if let Some(words) = folder.unfinished() {
+        note(&format!("mill: {name}: {words}"));
     }
     Ok(folder)
 }

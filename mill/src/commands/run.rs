@@ -3,7 +3,7 @@ use super::Command;
 use crate::arguments::{Arguments, Form};
 use crate::failure::{Failure, Verdict};
 use crate::files::{note, print};
-use crate::folder::Writer;
+use crate::folder::{refuse, Writer};
 use crate::input::Input;
 use crate::interrupt;
 use crate::json::Json;
@@ -21,7 +21,7 @@ pub const COMMAND: Command = Command {
     name: "run",
     usage: "mill run TAPE [PATH] -o DIR --clock RATE [--baud RATE] [OPTION..]
   Sends the path's bytes on PA7, runs the tape, and writes records.csv, inputs.csv and summary.json into DIR, in the
-  place of an earlier run's.
+  place of an earlier run's. A refused run puts the file `refused` beside those: they are not read while it is there.
   --clock RATE    clocks a second, as 1MHz
   --baud RATE     bits a second on PA7; needed with a path
   --bits N        data bits, 5 to 8 (8)
@@ -77,7 +77,7 @@ enum End {
 
 fn act(arguments: &Arguments) -> Result<Verdict, Failure> {
     let folder = arguments.required("-o", |text| Ok(text.to_string()))?;
-    let plan = Plan::read(arguments)?;
+    let plan = Plan::read(arguments).inspect_err(|failure| refused(&folder, failure))?;
     if plan.vector() == 0 {
         note(&format!("mill: note: {} brings no reset vector, FFFCh and FFFDh are zero", plan.tape.name));
     }
@@ -87,7 +87,7 @@ fn act(arguments: &Arguments) -> Result<Verdict, Failure> {
         plan: &plan,
         session: Session::fresh(plan.memory.clone(), inputs, plan.sizes),
         watch: Watch::over(plan.line.as_ref()),
-        writer: Writer::create(Path::new(&folder))?,
+        writer: Writer::create(Path::new(&folder)).inspect_err(|failure| refused(&folder, failure))?,
     };
     run.writer.summarize(&run.summary(None))?;
     interrupt::noted();
@@ -97,6 +97,11 @@ fn act(arguments: &Arguments) -> Result<Verdict, Failure> {
     run.watch.warnings.iter().for_each(|words| note(&format!("mill: warning: {words}")));
     print(&format!("{folder}: {}\n", run.told(end)))?;
     run.verdict(end)
+}
+
+/// A run that is refused before it begins: an earlier one in its folder is not to be taken for it.
+pub fn refused(folder: &str, failure: &Failure) {
+    refuse(Path::new(folder), failure).iter().for_each(|words| note(&format!("mill: note: {words}")));
 }
 
 /// A run that is under way.
