@@ -234,13 +234,3 @@ goes-some l e = ltb-true 0 (l .left .0) (and-left (ltb 0 (l .left .0)) (eqb (l .
 
 pub goes-unstopped : (l : Leaped) → goesOn l ≡ true → l .progress .stop ≡ 0
 goes-unstopped l e = eqb-true (l .progress .stop) 0 (and-right (ltb 0 (l .left .0)) (eqb (l .progress .stop) 0) e)
-
--- what the loop keeps: the run of what is left is that of the start
-module _ (halt : Halt) (start : Leaped) (memory₀ clocks codes times₀ words₀ : List ℕ) where
-  pub record Running (memory times words : List ℕ) (at : Leaped) : Type 0 where
-    pub run : runFrom halt at memory clocks codes times words ≡ runFrom halt start memory₀ clocks codes times₀ words₀
-    pub leaping : Leaping (at .progress) (at .left .0) clocks codes times words
-    pub bound : at .leaps + at .left .0 ≤ lastClock
-    pub memory-kept : length memory ≡ length memory₀
-    pub times-kept : length times ≡ length times₀
-    pub words-kept : length words ≡ length words₀

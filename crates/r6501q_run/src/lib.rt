@@ -307,7 +307,8 @@ fn leap_span(
     leap_within(at, span, memory, sums, inputclocks, entries, halt)
 }
 
-// Leaps, until no clock is left or one stops.
+// Leaps, until no clock is left or one stops. The input lists that each is lent begin at the first unread entry, and
+// its inputs read are counted from there; in the end those count that the rest lacks.
 fn leap_on(
     start: Leaped,
     memory: &mut [u8],
@@ -330,20 +331,28 @@ fn leap_on(
     ensures { λ _. ⌜ now (sums .exit) ≡ sumsAfter (now (sums .entry)) (now (memory .entry)) (now (memory .exit)) ⌝ }
 {
     let mut at = start;
+    let mut clocks = inputclocks;
+    let mut codes = inputcodes;
     while goes_on(at) {
         at = leap_once(
             at,
             memory,
             sums,
-            inputclocks,
-            inputcodes,
+            clocks,
+            codes,
             outputclocks,
             outputwords,
             entries,
             halt,
         );
-        at = leap_span(at, memory, sums, inputclocks, entries, halt);
+        let from = at.progress.read;
+        clocks = &clocks[from..];
+        codes = &codes[from..];
+        at.progress.read = 0;
+        at = leap_span(at, memory, sums, clocks, entries, halt);
     }
+    let read = inputclocks.len() - clocks.len() + at.progress.read;
+    at.progress.read = read;
     at
 }
 
