@@ -30,8 +30,8 @@ low x = x % 256
 abbrev pub high : ℕ → ℕ
 high x = x / 256 % 256
 
-abbrev pub word : ℕ → ℕ → ℕ
-word h l = h * 256 + l
+abbrev pub word16 : ℕ → ℕ → ℕ
+word16 h l = h * 256 + l
 
 -- sums that wrap within 8 and 16 bits
 abbrev pub wrapping8 : ℕ → ℕ → ℕ

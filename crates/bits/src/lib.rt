@@ -1,7 +1,7 @@
 // Bits and bytes of numbers.
 ghost use mathlib.Core.Path.{_≡_};
 ghost use Prim.Native.Nat.{_-_, _<_};
-ghost use Rattle.bits.specs.Bits.{bit, digit, withBit, setWhere, flipWhere, low, high, word};
+ghost use Rattle.bits.specs.Bits.{bit, digit, withBit, setWhere, flipWhere, low, high, word16};
 
 // Whether bit k of a byte is set.
 pub fn bit8(x: u8, k: u8) -> bool
@@ -78,7 +78,7 @@ pub fn high_byte(x: u16) -> u8
 
 // The 16-bit number of two bytes.
 pub fn word16(upper: u8, lower: u8) -> u16
-    ensures { λ r. ⌜ r ≡ word upper lower ⌝ }
+    ensures { λ r. ⌜ r ≡ word16 upper lower ⌝ }
 {
     upper as u16 * 256 + lower as u16
 }

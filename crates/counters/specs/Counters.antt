@@ -2,7 +2,7 @@
 use mathlib.Core.Bool.{Bool, true, false, _&&_, not, cond}
 use Prim.Native.Nat.{ℕ, _+_, _-_, _*_, _/_, _%_}
 use lib.Dec.{leb, ltb, eqb}
-use Rattle.bits.specs.Bits.{low, high, word, digit}
+use Rattle.bits.specs.Bits.{low, high, word16, digit}
 use Rattle.counters.specs.declared.time.Clocks.{Clocks}
 use Rattle.counters.specs.declared.time.Ticks.{Ticks}
 use Rattle.counters.specs.declared.a.CounterA.{CounterA}
@@ -50,10 +50,10 @@ passA c running gap = atA c (cond running (c .count - gap .0) (c .count))
 
 -- 001, 6.1: the latch's bytes, and "the contents of the 16-bit latch are transferred to Counter A"
 unfoldable pub lowerA : CounterA → ℕ → CounterA
-lowerA c v = record { count = c .count; latch = word (high (c .latch)) v }
+lowerA c v = record { count = c .count; latch = word16 (high (c .latch)) v }
 
 unfoldable pub upperA : CounterA → ℕ → CounterA
-upperA c v = record { count = c .count; latch = word v (low (c .latch)) }
+upperA c v = record { count = c .count; latch = word16 v (low (c .latch)) }
 
 unfoldable pub loadCounterA : CounterA → CounterA
 loadCounterA c = atA c (c .latch)
@@ -92,10 +92,10 @@ latchesB c b c′ = record { count = c .count; latchb = b; latchc = c′; turnc 
 
 -- 001, 6.2: latch B's bytes, latch C a copy of it, the counter loaded from latch B
 unfoldable pub lowerB : CounterB → ℕ → CounterB
-lowerB c v = latchesB c (word (high (c .latchb)) v) (c .latchc)
+lowerB c v = latchesB c (word16 (high (c .latchb)) v) (c .latchc)
 
 unfoldable pub upperB : CounterB → ℕ → CounterB
-upperB c v = latchesB c (word v (low (c .latchb))) (c .latchc)
+upperB c v = latchesB c (word16 v (low (c .latchb))) (c .latchc)
 
 unfoldable pub copyB : CounterB → CounterB
 copyB c = latchesB c (c .latchb) (c .latchb)

@@ -7,44 +7,44 @@ use native.Mathlib.Omega.{arith}
 use lib.Dec.{leb}
 use borrow.Author.Tests.{leb-false}
 use Rattle.cpu_operations.specs.declared.Worked.{Worked}
-use Rattle.cpu_operations.specs.declared.Written.{Written}
-use Rattle.cpu_operations.specs.declared.Written.the-variants.{Nothing, Pushed, Stored}
+use Rattle.cpu_operations.specs.declared.Writing.{Writing}
+use Rattle.cpu_operations.specs.declared.Writing.the-variants.{Nothing, Pushed, Stored}
 use Rattle.cpu_operations.specs.Effects.{writesNothing}
 use Rattle.cpu.specs.declared.Outcome.the-variants.{Done}
-use Rattle.cpu.specs.declared.quiet.Work.{Work}
+use Rattle.cpu.specs.declared.work.Work.{Work}
 use Rattle.cpu.specs.Instruction.{instructionOf}
-use Rattle.cpu.specs.Quiet.{WithinSpan, nextWork, Quietly, none, more}
+use Rattle.cpu.specs.Work.{WithinSpan, nextWork, ReadOnly, none, more}
 
 module _ (span : ℕ) (answers memory : List ℕ) (start : Work) where
   -- what each such instruction keeps, all of them keep
-  pub quietly-keeps : (P : Work → Type 0) → P start
+  pub read-only-keeps : (P : Work → Type 0) → P start
       → ((w : Work) (worked : Worked) → P w → w .gone .0 + w .wait < span
       → instructionOf (w .registers) answers memory ≡ Done worked
-      → worked .written ≡ Nothing → P (nextWork w worked))
-      → {v : Work} → Quietly span answers memory start v → P v
-  quietly-keeps P first next none = first
-  quietly-keeps P first next (more {w = w} worked q inside e z) =
-      next w worked (quietly-keeps P first next q) inside e z
+      → worked .writing ≡ Nothing → P (nextWork w worked))
+      → {v : Work} → ReadOnly span answers memory start v → P v
+  read-only-keeps P first next none = first
+  read-only-keeps P first next (more {w = w} worked q inside e z) =
+      next w worked (read-only-keeps P first next q) inside e z
 
-  pub quietly-room : WithinSpan start span → {v : Work} → Quietly span answers memory start v → WithinSpan v span
-  quietly-room room =
-      quietly-keeps (λ (v : Work). WithinSpan v span) room
+  pub read-only-room : WithinSpan start span → {v : Work} → ReadOnly span answers memory start v → WithinSpan v span
+  read-only-room room =
+      read-only-keeps (λ (v : Work). WithinSpan v span) room
       (λ w worked kept inside e z. record { gone = omega arith; leaps = omega (arith, kept .leaps) })
 
 -- none starts within a span of no clocks
-pub none-quiet : (answers memory : List ℕ) (start : Work) {v : Work} → Quietly 0 answers memory start v → v ≡ start
-none-quiet answers memory start =
-    quietly-keeps 0 answers memory start (λ (v : Work). v ≡ start) refl
+pub none-started : (answers memory : List ℕ) (start : Work) {v : Work} → ReadOnly 0 answers memory start v → v ≡ start
+none-started answers memory start =
+    read-only-keeps 0 answers memory start (λ (v : Work). v ≡ start) refl
     (λ w worked kept inside e z. absurd (omega arith))
 
-pub nothing-written : (w : Written) → writesNothing w ≡ true → w ≡ Nothing
+pub nothing-written : (w : Writing) → writesNothing w ≡ true → w ≡ Nothing
 unfolding writesNothing
 nothing-written Nothing e = refl
 nothing-written (Pushed w) e = absurd (false≢true e)
 nothing-written (Stored x) e = absurd (false≢true e)
 
 -- the loop's own test: the instruction starts within the span, and writes nothing
-pub goes-on : (rest wait : ℕ) (w : Written) → (leb rest wait || not (writesNothing w)) ≡ false
+pub goes-on : (rest wait : ℕ) (w : Writing) → (leb rest wait || not (writesNothing w)) ≡ false
     → (wait < rest) × (w ≡ Nothing)
 goes-on rest wait w e = by-tests (leb rest wait) (writesNothing w) refl refl e
   where
@@ -54,13 +54,13 @@ goes-on rest wait w e = by-tests (leb rest wait) (writesNothing w) refl refl e
     by-tests false true p q k = (leb-false rest wait p, nothing-written w q)
     by-tests false false p q k = absurd (false≢true (sym k))
 
-pub goes-quietly : (span : ℕ) (answers memory : List ℕ) (start w : Work) (worked : Worked) → WithinSpan w span
-    → Quietly span answers memory start w
-    → (leb (span - w .gone .0) (w .wait) || not (writesNothing (worked .written))) ≡ false
+pub one-more-goes : (span : ℕ) (answers memory : List ℕ) (start w : Work) (worked : Worked) → WithinSpan w span
+    → ReadOnly span answers memory start w
+    → (leb (span - w .gone .0) (w .wait) || not (writesNothing (worked .writing))) ≡ false
     → instructionOf (w .registers) answers memory ≡ Done worked
-    → WithinSpan (nextWork w worked) span × Quietly span answers memory start (nextWork w worked)
-goes-quietly span answers memory start w worked room q left e =
-    let on = goes-on (span - w .gone .0) (w .wait) (worked .written) left in (
+    → WithinSpan (nextWork w worked) span × ReadOnly span answers memory start (nextWork w worked)
+one-more-goes span answers memory start w worked room q left e =
+    let on = goes-on (span - w .gone .0) (w .wait) (worked .writing) left in (
       record { gone = omega (arith, on .0, room .gone); leaps = omega (arith, room .leaps) },
       more worked q (omega (arith, on .0, room .gone)) e (on .1),
     )

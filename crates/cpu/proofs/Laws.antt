@@ -26,14 +26,14 @@ use Rattle.cpu_access.specs.declared.stack.Write.{Write}
 use Rattle.cpu_access.specs.declared.stack.Writes.{Writes}
 use Rattle.cpu_access.specs.Bus.{idle, got, askOf, readOf, fetchOf}
 use Rattle.memory.specs.Memory.{isRegister}
-use Rattle.cpu_access.specs.Stack.{noWrites, pushWord, readAfter}
+use Rattle.cpu_access.specs.Stack.{noWrites, pushAddress, readAfter}
 use Rattle.cpu_access.specs.Modes.{indexedBy, relativeTo, locateOf}
 use Rattle.cpu_access.proofs.Accesses.{readsOfMode, read-keeps, fetch-keeps, read-after-keeps, locate-keeps}
 use Rattle.cpu_access.proofs.Asks.{AsksRegister, idle-asks-register, register-more, register-asks, Answered, Within}
 use Rattle.cpu_access.proofs.Asks.{idle-answered, answered-more, answered-asks}
 use Rattle.cpu.specs.declared.Ask.{Ask}
 use Rattle.cpu_operations.specs.declared.Worked.{Worked}
-use Rattle.cpu_operations.specs.declared.Written.the-variants.{Pushed, Stored}
+use Rattle.cpu_operations.specs.declared.Writing.the-variants.{Pushed, Stored}
 use Rattle.cpu.specs.declared.Outcome.{Outcome}
 use Rattle.cpu.specs.declared.Outcome.the-variants.{Stopped, Asked, Done}
 use Rattle.cpu_operations.specs.declared.Executed.{Executed}
@@ -43,15 +43,15 @@ use Rattle.cpu_operations.specs.Effects.{withPc, pushesOf}
 use Rattle.cpu_operations.specs.Operations.{accessOf, isCall}
 use Rattle.cpu.specs.Instruction.{askWith, outcomeOf, operandByte, operandOf, carriedOut, writesAsked, callTo}
 use Rattle.cpu.specs.Instruction.{subroutineCall, executeOf, decodedTo, instructionOf}
-use Rattle.cpu_operations.proofs.Sound.{Cost, costOf, Sound, work-sound}
-use Rattle.cpu_operations.proofs.Stores.{isStore, stores, Stores, work-stores}
+use Rattle.cpu_operations.proofs.Sound.{Cost, costOf, Sound, operate-sound}
+use Rattle.cpu_operations.proofs.Stores.{isStore, stores, Stores, operate-stores}
 
 -- an instruction that is done
 pub record Fits (w : Worked) : Type 0 where
-  pub writes : pushesOf (w .written) .count ≤ 3
+  pub writes : pushesOf (w .writing) .count ≤ 3
   pub least : 2 ≤ w .length
   pub most : w .length ≤ 7
-  pub store : isStore (w .written) ≡ true → 3 ≤ w .length
+  pub store : isStore (w .writing) ≡ true → 3 ≤ w .length
 
 -- a question: it is that of a bus of which P holds after at most five reads
 pub record AskedBy (P : ℕ → Bus → Type 0) (q : Ask) : Type 0 where
@@ -121,18 +121,18 @@ table-fits o = looked-up costFits o rows tt
 pub entry-fits : (o : ℕ) (e : Entry) → decodeOf o ≡ decoded.Defined e → CostFits e
 entry-fits o e d = cost-fits e (rw d at (table-fits o))
 
-pushed-writes : (sp pc : ℕ) → pushWord sp pc .count ≤ 3
-unfolding pushWord
+pushed-writes : (sp pc : ℕ) → pushAddress sp pc .count ≤ 3
+unfolding pushAddress
 pushed-writes sp pc = lit≤ tt
 
-called-writes : (sp pc : ℕ) → pushesOf (Pushed (pushWord sp pc)) .count ≤ 3
+called-writes : (sp pc : ℕ) → pushesOf (Pushed (pushAddress sp pc)) .count ≤ 3
 unfolding pushesOf
 called-writes sp pc = pushed-writes sp pc
 
-asking-writes : (b : Bus) (sp pc : ℕ) → writesAsked b (pushWord sp pc) .count ≤ 3
+asking-writes : (b : Bus) (sp pc : ℕ) → writesAsked b (pushAddress sp pc) .count ≤ 3
 unfolding writesAsked
 asking-writes b sp pc =
-    cond-both (λ w. w .count ≤ 3) (b .missing) noWrites (pushWord sp pc) (λ t. lit≤ tt) (λ t. pushed-writes sp pc)
+    cond-both (λ w. w .count ≤ 3) (b .missing) noWrites (pushAddress sp pc) (λ t. lit≤ tt) (λ t. pushed-writes sp pc)
 
 -- an operand is the accumulator just in that mode
 pub locate-accumulator : (answers memory : List ℕ) (mode : Mode) (r : CpuRegisters) (b : Bus)
@@ -192,8 +192,9 @@ module _ (P : ℕ → Bus → Type 0) (answers memory : List ℕ)
       let g = operandByte answers memory (accessOf (e .operation)) (r .a) p in
       let q =
       operand-keeps (accessOf (e .operation)) j (r .a) p (locate-keeps P answers memory more asks (e .mode) 1 r b h) in
-      let s = work-sound P answers memory more asks (e .operation) i (withPc (p .pc) r) (operandOf (e .length) p g) q in
-      let t = work-stores answers memory (e .operation) (withPc (p .pc) r) (operandOf (e .length) p g) in
+      let s = operate-sound P answers memory more asks (e .operation) i (withPc (p .pc) r) (operandOf (e .length) p g)
+      q in
+      let t = operate-stores answers memory (e .operation) (withPc (p .pc) r) (operandOf (e .length) p g) in
       let k = sym (t .stored) in
       let a = ap (stores (e .operation)) (sym (locate-accumulator answers memory (e .mode) r b)) in
       outcome-lawful (readsOf e) noWrites _ (c .reads) (s .bus) (lit≤ tt)
@@ -209,7 +210,7 @@ module _ (P : ℕ → Bus → Type 0) (answers memory : List ℕ)
   unfolding subroutineCall
   call-lawful r n b l m h =
       let f = fetchOf answers memory (r .pc) b in
-      let w = pushWord (r .sp) (f .pc) in
+      let w = pushAddress (r .sp) (f .pc) in
       let g = readAfter answers memory w (f .pc) (f .bus) in
       let q = read-after-keeps P answers memory more asks 2 w (f .pc) (f .bus)
       (fetch-keeps P answers memory more asks 1 (r .pc) b h) in
@@ -253,7 +254,7 @@ module _ (r : CpuRegisters) (answers memory : List ℕ) where
   done-fits w e = rw e at by-register
 
   -- one that leaves a store takes 3 to 7 clocks
-  pub store-length : (w : Worked) (x : Write) → instructionOf r answers memory ≡ Done w → w .written ≡ Stored x
+  pub store-length : (w : Worked) (x : Write) → instructionOf r answers memory ≡ Done w → w .writing ≡ Stored x
       → (3 ≤ w .length) × (w .length ≤ 7)
   store-length w x e s = let f = done-fits w e in (f .store (rw s), f .most)
 

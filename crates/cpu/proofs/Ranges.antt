@@ -9,7 +9,7 @@ use lib.Bits.{and-lt, or-lt, xor-lt}
 use lib.Dec.{ltb, leb, eqb}
 use lib.IntN.{ℤ, pos, negsuc}
 use lib.ListN.{getD, length}
-use Rattle.bits.specs.Bits.{bit, digit, withBit, word, wrapping8, wrapping16}
+use Rattle.bits.specs.Bits.{bit, digit, withBit, word16, wrapping8, wrapping16}
 use Rattle.bits.proofs.Bits.{bit-room}
 use Rattle.bits.proofs.Cond.{cond-both, digit-le}
 use Rattle.cpu_opcodes.specs.Decode.{decodeOf}
@@ -51,24 +51,25 @@ use Rattle.cpu_access.specs.declared.modes.Place.{Place}
 use Rattle.cpu_access.specs.declared.stack.Write.{Write}
 use Rattle.cpu_access.specs.declared.stack.Writes.{Writes}
 use Rattle.cpu_access.specs.Bus.{nextAddress, memoryByte, vectorOf, idle, got, answered, asking, askOf, readOf}
-use Rattle.cpu_access.specs.Bus.{readWord, fetchOf, fetchWord, resetVector}
+use Rattle.cpu_access.specs.Bus.{readAddress, fetchOf, fetchAddress, resetVector}
 use Rattle.memory.specs.Memory.{isRegister}
-use Rattle.cpu_access.specs.Stack.{noWrites, stackAddress, up, pushWord, pushInterrupt, pullOf, pullWord, writtenOver}
+use Rattle.cpu_access.specs.Stack.{noWrites, stackAddress, up, pushAddress, pushInterrupt, pullOf, pullAddress}
+use Rattle.cpu_access.specs.Stack.{writtenOver}
 use Rattle.cpu_access.specs.Stack.{readAfter}
 use Rattle.cpu_access.specs.Modes.{zeroPageIndexed, zeroPagePointer, secondAddress, indexedBy, relativeTo, locateOf}
 use Rattle.cpu_operations.specs.declared.Access.{Access}
 use Rattle.cpu_operations.specs.declared.Access.the-variants.{Nothing, Read, Modify, Call}
 use Rattle.cpu_operations.specs.declared.Worked.{Worked}
-use Rattle.cpu_operations.specs.declared.Written.{Written}
-use Rattle.cpu_operations.specs.declared.Written.the-variants as written
+use Rattle.cpu_operations.specs.declared.Writing.{Writing}
+use Rattle.cpu_operations.specs.declared.Writing.the-variants as writing
 use Rattle.cpu_operations.specs.declared.Operand.{Operand}
 use Rattle.cpu_operations.specs.declared.Executed.{Executed}
-use Rattle.cpu_operations.specs.Effects.{withPc, withSp, withStatus, intoA, intoX, intoY, loadA, loadX, loadY, quiet}
+use Rattle.cpu_operations.specs.Effects.{withPc, withSp, withStatus, intoA, intoX, intoY, loadA, loadX, loadY, readOnly}
 use Rattle.cpu_operations.specs.Effects.{completed, stored, modified, branched, branchOperand, bitBranched, jumped}
 use Rattle.cpu_operations.specs.Effects.{pushedByte, pulledByte, returned, returnedFromInterrupt, interrupted}
 use Rattle.cpu_operations.specs.Effects.{breakTaken}
 use Rattle.cpu_operations.specs.Kinds.{withRead, changedBy, byteToStore, byteToPush, withPulled, withRegister}
-use Rattle.cpu_operations.specs.Operations.{accessOf, isCall, workOf}
+use Rattle.cpu_operations.specs.Operations.{accessOf, isCall, operateOf}
 use Rattle.cpu.specs.declared.Outcome.{Outcome}
 use Rattle.cpu.specs.declared.Outcome.the-variants.{Stopped, Asked, Done}
 use Rattle.cpu.specs.Entries.{resetEntry, interruptEntry}
@@ -95,14 +96,14 @@ pub record WritesFit (w : Writes) : Type 0 where
   pub second : WriteFits (w .second)
   pub third : WriteFits (w .third)
 
-abbrev pub WrittenFits : Written → Type 0
-WrittenFits written.Nothing = Unit
-WrittenFits (written.Pushed w) = WritesFit w
-WrittenFits (written.Stored x) = WriteFits x
+abbrev pub WritingFits : Writing → Type 0
+WritingFits writing.Nothing = Unit
+WritingFits (writing.Pushed w) = WritesFit w
+WritingFits (writing.Stored x) = WriteFits x
 
 pub record WorkedFits (w : Worked) : Type 0 where
   pub registers : InRange (w .registers)
-  pub written : WrittenFits (w .written)
+  pub writing : WritingFits (w .writing)
 
 record PlaceFits (p : Place) : Type 0 where
   address : p .address < 65536
@@ -112,8 +113,8 @@ record OperandFits (o : Operand) : Type 0 where
   address : o .address < 65536
   value : o .value < 256
 
-word-lt : (h l : ℕ) → h < 256 → l < 256 → word h l < 65536
-word-lt h l p q = omega arith
+word16-lt : (h l : ℕ) → h < 256 → l < 256 → word16 h l < 65536
+word16-lt h l p q = omega arith
 
 byte-wraps : (a b : ℕ) → wrapping8 a b < 256
 byte-wraps a b = omega arith
@@ -291,9 +292,9 @@ register-in Tya r i = load-a-in _ r (i .y) i
 no-write : WriteFits (noWrites .first)
 no-write = record { address = omega arith; value = omega arith }
 
-word-writes : (sp pc : ℕ) → sp < 256 → WritesFit (pushWord sp pc)
-unfolding pushWord
-word-writes sp pc h = record {
+address-writes : (sp pc : ℕ) → sp < 256 → WritesFit (pushAddress sp pc)
+unfolding pushAddress
+address-writes sp pc h = record {
   first = record { address = omega arith; value = omega arith };
   second = record { address = omega arith; value = omega arith };
   third = no-write;
@@ -307,25 +308,25 @@ interrupt-writes sp pc p h q = record {
   third = record { address = omega arith; value = q };
 }
 
-quiet-fits : (r : CpuRegisters) (n : ℕ) (b : Bus) → InRange r → WorkedFits (quiet r n b .worked)
-quiet-fits r n b i = record { registers = i; written = tt }
+read-only-fits : (r : CpuRegisters) (n : ℕ) (b : Bus) → InRange r → WorkedFits (readOnly r n b .worked)
+read-only-fits r n b i = record { registers = i; writing = tt }
 
 completed-fits : (o : Operand) (r : CpuRegisters) → InRange r → WorkedFits (completed o r .worked)
 unfolding completed
-completed-fits o r i = record { registers = i; written = tt }
+completed-fits o r i = record { registers = i; writing = tt }
 
 stored-fits : (o : Operand) (r : CpuRegisters) (v : ℕ) → OperandFits o → v < 256 → InRange r
     → WorkedFits (stored o r v .worked)
 unfolding stored
-stored-fits o r v f h i = record { registers = i; written = record { address = f .address; value = h } }
+stored-fits o r v f h i = record { registers = i; writing = record { address = f .address; value = h } }
 
 modified-fits : (o : Operand) (r : CpuRegisters) (k : Computed) → OperandFits o → k .value < 256 → InRange r
     → WorkedFits (modified o r k .worked)
 unfolding modified
 modified-fits o r k f h i =
-    cond-both (λ e. WorkedFits (e .worked)) (o .accumulator) (quiet (intoA k r) (o .length) (o .bus))
+    cond-both (λ e. WorkedFits (e .worked)) (o .accumulator) (readOnly (intoA k r) (o .length) (o .bus))
     (stored o (withStatus (k .status) r) (k .value))
-    (λ t. quiet-fits (intoA k r) (o .length) (o .bus) (a-in k r h i))
+    (λ t. read-only-fits (intoA k r) (o .length) (o .bus) (a-in k r h i))
     (λ t. stored-fits o (withStatus (k .status) r) (k .value) f h (status-in (k .status) r i))
 
 branched-fits : (o : Operand) (r : CpuRegisters) (taken : Bool) → o .address < 65536 → InRange r
@@ -333,13 +334,14 @@ branched-fits : (o : Operand) (r : CpuRegisters) (taken : Bool) → o .address <
 unfolding branched
 branched-fits o r taken h i =
     cond-both (λ e. WorkedFits (e .worked)) taken
-    (quiet (withPc (o .address) r) (o .length + 1 + digit (o .crossed)) (o .bus)) (quiet r (o .length) (o .bus))
-    (λ t. quiet-fits (withPc (o .address) r) (o .length + 1 + digit (o .crossed)) (o .bus) (pc-in (o .address) r h i))
-    (λ t. quiet-fits r (o .length) (o .bus) i)
+    (readOnly (withPc (o .address) r) (o .length + 1 + digit (o .crossed)) (o .bus)) (readOnly r (o .length) (o .bus))
+    (λ t. read-only-fits (withPc (o .address) r) (o .length + 1 + digit (o .crossed)) (o .bus)
+    (pc-in (o .address) r h i))
+    (λ t. read-only-fits r (o .length) (o .bus) i)
 
 jumped-fits : (o : Operand) (r : CpuRegisters) → OperandFits o → InRange r → WorkedFits (jumped o r .worked)
 unfolding jumped
-jumped-fits o r f i = quiet-fits (withPc (o .address) r) (o .length) (o .bus) (pc-in (o .address) r (f .address) i)
+jumped-fits o r f i = read-only-fits (withPc (o .address) r) (o .length) (o .bus) (pc-in (o .address) r (f .address) i)
 
 pushed-fits : (o : Operand) (r : CpuRegisters) (v : ℕ) → v < 256 → InRange r → WorkedFits (pushedByte o r v .worked)
 unfolding pushedByte
@@ -347,7 +349,7 @@ pushed-fits o r v h i =
     let s = i .sp in
     record {
       registers = sp-in _ r (byte-wraps (r .sp) 255) i;
-      written = record { first = record { address = omega arith; value = h }; second = no-write; third = no-write };
+      writing = record { first = record { address = omega arith; value = h }; second = no-write; third = no-write };
     }
 
 -- what is done is in range; a question says nothing of registers
@@ -364,7 +366,7 @@ module _ (answers memory : List ℕ) (given : Bytes answers) (bytes : Bytes memo
   vector-lt : (a : ℕ) → vectorOf memory a < 65536
   unfolding vectorOf
   vector-lt a =
-      word-lt (memoryByte memory (nextAddress a)) (memoryByte memory a) (memory-lt (nextAddress a)) (memory-lt a)
+      word16-lt (memoryByte memory (nextAddress a)) (memoryByte memory a) (memory-lt (nextAddress a)) (memory-lt a)
 
   ask-lt : (a : ℕ) (latch : Bool) (b : Bus) → askOf answers a latch b .value < 256
   unfolding askOf
@@ -378,11 +380,12 @@ module _ (answers memory : List ℕ) (given : Bytes answers) (bytes : Bytes memo
       cond-both (λ g. g .value < 256) (isRegister a) (askOf answers a latch b) (got (memoryByte memory a) b)
       (λ t. ask-lt a latch b) (λ t. memory-lt a)
 
-  read-word-lt : (a c : ℕ) (b : Bus) → readWord answers memory a c b .value < 65536
-  unfolding readWord
-  read-word-lt a c b =
+  read-address-lt : (a c : ℕ) (b : Bus) → readAddress answers memory a c b .value < 65536
+  unfolding readAddress
+  read-address-lt a c b =
       let g = readOf answers memory a false b in
-      word-lt (readOf answers memory c false (g .bus) .value) (g .value) (read-lt c false (g .bus)) (read-lt a false b)
+      word16-lt (readOf answers memory c false (g .bus) .value) (g .value) (read-lt c false (g .bus))
+      (read-lt a false b)
 
   fetch-lt : (pc : ℕ) (b : Bus) → fetchOf answers memory pc b .value < 256
   unfolding fetchOf
@@ -392,15 +395,15 @@ module _ (answers memory : List ℕ) (given : Bytes answers) (bytes : Bytes memo
   unfolding fetchOf
   fetch-pc pc b = address-wraps pc 1
 
-  fetch-word-lt : (pc : ℕ) (b : Bus) → fetchWord answers memory pc b .value < 65536
-  unfolding fetchWord
-  fetch-word-lt pc b =
+  fetch-address-lt : (pc : ℕ) (b : Bus) → fetchAddress answers memory pc b .value < 65536
+  unfolding fetchAddress
+  fetch-address-lt pc b =
       let f = fetchOf answers memory pc b in
-      word-lt (fetchOf answers memory (f .pc) (f .bus) .value) (f .value) (fetch-lt (f .pc) (f .bus)) (fetch-lt pc b)
+      word16-lt (fetchOf answers memory (f .pc) (f .bus) .value) (f .value) (fetch-lt (f .pc) (f .bus)) (fetch-lt pc b)
 
-  fetch-word-pc : (pc : ℕ) (b : Bus) → fetchWord answers memory pc b .pc < 65536
-  unfolding fetchWord
-  fetch-word-pc pc b = let f = fetchOf answers memory pc b in fetch-pc (f .pc) (f .bus)
+  fetch-address-pc : (pc : ℕ) (b : Bus) → fetchAddress answers memory pc b .pc < 65536
+  unfolding fetchAddress
+  fetch-address-pc pc b = let f = fetchOf answers memory pc b in fetch-pc (f .pc) (f .bus)
 
   pull-lt : (sp : ℕ) (b : Bus) → pullOf answers memory sp b .value < 256
   unfolding pullOf
@@ -410,15 +413,15 @@ module _ (answers memory : List ℕ) (given : Bytes answers) (bytes : Bytes memo
   unfolding pullOf
   pull-sp sp b = byte-wraps sp 1
 
-  pull-word-lt : (sp : ℕ) (b : Bus) → pullWord answers memory sp b .value < 65536
-  unfolding pullWord
-  pull-word-lt sp b =
+  pull-address-lt : (sp : ℕ) (b : Bus) → pullAddress answers memory sp b .value < 65536
+  unfolding pullAddress
+  pull-address-lt sp b =
       let p = pullOf answers memory sp b in
-      word-lt (pullOf answers memory (p .sp) (p .bus) .value) (p .value) (pull-lt (p .sp) (p .bus)) (pull-lt sp b)
+      word16-lt (pullOf answers memory (p .sp) (p .bus) .value) (p .value) (pull-lt (p .sp) (p .bus)) (pull-lt sp b)
 
-  pull-word-sp : (sp : ℕ) (b : Bus) → pullWord answers memory sp b .sp < 256
-  unfolding pullWord
-  pull-word-sp sp b = let p = pullOf answers memory sp b in pull-sp (p .sp) (p .bus)
+  pull-address-sp : (sp : ℕ) (b : Bus) → pullAddress answers memory sp b .sp < 256
+  unfolding pullAddress
+  pull-address-sp sp b = let p = pullOf answers memory sp b in pull-sp (p .sp) (p .bus)
 
   written-lt : (w : Writes) (a v : ℕ) → WritesFit w → v < 256 → writtenOver w a v < 256
   unfolding writtenOver
@@ -450,7 +453,7 @@ module _ (answers memory : List ℕ) (given : Bytes answers) (bytes : Bytes memo
 
   pointer-lt : (z : ℕ) (b : Bus) → zeroPagePointer answers memory z b .value < 65536
   unfolding zeroPagePointer
-  pointer-lt z b = read-word-lt z (wrapping8 z 1) b
+  pointer-lt z b = read-address-lt z (wrapping8 z 1) b
 
   locate-fits : (mode : Mode) (r : CpuRegisters) (b : Bus) → InRange r → PlaceFits (locateOf answers memory mode r b)
   unfolding locateOf
@@ -468,13 +471,13 @@ module _ (answers memory : List ℕ) (given : Bytes answers) (bytes : Bytes memo
         address = byte-fits _ (byte-wraps (fetchOf answers memory (r .pc) b .value) (r .y));
         pc = fetch-pc (r .pc) b;
       }
-  locate-fits Absolute r b i = record { address = fetch-word-lt (r .pc) b; pc = fetch-word-pc (r .pc) b }
+  locate-fits Absolute r b i = record { address = fetch-address-lt (r .pc) b; pc = fetch-address-pc (r .pc) b }
   locate-fits AbsoluteX r b i =
-      let f = fetchWord answers memory (r .pc) b in
-      indexed-fits (r .x) (f .value) (f .pc) (f .bus) (fetch-word-pc (r .pc) b)
+      let f = fetchAddress answers memory (r .pc) b in
+      indexed-fits (r .x) (f .value) (f .pc) (f .bus) (fetch-address-pc (r .pc) b)
   locate-fits AbsoluteY r b i =
-      let f = fetchWord answers memory (r .pc) b in
-      indexed-fits (r .y) (f .value) (f .pc) (f .bus) (fetch-word-pc (r .pc) b)
+      let f = fetchAddress answers memory (r .pc) b in
+      indexed-fits (r .y) (f .value) (f .pc) (f .bus) (fetch-address-pc (r .pc) b)
   locate-fits IndexedIndirect r b i =
       let f = fetchOf answers memory (r .pc) b in
       record { address = pointer-lt (zeroPageIndexed (f .value) (r .x)) (f .bus); pc = fetch-pc (r .pc) b }
@@ -483,8 +486,11 @@ module _ (answers memory : List ℕ) (given : Bytes answers) (bytes : Bytes memo
       let w = zeroPagePointer answers memory (f .value) (f .bus) in
       indexed-fits (r .y) (w .value) (f .pc) (w .bus) (fetch-pc (r .pc) b)
   locate-fits Indirect r b i =
-      let f = fetchWord answers memory (r .pc) b in
-      record { address = read-word-lt (f .value) (secondAddress (f .value)) (f .bus); pc = fetch-word-pc (r .pc) b }
+      let f = fetchAddress answers memory (r .pc) b in
+      record {
+        address = read-address-lt (f .value) (secondAddress (f .value)) (f .bus);
+        pc = fetch-address-pc (r .pc) b;
+      }
   locate-fits Relative r b i = relative-fits (fetchOf answers memory (r .pc) b) (fetch-pc (r .pc) b)
   locate-fits ZeroPageRelative r b i = record { address = byte-fits _ (fetch-lt (r .pc) b); pc = fetch-pc (r .pc) b }
 
@@ -505,32 +511,33 @@ module _ (answers memory : List ℕ) (given : Bytes answers) (bytes : Bytes memo
       record {
         registers = pulled-in p (withSp (g .sp) r) (g .value) (pull-lt (r .sp) (o .bus))
             (sp-in (g .sp) r (pull-sp (r .sp) (o .bus)) i);
-        written = tt;
+        writing = tt;
       }
 
   returned-fits : (o : Operand) (r : CpuRegisters) → InRange r → WorkedFits (returned answers memory o r .worked)
   unfolding returned
   returned-fits o r i =
-      let w = pullWord answers memory (r .sp) (o .bus) in
-      quiet-fits _ (o .length) (w .bus) (pc-in (nextAddress (w .value)) (withSp (w .sp) r) (address-wraps (w .value) 1)
-      (sp-in (w .sp) r (pull-word-sp (r .sp) (o .bus)) i))
+      let w = pullAddress answers memory (r .sp) (o .bus) in
+      read-only-fits _ (o .length) (w .bus)
+      (pc-in (nextAddress (w .value)) (withSp (w .sp) r) (address-wraps (w .value) 1)
+      (sp-in (w .sp) r (pull-address-sp (r .sp) (o .bus)) i))
 
   returnedFromInterrupt-fits : (o : Operand) (r : CpuRegisters) → InRange r
       → WorkedFits (returnedFromInterrupt answers memory o r .worked)
   unfolding returnedFromInterrupt
   returnedFromInterrupt-fits o r i =
       let p = pullOf answers memory (r .sp) (o .bus) in
-      let w = pullWord answers memory (p .sp) (p .bus) in
-      quiet-fits _ (o .length) (w .bus)
-      (pc-in (w .value) _ (pull-word-lt (p .sp) (p .bus))
-      (status-in _ (withSp (w .sp) r) (sp-in (w .sp) r (pull-word-sp (p .sp) (p .bus)) i)))
+      let w = pullAddress answers memory (p .sp) (p .bus) in
+      read-only-fits _ (o .length) (w .bus)
+      (pc-in (w .value) _ (pull-address-lt (p .sp) (p .bus))
+      (status-in _ (withSp (w .sp) r) (sp-in (w .sp) r (pull-address-sp (p .sp) (p .bus)) i)))
 
   interrupted-fits : (vector p : ℕ) (r : CpuRegisters) → p < 256 → InRange r
       → WorkedFits (interrupted memory vector p r)
   unfolding interrupted
   interrupted-fits vector p r h i = record {
     registers = record { a = i .a; x = i .x; y = i .y; sp = byte-wraps _ 255; pc = vector-lt vector };
-    written = interrupt-writes (r .sp) (r .pc) p (i .sp) h;
+    writing = interrupt-writes (r .sp) (r .pc) p (i .sp) h;
   }
 
   breakTaken-fits : (o : Operand) (r : CpuRegisters) → InRange r → WorkedFits (breakTaken memory o r .worked)
@@ -539,24 +546,24 @@ module _ (answers memory : List ℕ) (given : Bytes answers) (bytes : Bytes memo
       interrupted-fits 0xFFFE (pushed (r .status) true) (withPc (nextAddress (r .pc)) r) (pushed-lt (r .status) true)
       (pc-in (nextAddress (r .pc)) r (address-wraps (r .pc) 1) i)
 
-  work-fits : (op : Operation) (r : CpuRegisters) (o : Operand) → OperandFits o → InRange r
-      → WorkedFits (workOf answers memory op r o .worked)
-  unfolding workOf
-  work-fits (operation.Read p) r o f i = completed-fits o _ (read-in p r (o .value) (f .value) i)
-  work-fits (operation.Modify p) r o f i = modified-fits o r _ f (change-lt p (o .value) (r .status) (f .value)) i
-  work-fits (operation.Store p) r o f i = stored-fits o r _ f (store-lt p r i) i
-  work-fits (operation.Branch p) r o f i = branched-fits o r _ (f .address) i
-  work-fits (operation.BitBranch p) r o f i = bit-branched-fits o r _ i
-  work-fits (operation.Push p) r o f i = pushed-fits o r _ (push-lt p r i) i
-  work-fits (operation.Pull p) r o f i = pulled-fits p o r i
-  work-fits (operation.Register p) r o f i = completed-fits o _ (register-in p r i)
-  work-fits (operation.Flag p) r o f i = completed-fits o _ (status-in _ r i)
-  work-fits operation.Brk r o f i = breakTaken-fits o r i
-  work-fits operation.Jmp r o f i = jumped-fits o r f i
-  work-fits operation.Jsr r o f i = completed-fits o r i
-  work-fits operation.Nop r o f i = completed-fits o r i
-  work-fits operation.Rti r o f i = returnedFromInterrupt-fits o r i
-  work-fits operation.Rts r o f i = returned-fits o r i
+  operate-fits : (op : Operation) (r : CpuRegisters) (o : Operand) → OperandFits o → InRange r
+      → WorkedFits (operateOf answers memory op r o .worked)
+  unfolding operateOf
+  operate-fits (operation.Read p) r o f i = completed-fits o _ (read-in p r (o .value) (f .value) i)
+  operate-fits (operation.Modify p) r o f i = modified-fits o r _ f (change-lt p (o .value) (r .status) (f .value)) i
+  operate-fits (operation.Store p) r o f i = stored-fits o r _ f (store-lt p r i) i
+  operate-fits (operation.Branch p) r o f i = branched-fits o r _ (f .address) i
+  operate-fits (operation.BitBranch p) r o f i = bit-branched-fits o r _ i
+  operate-fits (operation.Push p) r o f i = pushed-fits o r _ (push-lt p r i) i
+  operate-fits (operation.Pull p) r o f i = pulled-fits p o r i
+  operate-fits (operation.Register p) r o f i = completed-fits o _ (register-in p r i)
+  operate-fits (operation.Flag p) r o f i = completed-fits o _ (status-in _ r i)
+  operate-fits operation.Brk r o f i = breakTaken-fits o r i
+  operate-fits operation.Jmp r o f i = jumped-fits o r f i
+  operate-fits operation.Jsr r o f i = completed-fits o r i
+  operate-fits operation.Nop r o f i = completed-fits o r i
+  operate-fits operation.Rti r o f i = returnedFromInterrupt-fits o r i
+  operate-fits operation.Rts r o f i = returned-fits o r i
 
   operand-lt : (access : Access) (a : ℕ) (p : Place) → a < 256 → operandByte answers memory access a p .value < 256
   unfolding operandByte
@@ -574,7 +581,7 @@ module _ (answers memory : List ℕ) (given : Bytes answers) (bytes : Bytes memo
       let p = locateOf answers memory (e .mode) r b in
       let q = locate-fits (e .mode) r b i in
       let g = operandByte answers memory (accessOf (e .operation)) (r .a) p in
-      work-fits (e .operation) (withPc (p .pc) r) (operandOf (e .length) p g)
+      operate-fits (e .operation) (withPc (p .pc) r) (operandOf (e .length) p g)
       (record { address = q .address; value = operand-lt (accessOf (e .operation)) (r .a) p (i .a) })
       (pc-in (p .pc) r (q .pc) i)
 
@@ -587,15 +594,15 @@ module _ (answers memory : List ℕ) (given : Bytes answers) (bytes : Bytes memo
   unfolding subroutineCall
   call-fits r n b i =
       let l = fetchOf answers memory (r .pc) b in
-      let w = pushWord (r .sp) (l .pc) in
-      let f = word-writes (r .sp) (l .pc) (i .sp) in
+      let w = pushAddress (r .sp) (l .pc) in
+      let f = address-writes (r .sp) (l .pc) (i .sp) in
       let h = readAfter answers memory w (l .pc) (l .bus) in
       outcome-fits (writesAsked (l .bus) w) (callTo r n l w h) (record {
         registers =
-            pc-in (word (h .value) (l .value)) _
-            (word-lt (h .value) (l .value) (read-after-lt w (l .pc) (l .bus) f) (fetch-lt (r .pc) b))
+            pc-in (word16 (h .value) (l .value)) _
+            (word16-lt (h .value) (l .value) (read-after-lt w (l .pc) (l .bus) f) (fetch-lt (r .pc) b))
             (sp-in _ r (byte-wraps _ 255) i);
-        written = f;
+        writing = f;
       })
 
   execute-fits : (e : Entry) (r : CpuRegisters) (b : Bus) → InRange r → DoneFits (executeOf answers memory e r b)
@@ -627,7 +634,7 @@ module _ (answers memory : List ℕ) (given : Bytes answers) (bytes : Bytes memo
   -- and so do the entries
   pub reset-in-range : (r : CpuRegisters) → InRange r → WorkedFits (resetEntry memory r)
   unfolding resetEntry
-  reset-in-range r i = record { registers = pc-in _ _ (vector-lt resetVector) (status-in _ r i); written = tt }
+  reset-in-range r i = record { registers = pc-in _ _ (vector-lt resetVector) (status-in _ r i); writing = tt }
 
   pub interrupt-in-range : (vector : ℕ) (r : CpuRegisters) → InRange r → WorkedFits (interruptEntry memory vector r)
   unfolding interruptEntry

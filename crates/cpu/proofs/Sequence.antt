@@ -8,7 +8,7 @@ use native.Mathlib.Omega.{arith}
 use lib.Dec.{ltb, eqb}
 use lib.ListN.{length, drop}
 use borrow.Author.Tests.{ne-eqb}
-use Rattle.bits.specs.Bits.{bit, low, high, word}
+use Rattle.bits.specs.Bits.{bit, low, high, word16}
 use Rattle.bits.proofs.Cond.{cond-map, cond-along}
 use Rattle.memory.specs.Memory.{isRegister}
 use Rattle.cpu_opcodes.specs.Decode.{decodeOf}
@@ -32,26 +32,26 @@ use Rattle.cpu_access.specs.declared.waiting.Waiting.{Waiting}
 use Rattle.cpu_access.specs.declared.waiting.Waiting.the-variants as waiting
 use Rattle.cpu_access.specs.Bus.{memoryByte, nextAddress, irqVector, vectorOf, idle, got, answered, asking, askOf}
 use Rattle.cpu_access.specs.Bus.{readOf, fetchOf}
-use Rattle.cpu_access.specs.Stack.{writeAt, noWrites, stackAddress, down, up, pushHigh, pushLow, pushAt, pushWord}
-use Rattle.cpu_access.specs.Stack.{pushInterrupt, pullOf, pullWord, writtenOver, readAfter}
+use Rattle.cpu_access.specs.Stack.{writeAt, noWrites, stackAddress, down, up, pushHigh, pushLow, pushAt, pushAddress}
+use Rattle.cpu_access.specs.Stack.{pushInterrupt, pullOf, pullAddress, writtenOver, readAfter}
 use Rattle.cpu_access.specs.Modes.{relativeTo, locateOf}
 use Rattle.cpu_access.specs.Accesses.{Accesses, ends, reads, writes, _>>=_, byteAfter, inOrder}
 use Rattle.cpu_access.specs.Operands.{Located, located}
 use Rattle.cpu_access.proofs.Asked.{Reply, asks, over, asked, onwards, onwards-idle}
-use Rattle.cpu_access.proofs.Follows.{then-then, locatedAt, read-on, read-after-on, fetch-on, pull-on, pull-word-on}
+use Rattle.cpu_access.proofs.Follows.{then-then, locatedAt, read-on, read-after-on, fetch-on, pull-on, pull-address-on}
 use Rattle.cpu_access.proofs.Follows.{locate-on}
 use Rattle.cpu_operations.specs.declared.Worked.{Worked}
 use Rattle.cpu_operations.specs.declared.Operand.{Operand}
 use Rattle.cpu_operations.specs.declared.Executed.{Executed}
-use Rattle.cpu_operations.specs.declared.Written.{Written}
-use Rattle.cpu_operations.specs.declared.Written.the-variants as written
+use Rattle.cpu_operations.specs.declared.Writing.{Writing}
+use Rattle.cpu_operations.specs.declared.Writing.the-variants as writing
 use Rattle.cpu_operations.specs.Updates.{withSp, withPc, withStatus, intoA}
 use Rattle.cpu_operations.specs.Kinds.{withRead, changedBy, byteToStore, branchTaken, bitBranchTaken, byteToPush}
 use Rattle.cpu_operations.specs.Kinds.{withPulled, withRegister, withFlag}
-use Rattle.cpu_operations.specs.Effects.{pushesOf, waitingOf, executed, quiet, completed, stored, modified, branched}
+use Rattle.cpu_operations.specs.Effects.{pushesOf, waitingOf, executed, readOnly, completed, stored, modified, branched}
 use Rattle.cpu_operations.specs.Effects.{branchOperand, bitBranched, jumped, pushedByte, pulledByte, returned}
 use Rattle.cpu_operations.specs.Effects.{returnedFromInterrupt, interrupted, breakTaken}
-use Rattle.cpu_operations.specs.Operations.{accessOf, workOf}
+use Rattle.cpu_operations.specs.Operations.{accessOf, operateOf}
 use Rattle.cpu.specs.declared.Ask.{Ask}
 use Rattle.cpu.specs.declared.Outcome.{Outcome}
 use Rattle.cpu.specs.declared.Outcome.the-variants.{Stopped, Asked, Done}
@@ -65,22 +65,22 @@ use Rattle.cpu.specs.Sequence.{instructionAccesses}
 
 -- What was asked, or how it ended, as the code has it. Of an instruction that pushes and stores the code has no words,
 -- and there is none: four pushes stand for it, and no instruction has so many (`done-fits`).
-abbrev pub writtenAs : Waiting → List Write → Written
-writtenAs waiting.Nothing [] = written.Nothing
-writtenAs waiting.Nothing (w ∷ ws) = written.Pushed (inOrder (w ∷ ws))
-writtenAs (waiting.Byte x) [] = written.Stored x
-writtenAs (waiting.Byte x) (w ∷ ws) = written.Pushed (inOrder (w ∷ w ∷ w ∷ w ∷ ws))
+abbrev pub writingAs : Waiting → List Write → Writing
+writingAs waiting.Nothing [] = writing.Nothing
+writingAs waiting.Nothing (w ∷ ws) = writing.Pushed (inOrder (w ∷ ws))
+writingAs (waiting.Byte x) [] = writing.Stored x
+writingAs (waiting.Byte x) (w ∷ ws) = writing.Pushed (inOrder (w ∷ w ∷ w ∷ w ∷ ws))
 
-pub pushes-as : (store : Waiting) (pushes : List Write) → pushesOf (writtenAs store pushes) .count ≤ 3
-    → pushesOf (writtenAs store pushes) ≡ inOrder pushes
+pub pushes-as : (store : Waiting) (pushes : List Write) → pushesOf (writingAs store pushes) .count ≤ 3
+    → pushesOf (writingAs store pushes) ≡ inOrder pushes
 unfolding pushesOf inOrder
 pushes-as waiting.Nothing [] h = refl
 pushes-as waiting.Nothing (w ∷ ws) h = refl
 pushes-as (waiting.Byte x) [] h = refl
 pushes-as (waiting.Byte x) (w ∷ ws) h = absurd (omega (arith, h))
 
-pub waiting-as : (store : Waiting) (pushes : List Write) → pushesOf (writtenAs store pushes) .count ≤ 3
-    → waitingOf (writtenAs store pushes) ≡ store
+pub waiting-as : (store : Waiting) (pushes : List Write) → pushesOf (writingAs store pushes) .count ≤ 3
+    → waitingOf (writingAs store pushes) ≡ store
 unfolding pushesOf waitingOf inOrder
 waiting-as waiting.Nothing [] h = refl
 waiting-as waiting.Nothing (w ∷ ws) h = refl
@@ -88,7 +88,7 @@ waiting-as (waiting.Byte x) [] h = refl
 waiting-as (waiting.Byte x) (w ∷ ws) h = absurd (omega (arith, h))
 
 abbrev pub workedOf : Conclusion → List Write → Worked
-workedOf l pushes = record { registers = l .registers; written = writtenAs (l .waiting) pushes; length = l .clocks }
+workedOf l pushes = record { registers = l .registers; writing = writingAs (l .waiting) pushes; length = l .clocks }
 
 abbrev pub outcomeFrom : Reply Ending → Outcome
 outcomeFrom (asks latch a ws) = Asked (record { address = a; latch = latch; writes = inOrder ws })
@@ -184,20 +184,20 @@ module _ (answers memory : List ℕ) where
 
   returned-on : (o : Operand) (r : CpuRegisters)
       → Same (o .bus) (left (returnAccesses (o .length) r)) (outcomeOf noWrites (returned answers memory o r))
-  unfolding returnAccesses returned pullWord pullOf inOrder
+  unfolding returnAccesses returned pullAddress pullOf inOrder
   returned-on o r =
-      ap outcomeFrom (pull-word-on answers memory (r .sp) (o .bus)
+      ap outcomeFrom (pull-address-on answers memory (r .sp) (o .bus)
       (λ pc. ends (leaves (conclusion (withPc (nextAddress pc) (withSp (up (up (r .sp))) r)) (o .length)))))
       ∙ ends-on _ _
 
   resumed-on : (o : Operand) (r : CpuRegisters)
       → Same (o .bus) (left (interruptReturnAccesses (o .length) r))
       (outcomeOf noWrites (returnedFromInterrupt answers memory o r))
-  unfolding interruptReturnAccesses returnedFromInterrupt pullWord pullOf inOrder
+  unfolding interruptReturnAccesses returnedFromInterrupt pullAddress pullOf inOrder
   resumed-on o r =
       let p = pullOf answers memory (r .sp) (o .bus) in
       ap outcomeFrom (pull-on answers memory (r .sp) (o .bus) _
-      ∙ pull-word-on answers memory (p .sp) (p .bus)
+      ∙ pull-address-on answers memory (p .sp) (p .bus)
       (λ pc. ends (leaves (conclusion
       (withPc pc (withStatus (unpacked (p .value)) (withSp (up (up (up (r .sp)))) r))) (o .length)))))
       ∙ ends-on _ _
@@ -229,7 +229,7 @@ module _ (answers memory : List ℕ) where
           (left (cond t (ends (conclusion (intoA (changedBy operation (r .a) (r .status)) r) n))
           (reads true (p .address) (λ v. storeBack n (locatedAt p) r (changedBy operation v (r .status))))))
           (outcomeOf noWrites (cond t
-          (quiet (intoA (changedBy operation (g .value) (r .status)) r) n (g .bus))
+          (readOnly (intoA (changedBy operation (g .value) (r .status)) r) n (g .bus))
           (stored (operandOf n p g) (withStatus (changedBy operation (g .value) (r .status) .status) r)
           (changedBy operation (g .value) (r .status) .value)))))
       by-test true = ends-on (p .bus) _
@@ -270,32 +270,33 @@ module _ (answers memory : List ℕ) where
 
   -- the pushes, and the high byte after them
   pushed-call : (r : CpuRegisters) (n l next : ℕ) (b : Bus)
-      → (let w : Writes = pushWord (r .sp) next in let h : Got = readAfter answers memory w next b in
+      → (let w : Writes = pushAddress (r .sp) next in let h : Got = readAfter answers memory w next b in
       Same b
       (writes (stackAddress (r .sp)) (high next) (writes (stackAddress (down (r .sp))) (low next)
-      (reads false next (λ v. ends (leaves (conclusion (withPc (word v l) (withSp (down (down (r .sp))) r)) n))))))
+      (reads false next (λ v. ends (leaves (conclusion (withPc (word16 v l) (withSp (down (down (r .sp))) r)) n))))))
       (outcomeOf (writesAsked b w)
-      (executed (withPc (word (h .value) l) (withSp (down (down (r .sp))) r)) (written.Pushed w) n (h .bus))))
-  unfolding onwards asked writesAsked inOrder byteAfter writtenOver pushWord
+      (executed (withPc (word16 (h .value) l) (withSp (down (down (r .sp))) r)) (writing.Pushed w) n (h .bus))))
+  unfolding onwards asked writesAsked inOrder byteAfter writtenOver pushAddress
   pushed-call r n l next b = by-answer (b .missing) refl
     where
       by-answer : (t : Bool) → b .missing ≡ t
-          → (let w : Writes = pushWord (r .sp) next in let h : Got = readAfter answers memory w next b in
+          → (let w : Writes = pushAddress (r .sp) next in let h : Got = readAfter answers memory w next b in
           outcomeFrom (cond t (asks (b .latch) (b .address) [])
           (asked memory (drop (b .used) answers) (pushHigh (r .sp) next ∷ pushLow (r .sp) next ∷ [])
-          (reads false next (λ v. ends (leaves (conclusion (withPc (word v l) (withSp (down (down (r .sp))) r)) n))))))
+          (reads false next
+          (λ v. ends (leaves (conclusion (withPc (word16 v l) (withSp (down (down (r .sp))) r)) n))))))
           ≡ outcomeOf (cond t noWrites w)
-          (executed (withPc (word (h .value) l) (withSp (down (down (r .sp))) r)) (written.Pushed w) n (h .bus)))
-      by-answer true m = missed noWrites (pushWord (r .sp) next) _ next b m
+          (executed (withPc (word16 (h .value) l) (withSp (down (down (r .sp))) r)) (writing.Pushed w) n (h .bus)))
+      by-answer true m = missed noWrites (pushAddress (r .sp) next) _ next b m
       by-answer false m =
-          let w = pushWord (r .sp) next in
+          let w = pushAddress (r .sp) next in
           let h = readAfter answers memory w next b in
           let pushes : List Write = pushHigh (r .sp) next ∷ pushLow (r .sp) next ∷ [] in
           let go : ℕ → Accesses Ending =
-          λ v. ends (leaves (conclusion (withPc (word v l) (withSp (down (down (r .sp))) r)) n)) in
+          λ v. ends (leaves (conclusion (withPc (word16 v l) (withSp (down (down (r .sp))) r)) n)) in
           ap outcomeFrom
           (sym (none-missing pushes b (reads false next go) m) ∙ read-after-on answers memory pushes w next b go refl)
-          ∙ ends-after pushes (h .bus) (conclusion (withPc (word (h .value) l) (withSp (down (down (r .sp))) r)) n)
+          ∙ ends-after pushes (h .bus) (conclusion (withPc (word16 (h .value) l) (withSp (down (down (r .sp))) r)) n)
 
   call-on : (r : CpuRegisters) (n : ℕ) (b : Bus)
       → Same b (left (callAccesses n r)) (subroutineCall answers memory r n b)
@@ -311,7 +312,7 @@ module _ (answers memory : List ℕ) where
   execute-on : (operation : Operation) (mode : Mode) (n : ℕ) (r : CpuRegisters) (b : Bus)
       → (let e : Entry = record { operation = operation; mode = mode; length = n } in
       Same b (left (operationAccesses operation mode n r)) (executeOf answers memory e r b))
-  unfolding operationAccesses executeOf carriedOut operandByte workOf
+  unfolding operationAccesses executeOf carriedOut operandByte operateOf
   execute-on (operation.Read o) mode n r b =
       let p = locateOf answers memory mode r b in
       let g = readOf answers memory (p .address) false (p .bus) in

@@ -7,14 +7,14 @@ use Rattle.cpu_alu.specs.Status.{pushed, withI}
 use Rattle.cpu_access.specs.declared.CpuRegisters.{CpuRegisters}
 use Rattle.cpu_access.specs.Bus.{resetVector, vectorOf}
 use Rattle.cpu_operations.specs.declared.Worked.{Worked}
-use Rattle.cpu_operations.specs.declared.Written.the-variants.{Nothing}
+use Rattle.cpu_operations.specs.declared.Writing.the-variants.{Nothing}
 use Rattle.cpu_operations.specs.Effects.{withPc, withStatus, interrupted}
 
 -- "reset pushes nothing and keeps SP"
 unfoldable pub resetEntry : List ℕ → CpuRegisters → Worked
 resetEntry memory r = record {
   registers = withPc (vectorOf memory resetVector) (withStatus (withI true (r .status)) r);
-  written = Nothing;
+  writing = Nothing;
   length = 7;
 }
 

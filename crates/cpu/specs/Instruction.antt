@@ -4,7 +4,7 @@
 use mathlib.Core.Bool.{Bool, true, false, cond}
 use mathlib.Core.List.{List}
 use Prim.Native.Nat.{ℕ, _+_, _*_}
-use Rattle.bits.specs.Bits.{word}
+use Rattle.bits.specs.Bits.{word16}
 use Rattle.cpu_opcodes.specs.Decode.{decodeOf}
 use Rattle.cpu_opcodes.specs.declared.Decoded.{Decoded}
 use Rattle.cpu_opcodes.specs.declared.Decoded.the-variants as decoded
@@ -16,19 +16,19 @@ use Rattle.cpu_access.specs.declared.CpuRegisters.{CpuRegisters}
 use Rattle.cpu_access.specs.declared.modes.Place.{Place}
 use Rattle.cpu_access.specs.declared.stack.Writes.{Writes}
 use Rattle.cpu_access.specs.Bus.{idle, got, readOf, fetchOf}
-use Rattle.cpu_access.specs.Stack.{noWrites, down, pushWord, readAfter}
+use Rattle.cpu_access.specs.Stack.{noWrites, down, pushAddress, readAfter}
 use Rattle.cpu_access.specs.Modes.{locateOf}
 use Rattle.cpu.specs.declared.Ask.{Ask}
 use Rattle.cpu.specs.declared.Outcome.{Outcome}
 use Rattle.cpu.specs.declared.Outcome.the-variants.{Stopped, Asked, Done}
 use Rattle.cpu.specs.Sequence.{undefinedStop}
-use Rattle.cpu_operations.specs.declared.Written.the-variants.{Pushed}
+use Rattle.cpu_operations.specs.declared.Writing.the-variants.{Pushed}
 use Rattle.cpu_operations.specs.declared.Operand.{Operand}
 use Rattle.cpu_operations.specs.declared.Executed.{Executed}
 use Rattle.cpu_operations.specs.declared.Access.{Access}
 use Rattle.cpu_operations.specs.declared.Access.the-variants.{Nothing, Read, Modify, Call}
 use Rattle.cpu_operations.specs.Effects.{withSp, withPc, executed}
-use Rattle.cpu_operations.specs.Operations.{accessOf, isCall, workOf}
+use Rattle.cpu_operations.specs.Operations.{accessOf, isCall, operateOf}
 
 -- what is asked, with the writes that were made before
 abbrev pub askWith : Writes → Bus → Ask
@@ -56,18 +56,19 @@ operandOf n p g = record {
   bus = g .bus;
 }
 
-abbrev pub workAt : List ℕ → List ℕ → Entry → CpuRegisters → Place → Executed
-workAt answers memory e r p =
-    workOf answers memory (e .operation) (withPc (p .pc) r)
+abbrev pub operateAt : List ℕ → List ℕ → Entry → CpuRegisters → Place → Executed
+operateAt answers memory e r p =
+    operateOf answers memory (e .operation) (withPc (p .pc) r)
     (operandOf (e .length) p (operandByte answers memory (accessOf (e .operation)) (r .a) p))
 
 unfoldable pub carriedOut : List ℕ → List ℕ → Entry → CpuRegisters → Bus → Executed
-carriedOut answers memory e r b = workAt answers memory e r (locateOf answers memory (e .mode) r b)
+carriedOut answers memory e r b = operateAt answers memory e r (locateOf answers memory (e .mode) r b)
 
 -- JSR: the low byte of the target is read, the address of its own last byte is pushed, and only then the high byte is
 -- read
 abbrev pub callTo : CpuRegisters → ℕ → Fetched → Writes → Got → Executed
-callTo r n l w h = executed (withPc (word (h .value) (l .value)) (withSp (down (down (r .sp))) r)) (Pushed w) n (h .bus)
+callTo r n l w h =
+    executed (withPc (word16 (h .value) (l .value)) (withSp (down (down (r .sp))) r)) (Pushed w) n (h .bus)
 
 -- a question about the low byte comes before the pushes
 unfoldable pub writesAsked : Bus → Writes → Writes
@@ -78,7 +79,7 @@ callPushed answers memory r n l w =
     outcomeOf (writesAsked (l .bus) w) (callTo r n l w (readAfter answers memory w (l .pc) (l .bus)))
 
 abbrev pub callAfter : List ℕ → List ℕ → CpuRegisters → ℕ → Fetched → Outcome
-callAfter answers memory r n l = callPushed answers memory r n l (pushWord (r .sp) (l .pc))
+callAfter answers memory r n l = callPushed answers memory r n l (pushAddress (r .sp) (l .pc))
 
 unfoldable pub subroutineCall : List ℕ → List ℕ → CpuRegisters → ℕ → Bus → Outcome
 subroutineCall answers memory r n b = callAfter answers memory r n (fetchOf answers memory (r .pc) b)

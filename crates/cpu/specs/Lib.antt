@@ -1,4 +1,4 @@
 pub mod Entries
 pub mod Instruction
-pub mod Quiet
+pub mod Work
 pub mod Sequence

@@ -2,7 +2,7 @@
 -- left out (01, One clock, 4).
 use mathlib.Core.Bool.{Bool, true, false, cond}
 use Prim.Native.Nat.{ℕ, _+_}
-use Rattle.bits.specs.Bits.{digit, low, high, word}
+use Rattle.bits.specs.Bits.{digit, low, high, word16}
 use Rattle.cpu_opcodes.specs.Decode.{decodeOf}
 use Rattle.cpu_opcodes.specs.declared.Decoded.{Decoded}
 use Rattle.cpu_opcodes.specs.declared.Decoded.the-variants as decoded
@@ -18,7 +18,7 @@ use Rattle.cpu_access.specs.declared.waiting.Waiting.{Waiting}
 use Rattle.cpu_access.specs.declared.waiting.Waiting.the-variants.{Nothing, Byte}
 use Rattle.cpu_access.specs.Bus.{nextAddress, resetVector, irqVector}
 use Rattle.cpu_access.specs.Stack.{writeAt, stackAddress, down, up}
-use Rattle.cpu_access.specs.Accesses.{Accesses, ends, reads, writes, _>>=_, _>>_, byteAt, latchAt, wordAt, push}
+use Rattle.cpu_access.specs.Accesses.{Accesses, ends, reads, writes, _>>=_, _>>_, byteAt, latchAt, addressAt, push}
 use Rattle.cpu_access.specs.Operands.{Located, located, branchTarget}
 use Rattle.cpu_operations.specs.Updates.{withSp, withPc, withStatus, intoA}
 use Rattle.cpu_operations.specs.Kinds.{withRead, changedBy, byteToStore, branchTaken, bitBranchTaken, byteToPush}
@@ -92,14 +92,14 @@ pullAccesses o n r = do
 -- RTS: PC is what is pulled, low byte first, plus 1
 unfoldable pub returnAccesses : ℕ → CpuRegisters → Accesses Conclusion
 returnAccesses n r = do
-  pc ← wordAt (stackAddress (up (r .sp))) (stackAddress (up (up (r .sp))))
+  pc ← addressAt (stackAddress (up (r .sp))) (stackAddress (up (up (r .sp))))
   ends (conclusion (withPc (nextAddress pc) (withSp (up (up (r .sp))) r)) n)
 
 -- RTI: the status is pulled, then PC
 unfoldable pub interruptReturnAccesses : ℕ → CpuRegisters → Accesses Conclusion
 interruptReturnAccesses n r = do
   v ← byteAt (stackAddress (up (r .sp)))
-  pc ← wordAt (stackAddress (up (up (r .sp)))) (stackAddress (up (up (up (r .sp)))))
+  pc ← addressAt (stackAddress (up (up (r .sp)))) (stackAddress (up (up (up (r .sp)))))
   ends (conclusion (withPc pc (withStatus (unpacked v) (withSp (up (up (up (r .sp)))) r))) n)
 
 -- 01, One clock, 4: "An entry .. sets I; NMI and IRQ push PC high, PC low, P", "each 7 clocks"; p is P as it is pushed.
@@ -109,7 +109,7 @@ entryAccesses vector p r = do
   push (r .sp) (high (r .pc))
   push (down (r .sp)) (low (r .pc))
   push (down (down (r .sp))) p
-  pc ← wordAt vector (nextAddress vector)
+  pc ← addressAt vector (nextAddress vector)
   ends (conclusion (withPc pc (withStatus (withI true (r .status)) (withSp (down (down (down (r .sp)))) r))) 7)
 
 -- BRK: PC + 2 is pushed, PC being that of the opcode, behind which r's stands; bits 4 and 5 are set in the byte
@@ -124,7 +124,7 @@ callAccesses n r = do
   push (r .sp) (high (nextAddress (r .pc)))
   push (down (r .sp)) (low (nextAddress (r .pc)))
   h ← byteAt (nextAddress (r .pc))
-  ends (conclusion (withPc (word h l) (withSp (down (down (r .sp))) r)) n)
+  ends (conclusion (withPc (word16 h l) (withSp (down (down (r .sp))) r)) n)
 
 -- ---- the instruction
 
@@ -197,7 +197,7 @@ instructionAccesses r = do
 -- "reset pushes nothing and keeps SP"
 unfoldable pub resetAccesses : CpuRegisters → Accesses Conclusion
 resetAccesses r = do
-  pc ← wordAt resetVector (nextAddress resetVector)
+  pc ← addressAt resetVector (nextAddress resetVector)
   ends (conclusion (withPc pc (withStatus (withI true (r .status)) r)) 7)
 
 -- NMI and IRQ: 01, Machine state, "a push sets bit 5 in the byte", and not bit 4

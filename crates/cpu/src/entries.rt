@@ -4,7 +4,7 @@ ghost use Rattle.cpu.specs.Entries.{resetEntry, interruptEntry};
 use cpu_access::CpuRegisters;
 use cpu_access::RESET_VECTOR;
 use cpu_operations::Worked;
-use cpu_operations::Written;
+use cpu_operations::Writing;
 use cpu_operations::effects::interrupted;
 use cpu_operations::updates::with_pc;
 use cpu_operations::updates::with_status;
@@ -18,7 +18,7 @@ pub fn reset_entry(memory: &[u8], registers: CpuRegisters) -> Worked
     let entered = with_pc(masked, cpu_access::vector(memory, RESET_VECTOR));
     Worked {
         registers: entered,
-        written: Written::Nothing,
+        writing: Writing::Nothing,
         length: 7,
     }
 }

@@ -19,12 +19,12 @@ use cpu_operations::Access;
 use cpu_operations::Executed;
 use cpu_operations::Operand;
 use cpu_operations::Worked;
-use cpu_operations::Written;
+use cpu_operations::Writing;
 use cpu_operations::effects;
 use cpu_operations::updates;
 
 pub mod entries; // entries.rt: reset, NMI and IRQ
-pub mod quiet; // quiet.rt: instructions one after the other
+pub mod work; // work.rt: instructions one after the other
 
 // The register that an instruction has to read next; a read-modify-write instruction takes a port's latch. The answer
 // is what is there after the writes, which only JSR has.
@@ -117,7 +117,7 @@ fn carried_out(
     let got = operand_byte(answers, memory, access, registers.a, place);
     let operand = operand_of(entry.length, place, got);
     let moved = updates::with_pc(registers, place.pc);
-    cpu_operations::work(answers, memory, operation, moved, operand)
+    cpu_operations::operate(answers, memory, operation, moved, operand)
 }
 
 // The writes that go with JSR's question: none where it is about the low byte, which is read before the pushes.
@@ -137,12 +137,12 @@ fn call(answers: &[u8], memory: &[u8], registers: CpuRegisters, length: u8, bus:
     let sp = registers.sp;
     let lower = bus.fetch(answers, memory, registers.pc);
     let between = lower.bus;
-    let writes = cpu_access::stack::push_word(sp, lower.pc);
+    let writes = cpu_access::stack::push_address(sp, lower.pc);
     let upper = between.read_after(answers, memory, writes, lower.pc);
     let after = upper.bus;
     let target = bits::word16(upper.value, lower.value);
     let called = updates::with_pc(updates::with_sp(registers, down(down(sp))), target);
-    let executed = effects::executed_with(called, Written::Pushed(writes), length, after);
+    let executed = effects::executed_with(called, Writing::Pushed(writes), length, after);
     outcome_of(writes_asked(between, writes), executed)
 }
 

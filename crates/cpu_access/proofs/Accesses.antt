@@ -14,9 +14,9 @@ use Rattle.cpu_access.specs.declared.Bus.{Bus}
 use Rattle.cpu_access.specs.declared.Fetched.{Fetched}
 use Rattle.cpu_access.specs.declared.CpuRegisters.{CpuRegisters}
 use Rattle.cpu_access.specs.declared.stack.Writes.{Writes}
-use Rattle.cpu_access.specs.Bus.{memoryByte, got, askOf, readOf, readWord, fetchOf, fetchWord}
+use Rattle.cpu_access.specs.Bus.{memoryByte, got, askOf, readOf, readAddress, fetchOf, fetchAddress}
 use Rattle.memory.specs.Memory.{isRegister}
-use Rattle.cpu_access.specs.Stack.{stackAddress, up, pullOf, pullWord, writtenOver, readAfter}
+use Rattle.cpu_access.specs.Stack.{stackAddress, up, pullOf, pullAddress, writtenOver, readAfter}
 use Rattle.cpu_access.specs.Modes.{zeroPageIndexed, zeroPagePointer, secondAddress, indexedBy, relativeTo}
 use Rattle.cpu_access.specs.Modes.{locateOf}
 
@@ -57,18 +57,18 @@ module _ (P : ℕ → Bus → Type 0) (answers memory : List ℕ)
       (λ e. asks k a false b e h)
       (λ e. more k b h)
 
-  pub read-word-keeps : (k a c : ℕ) (b : Bus) → P k b → P (suc (suc k)) (readWord answers memory a c b .bus)
-  unfolding readWord
-  read-word-keeps k a c b h =
+  pub read-address-keeps : (k a c : ℕ) (b : Bus) → P k b → P (suc (suc k)) (readAddress answers memory a c b .bus)
+  unfolding readAddress
+  read-address-keeps k a c b h =
       read-keeps (suc k) c false (readOf answers memory a false b .bus) (read-keeps k a false b h)
 
   pub fetch-keeps : (k pc : ℕ) (b : Bus) → P k b → P (suc k) (fetchOf answers memory pc b .bus)
   unfolding fetchOf
   fetch-keeps k pc b h = read-keeps k pc false b h
 
-  pub fetch-word-keeps : (k pc : ℕ) (b : Bus) → P k b → P (suc (suc k)) (fetchWord answers memory pc b .bus)
-  unfolding fetchWord
-  fetch-word-keeps k pc b h =
+  pub fetch-address-keeps : (k pc : ℕ) (b : Bus) → P k b → P (suc (suc k)) (fetchAddress answers memory pc b .bus)
+  unfolding fetchAddress
+  fetch-address-keeps k pc b h =
       let f : Fetched = fetchOf answers memory pc b in
       fetch-keeps (suc k) (f .pc) (f .bus) (fetch-keeps k pc b h)
 
@@ -76,9 +76,9 @@ module _ (P : ℕ → Bus → Type 0) (answers memory : List ℕ)
   unfolding pullOf
   pull-keeps k sp b h = read-keeps k (stackAddress (up sp)) false b h
 
-  pub pull-word-keeps : (k sp : ℕ) (b : Bus) → P k b → P (suc (suc k)) (pullWord answers memory sp b .bus)
-  unfolding pullWord
-  pull-word-keeps k sp b h =
+  pub pull-address-keeps : (k sp : ℕ) (b : Bus) → P k b → P (suc (suc k)) (pullAddress answers memory sp b .bus)
+  unfolding pullAddress
+  pull-address-keeps k sp b h =
       pull-keeps (suc k) (pullOf answers memory sp b .sp) (pullOf answers memory sp b .bus) (pull-keeps k sp b h)
 
   pub relative-keeps : (k : ℕ) (f : Fetched) → P k (f .bus) → P k (relativeTo f .bus)
@@ -91,7 +91,7 @@ module _ (P : ℕ → Bus → Type 0) (answers memory : List ℕ)
 
   pointer-keeps : (k z : ℕ) (b : Bus) → P k b → P (suc (suc k)) (zeroPagePointer answers memory z b .bus)
   unfolding zeroPagePointer
-  pointer-keeps k z b h = read-word-keeps k z (wrapping8 z 1) b h
+  pointer-keeps k z b h = read-address-keeps k z (wrapping8 z 1) b h
 
   pub locate-keeps : (mode : Mode) (k : ℕ) (r : CpuRegisters) (b : Bus) → P k b
       → P (readsOfMode mode k) (locateOf answers memory mode r b .bus)
@@ -102,13 +102,13 @@ module _ (P : ℕ → Bus → Type 0) (answers memory : List ℕ)
   locate-keeps ZeroPage k r b h = fetch-keeps k (r .pc) b h
   locate-keeps ZeroPageX k r b h = fetch-keeps k (r .pc) b h
   locate-keeps ZeroPageY k r b h = fetch-keeps k (r .pc) b h
-  locate-keeps Absolute k r b h = fetch-word-keeps k (r .pc) b h
+  locate-keeps Absolute k r b h = fetch-address-keeps k (r .pc) b h
   locate-keeps AbsoluteX k r b h =
-      let f = fetchWord answers memory (r .pc) b in
-      indexed-keeps (suc (suc k)) (r .x) (f .value) (f .pc) (f .bus) (fetch-word-keeps k (r .pc) b h)
+      let f = fetchAddress answers memory (r .pc) b in
+      indexed-keeps (suc (suc k)) (r .x) (f .value) (f .pc) (f .bus) (fetch-address-keeps k (r .pc) b h)
   locate-keeps AbsoluteY k r b h =
-      let f = fetchWord answers memory (r .pc) b in
-      indexed-keeps (suc (suc k)) (r .y) (f .value) (f .pc) (f .bus) (fetch-word-keeps k (r .pc) b h)
+      let f = fetchAddress answers memory (r .pc) b in
+      indexed-keeps (suc (suc k)) (r .y) (f .value) (f .pc) (f .bus) (fetch-address-keeps k (r .pc) b h)
   locate-keeps IndexedIndirect k r b h =
       let f = fetchOf answers memory (r .pc) b in
       pointer-keeps (suc k) (zeroPageIndexed (f .value) (r .x)) (f .bus) (fetch-keeps k (r .pc) b h)
@@ -118,7 +118,8 @@ module _ (P : ℕ → Bus → Type 0) (answers memory : List ℕ)
       indexed-keeps (suc (suc (suc k))) (r .y) (w .value) (f .pc) (w .bus)
       (pointer-keeps (suc k) (f .value) (f .bus) (fetch-keeps k (r .pc) b h))
   locate-keeps Indirect k r b h =
-      let f = fetchWord answers memory (r .pc) b in
-      read-word-keeps (suc (suc k)) (f .value) (secondAddress (f .value)) (f .bus) (fetch-word-keeps k (r .pc) b h)
+      let f = fetchAddress answers memory (r .pc) b in
+      read-address-keeps (suc (suc k)) (f .value) (secondAddress (f .value)) (f .bus)
+      (fetch-address-keeps k (r .pc) b h)
   locate-keeps Relative k r b h = relative-keeps (suc k) (fetchOf answers memory (r .pc) b) (fetch-keeps k (r .pc) b h)
   locate-keeps ZeroPageRelative k r b h = fetch-keeps k (r .pc) b h

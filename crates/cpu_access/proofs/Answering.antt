@@ -55,34 +55,34 @@ module _ {P : Type 0} (file : RegisterFile P) where
         all-read (peripheralsWritten file p (w .address) (w .value)) ws b
         ∙ ap (λ (q : P). allWritten q ws) (written-read p (w .address) (w .value) b)
 
-    -- `turn` says what the accesses come to with the answers so far. `from` goes on from there, with at most so many
-    -- turns: where they are over it finishes, all writes done; where they ask it answers, with the register's value as
+    -- `round` says what the accesses come to with the answers so far. `from` goes on from there, with at most so many
+    -- rounds: where they are over it finishes, all writes done; where they ask it answers, with the register's value as
     -- the writes so far leave it, and does the read's effect, but not yet the writes.
-    module _ {A R : Type 0} (memory : List ℕ) (turn : List ℕ → Reply A) (from : ℕ → P → List ℕ → R)
+    module _ {A R : Type 0} (memory : List ℕ) (round : List ℕ → Reply A) (from : ℕ → P → List ℕ → R)
         (finish : Performed P A → R) (most : ℕ)
-        (over-from : (n : ℕ) (p : P) (answers : List ℕ) (x : A) (ws : List Write) → turn answers ≡ over x ws
+        (over-from : (n : ℕ) (p : P) (answers : List ℕ) (x : A) (ws : List Write) → round answers ≡ over x ws
         → from (suc n) p answers ≡ finish (record { end = x; peripherals = allWritten p ws; writes = ws }))
         (asks-from : (n : ℕ) (p : P) (answers : List ℕ) (latch : Bool) (a : ℕ) (ws : List Write)
-        → turn answers ≡ asks latch a ws
+        → round answers ≡ asks latch a ws
         → from (suc n) p answers
         ≡ from n (file .afterRead p a) (answers ++ (file .value (allWritten p ws) latch a ∷ [])))
-        (bound : (answers : List ℕ) (latch : Bool) (a : ℕ) (ws : List Write) → turn answers ≡ asks latch a ws
+        (bound : (answers : List ℕ) (latch : Bool) (a : ℕ) (ws : List Write) → round answers ≡ asks latch a ws
         → length answers < most) where
-      -- with turns enough, what is left of the accesses is performed
+      -- with rounds enough, what is left of the accesses is performed
       abbrev Performs : Accesses A → Type 0
       Performs t = (n : ℕ) (p : P) (answers : List ℕ) (before : List Write) → most ≤ n + length answers
-          → ((more : List ℕ) → turn (answers ++ more) ≡ asked memory more before t)
+          → ((more : List ℕ) → round (answers ++ more) ≡ asked memory more before t)
           → from (suc n) p answers ≡ finish (performed file memory (allWritten p before) before t)
 
-      turn-now : (t : Accesses A) (answers : List ℕ) (before : List Write)
-          → ((more : List ℕ) → turn (answers ++ more) ≡ asked memory more before t)
-          → turn answers ≡ asked memory [] before t
-      turn-now t answers before same = rw append-nil at (same [])
+      round-now : (t : Accesses A) (answers : List ℕ) (before : List Write)
+          → ((more : List ℕ) → round (answers ++ more) ≡ asked memory more before t)
+          → round answers ≡ asked memory [] before t
+      round-now t answers before same = rw append-nil at (same [])
 
       performs-ends : (x : A) → Performs (ends x)
       unfolding performed asked
       performs-ends x n p answers before room same =
-          over-from n p answers x before (turn-now (ends x) answers before same)
+          over-from n p answers x before (round-now (ends x) answers before same)
 
       performs-writes : (a v : ℕ) (t : Accesses A) → Performs t → Performs (writes a v t)
       unfolding performed asked
@@ -93,14 +93,14 @@ module _ {P : Type 0} (file : RegisterFile P) where
           → isRegister a ≡ true → Performs (reads latch a go)
       unfolding asked
       performs-register latch a go then e zero p answers before room same =
-          absurd (let few = bound answers latch a before (rw e at (turn-now (reads latch a go) answers before same)) in
+          absurd (let few = bound answers latch a before (rw e at (round-now (reads latch a go) answers before same)) in
           omega (arith, few))
       performs-register latch a go then e (suc n) p answers before room same =
           let v = file .value (allWritten p before) latch a in
-          asks-from (suc n) p answers latch a before (rw e at (turn-now (reads latch a go) answers before same))
+          asks-from (suc n) p answers latch a before (rw e at (round-now (reads latch a go) answers before same))
           ∙ then v n (file .afterRead p a) (answers ++ (v ∷ [])) before
           (rw (length-append answers (v ∷ [])) (omega arith))
-          (λ more. ap turn (append-assoc answers (v ∷ []) more) ∙ rw e at (same (v ∷ more)))
+          (λ more. ap round (append-assoc answers (v ∷ []) more) ∙ rw e at (same (v ∷ more)))
           ∙ ap (λ (q : P). finish (performed file memory q before (go v))) (sym (all-read p before a))
           ∙ ap finish (register-read memory (allWritten p before) before latch a go e)
 

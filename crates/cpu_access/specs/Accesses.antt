@@ -5,7 +5,7 @@ use mathlib.Core.List.{List, [], _∷_, _++_}
 use Prim.Native.Nat.{ℕ, _+_}
 use lib.Dec.{eqb}
 use lib.ListN.{length}
-use Rattle.bits.specs.Bits.{word}
+use Rattle.bits.specs.Bits.{word16}
 use Rattle.memory.specs.Memory.{isRegister}
 use Rattle.cpu_access.specs.declared.stack.Write.{Write}
 use Rattle.cpu_access.specs.declared.stack.Writes.{Writes}
@@ -38,11 +38,11 @@ abbrev pub latchAt : ℕ → Accesses ℕ
 latchAt a = reads true a ends
 
 -- two bytes read, the low byte first
-abbrev pub wordAt : ℕ → ℕ → Accesses ℕ
-wordAt a b = do
+abbrev pub addressAt : ℕ → ℕ → Accesses ℕ
+addressAt a b = do
   l ← byteAt a
   h ← byteAt b
-  ends (word h l)
+  ends (word16 h l)
 
 -- a byte written at SP
 abbrev pub push : ℕ → ℕ → Accesses (Unit {0})

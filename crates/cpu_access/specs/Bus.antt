@@ -4,13 +4,13 @@ use mathlib.Core.List.{List}
 use Prim.Native.Nat.{ℕ, _+_, _*_, _/_, _%_}
 use lib.Dec.{ltb}
 use lib.ListN.{getD, length}
-use Rattle.bits.specs.Bits.{word, wrapping16}
+use Rattle.bits.specs.Bits.{word16, wrapping16}
 use Rattle.memory.specs.Memory.{isRegister}
 use Rattle.cpu_access.specs.declared.Bus.{Bus}
 use Rattle.cpu_access.specs.declared.Got.{Got}
-use Rattle.cpu_access.specs.declared.Word.{Word}
+use Rattle.cpu_access.specs.declared.GotAddress.{GotAddress}
 use Rattle.cpu_access.specs.declared.Fetched.{Fetched}
-use Rattle.cpu_access.specs.declared.FetchedWord.{FetchedWord}
+use Rattle.cpu_access.specs.declared.FetchedAddress.{FetchedAddress}
 
 -- 01, Machine state: "PC and pointers go from FFFFh to 0000h"
 abbrev pub nextAddress : ℕ → ℕ
@@ -32,7 +32,7 @@ irqVector = 0xFFFE
 
 -- a vector, at the end of memory: its low byte, and the high byte behind it
 unfoldable pub vectorOf : List ℕ → ℕ → ℕ
-vectorOf memory a = word (memoryByte memory (nextAddress a)) (memoryByte memory a)
+vectorOf memory a = word16 (memoryByte memory (nextAddress a)) (memoryByte memory a)
 
 -- nothing asked yet
 abbrev pub idle : Bus
@@ -65,14 +65,14 @@ unfoldable pub readOf : List ℕ → List ℕ → ℕ → Bool → Bus → Got
 readOf answers memory a latch b = cond (isRegister a) (askOf answers a latch b) (got (memoryByte memory a) b)
 
 -- two reads: the low byte, then the high byte
-abbrev pub wordWith : ℕ → Got → Word
-wordWith l g = record { value = word (g .value) l; bus = g .bus }
+abbrev pub addressWith : ℕ → Got → GotAddress
+addressWith l g = record { value = word16 (g .value) l; bus = g .bus }
 
-abbrev pub highAfter : List ℕ → List ℕ → ℕ → Got → Word
-highAfter answers memory a g = wordWith (g .value) (readOf answers memory a false (g .bus))
+abbrev pub highAfter : List ℕ → List ℕ → ℕ → Got → GotAddress
+highAfter answers memory a g = addressWith (g .value) (readOf answers memory a false (g .bus))
 
-unfoldable pub readWord : List ℕ → List ℕ → ℕ → ℕ → Bus → Word
-readWord answers memory a h b = highAfter answers memory h (readOf answers memory a false b)
+unfoldable pub readAddress : List ℕ → List ℕ → ℕ → ℕ → Bus → GotAddress
+readAddress answers memory a h b = highAfter answers memory h (readOf answers memory a false b)
 
 -- the byte at PC, and PC past it
 abbrev pub fetchedAt : ℕ → Got → Fetched
@@ -82,11 +82,11 @@ unfoldable pub fetchOf : List ℕ → List ℕ → ℕ → Bus → Fetched
 fetchOf answers memory pc b = fetchedAt pc (readOf answers memory pc false b)
 
 -- the two bytes at PC, low byte first, and PC past them
-abbrev pub wordFetched : ℕ → Fetched → FetchedWord
-wordFetched l f = record { value = word (f .value) l; pc = f .pc; bus = f .bus }
+abbrev pub addressFetched : ℕ → Fetched → FetchedAddress
+addressFetched l f = record { value = word16 (f .value) l; pc = f .pc; bus = f .bus }
 
-abbrev pub secondFetched : List ℕ → List ℕ → Fetched → FetchedWord
-secondFetched answers memory f = wordFetched (f .value) (fetchOf answers memory (f .pc) (f .bus))
+abbrev pub secondFetched : List ℕ → List ℕ → Fetched → FetchedAddress
+secondFetched answers memory f = addressFetched (f .value) (fetchOf answers memory (f .pc) (f .bus))
 
-unfoldable pub fetchWord : List ℕ → List ℕ → ℕ → Bus → FetchedWord
-fetchWord answers memory pc b = secondFetched answers memory (fetchOf answers memory pc b)
+unfoldable pub fetchAddress : List ℕ → List ℕ → ℕ → Bus → FetchedAddress
+fetchAddress answers memory pc b = secondFetched answers memory (fetchOf answers memory pc b)

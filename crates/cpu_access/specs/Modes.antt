@@ -4,18 +4,18 @@ use mathlib.Core.Bool.{Bool, true, false, not, cond}
 use mathlib.Core.List.{List}
 use Prim.Native.Nat.{ℕ, _+_, _*_, _/_, _%_}
 use lib.Dec.{ltb, eqb}
-use Rattle.bits.specs.Bits.{low, high, word, wrapping8, wrapping16}
+use Rattle.bits.specs.Bits.{low, high, word16, wrapping8, wrapping16}
 use Rattle.cpu_opcodes.specs.declared.Mode.{Mode}
 use Rattle.cpu_opcodes.specs.declared.Mode.the-variants.{Implied, Accumulator, Immediate, ZeroPage, ZeroPageX}
 use Rattle.cpu_opcodes.specs.declared.Mode.the-variants.{ZeroPageY, Absolute, AbsoluteX, AbsoluteY, IndexedIndirect}
 use Rattle.cpu_opcodes.specs.declared.Mode.the-variants.{IndirectIndexed, Indirect, Relative, ZeroPageRelative}
 use Rattle.cpu_access.specs.declared.Bus.{Bus}
-use Rattle.cpu_access.specs.declared.Word.{Word}
+use Rattle.cpu_access.specs.declared.GotAddress.{GotAddress}
 use Rattle.cpu_access.specs.declared.Fetched.{Fetched}
-use Rattle.cpu_access.specs.declared.FetchedWord.{FetchedWord}
+use Rattle.cpu_access.specs.declared.FetchedAddress.{FetchedAddress}
 use Rattle.cpu_access.specs.declared.CpuRegisters.{CpuRegisters}
 use Rattle.cpu_access.specs.declared.modes.Place.{Place}
-use Rattle.cpu_access.specs.Bus.{nextAddress, readWord, fetchOf, fetchWord}
+use Rattle.cpu_access.specs.Bus.{nextAddress, readAddress, fetchOf, fetchAddress}
 
 -- an operand at an address
 abbrev pub placeAt : ℕ → ℕ → Bus → Place
@@ -39,7 +39,7 @@ atZeroPage f = placeAt (f .value) (f .pc) (f .bus)
 abbrev pub atZeroPageIndexed : ℕ → Fetched → Place
 atZeroPageIndexed i f = placeAt (zeroPageIndexed (f .value) i) (f .pc) (f .bus)
 
-abbrev pub atAbsolute : FetchedWord → Place
+abbrev pub atAbsolute : FetchedAddress → Place
 atAbsolute f = placeAt (f .value) (f .pc) (f .bus)
 
 -- an operand at a base plus an index, which may lie in another page than the base
@@ -49,17 +49,17 @@ crossing base a pc b = record { address = a; crossed = otherPage base a; accumul
 unfoldable pub indexedBy : ℕ → ℕ → ℕ → Bus → Place
 indexedBy i base pc b = crossing base (wrapping16 base i) pc b
 
-abbrev pub atIndexed : ℕ → FetchedWord → Place
+abbrev pub atIndexed : ℕ → FetchedAddress → Place
 atIndexed i f = indexedBy i (f .value) (f .pc) (f .bus)
 
 -- the pointer in the zero page at z; its high byte stays in the zero page
-unfoldable pub zeroPagePointer : List ℕ → List ℕ → ℕ → Bus → Word
-zeroPagePointer answers memory z b = readWord answers memory z (wrapping8 z 1) b
+unfoldable pub zeroPagePointer : List ℕ → List ℕ → ℕ → Bus → GotAddress
+zeroPagePointer answers memory z b = readAddress answers memory z (wrapping8 z 1) b
 
-abbrev pub pointed : ℕ → Word → Place
+abbrev pub pointed : ℕ → GotAddress → Place
 pointed pc w = placeAt (w .value) pc (w .bus)
 
-abbrev pub pointedIndexed : ℕ → ℕ → Word → Place
+abbrev pub pointedIndexed : ℕ → ℕ → GotAddress → Place
 pointedIndexed i pc w = indexedBy i (w .value) pc (w .bus)
 
 -- (zp,X): the pointer stands at the indexed address
@@ -74,10 +74,11 @@ atIndirectIndexed answers memory y f = pointedIndexed y (f .pc) (zeroPagePointer
 -- 02, U5, JMP indirect: "the high byte comes from the start of that same page" where the pointer ends in FFh, else from
 -- the pointer plus 1: the page stays, and the low byte wraps
 abbrev pub secondAddress : ℕ → ℕ
-secondAddress p = word (high p) (wrapping8 (low p) 1)
+secondAddress p = word16 (high p) (wrapping8 (low p) 1)
 
-abbrev pub atIndirect : List ℕ → List ℕ → FetchedWord → Place
-atIndirect answers memory f = pointed (f .pc) (readWord answers memory (f .value) (secondAddress (f .value)) (f .bus))
+abbrev pub atIndirect : List ℕ → List ℕ → FetchedAddress → Place
+atIndirect answers memory f =
+    pointed (f .pc) (readAddress answers memory (f .value) (secondAddress (f .value)) (f .bus))
 
 -- a branch's offset as a 16-bit number: from 80h up it is negative
 unfoldable pub displacement : ℕ → ℕ
@@ -98,11 +99,11 @@ locateOf answers memory Immediate r b = placeAt (r .pc) (nextAddress (r .pc)) b
 locateOf answers memory ZeroPage r b = atZeroPage (fetchOf answers memory (r .pc) b)
 locateOf answers memory ZeroPageX r b = atZeroPageIndexed (r .x) (fetchOf answers memory (r .pc) b)
 locateOf answers memory ZeroPageY r b = atZeroPageIndexed (r .y) (fetchOf answers memory (r .pc) b)
-locateOf answers memory Absolute r b = atAbsolute (fetchWord answers memory (r .pc) b)
-locateOf answers memory AbsoluteX r b = atIndexed (r .x) (fetchWord answers memory (r .pc) b)
-locateOf answers memory AbsoluteY r b = atIndexed (r .y) (fetchWord answers memory (r .pc) b)
+locateOf answers memory Absolute r b = atAbsolute (fetchAddress answers memory (r .pc) b)
+locateOf answers memory AbsoluteX r b = atIndexed (r .x) (fetchAddress answers memory (r .pc) b)
+locateOf answers memory AbsoluteY r b = atIndexed (r .y) (fetchAddress answers memory (r .pc) b)
 locateOf answers memory IndexedIndirect r b = atIndexedIndirect answers memory (r .x) (fetchOf answers memory (r .pc) b)
 locateOf answers memory IndirectIndexed r b = atIndirectIndexed answers memory (r .y) (fetchOf answers memory (r .pc) b)
-locateOf answers memory Indirect r b = atIndirect answers memory (fetchWord answers memory (r .pc) b)
+locateOf answers memory Indirect r b = atIndirect answers memory (fetchAddress answers memory (r .pc) b)
 locateOf answers memory Relative r b = relativeTo (fetchOf answers memory (r .pc) b)
 locateOf answers memory ZeroPageRelative r b = atZeroPage (fetchOf answers memory (r .pc) b)

@@ -9,7 +9,7 @@ use Rattle.cpu_opcodes.specs.declared.Mode.the-variants.{IndirectIndexed, Indir
 use Rattle.cpu_access.specs.declared.CpuRegisters.{CpuRegisters}
 use Rattle.cpu_access.specs.Bus.{nextAddress}
 use Rattle.cpu_access.specs.Modes.{otherPage, zeroPageIndexed, secondAddress, displacement}
-use Rattle.cpu_access.specs.Accesses.{Accesses, ends, _>>=_, byteAt, wordAt}
+use Rattle.cpu_access.specs.Accesses.{Accesses, ends, _>>=_, byteAt, addressAt}
 
 -- where the operand lies, whether finding it crossed a page, whether it is the accumulator, and PC past the operand
 -- bytes
@@ -38,15 +38,15 @@ abbrev pub branchTarget : ℕ → ℕ → Located
 branchTarget offset pc = countedFrom pc (wrapping16 pc (displacement offset)) pc
 
 -- the two operand bytes at PC, and PC past them
-abbrev pub operandWord : ℕ → Accesses ℕ
-operandWord pc = wordAt pc (nextAddress pc)
+abbrev pub operandAddress : ℕ → Accesses ℕ
+operandAddress pc = addressAt pc (nextAddress pc)
 
-abbrev pub pastWord : ℕ → ℕ
-pastWord pc = nextAddress (nextAddress pc)
+abbrev pub pastAddress : ℕ → ℕ
+pastAddress pc = nextAddress (nextAddress pc)
 
 -- a pointer in the zero page; its high byte stays there
 abbrev pub pointerAt : ℕ → Accesses ℕ
-pointerAt z = wordAt z (wrapping8 z 1)
+pointerAt z = addressAt z (wrapping8 z 1)
 
 -- PC stands behind the opcode
 unfoldable pub located : Mode → CpuRegisters → Accesses Located
@@ -63,14 +63,14 @@ located ZeroPageY r = do
   z ← byteAt (r .pc)
   ends (operandAt (zeroPageIndexed z (r .y)) (nextAddress (r .pc)))
 located Absolute r = do
-  a ← operandWord (r .pc)
-  ends (operandAt a (pastWord (r .pc)))
+  a ← operandAddress (r .pc)
+  ends (operandAt a (pastAddress (r .pc)))
 located AbsoluteX r = do
-  base ← operandWord (r .pc)
-  ends (indexedFrom base (r .x) (pastWord (r .pc)))
+  base ← operandAddress (r .pc)
+  ends (indexedFrom base (r .x) (pastAddress (r .pc)))
 located AbsoluteY r = do
-  base ← operandWord (r .pc)
-  ends (indexedFrom base (r .y) (pastWord (r .pc)))
+  base ← operandAddress (r .pc)
+  ends (indexedFrom base (r .y) (pastAddress (r .pc)))
 located IndexedIndirect r = do
   z ← byteAt (r .pc)
   a ← pointerAt (zeroPageIndexed z (r .x))
@@ -80,9 +80,9 @@ located IndirectIndexed r = do
   base ← pointerAt z
   ends (indexedFrom base (r .y) (nextAddress (r .pc)))
 located Indirect r = do
-  p ← operandWord (r .pc)
-  a ← wordAt p (secondAddress p)
-  ends (operandAt a (pastWord (r .pc)))
+  p ← operandAddress (r .pc)
+  a ← addressAt p (secondAddress p)
+  ends (operandAt a (pastAddress (r .pc)))
 located Relative r = do
   offset ← byteAt (r .pc)
   ends (branchTarget offset (nextAddress (r .pc)))

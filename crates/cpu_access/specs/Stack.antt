@@ -4,13 +4,13 @@ use mathlib.Core.Bool.{Bool, true, false, _&&_, cond}
 use mathlib.Core.List.{List}
 use Prim.Native.Nat.{ℕ, _+_, _*_, _/_, _%_}
 use lib.Dec.{ltb, eqb}
-use Rattle.bits.specs.Bits.{low, high, word, wrapping8}
+use Rattle.bits.specs.Bits.{low, high, word16, wrapping8}
 use Rattle.cpu_access.specs.declared.Bus.{Bus}
 use Rattle.cpu_access.specs.declared.Got.{Got}
 use Rattle.cpu_access.specs.declared.stack.Write.{Write}
 use Rattle.cpu_access.specs.declared.stack.Writes.{Writes}
 use Rattle.cpu_access.specs.declared.stack.Pulled.{Pulled}
-use Rattle.cpu_access.specs.declared.stack.PulledWord.{PulledWord}
+use Rattle.cpu_access.specs.declared.stack.PulledAddress.{PulledAddress}
 use Rattle.cpu_access.specs.Bus.{askOf, readOf, memoryByte, got}
 use Rattle.memory.specs.Memory.{isRegister}
 
@@ -60,8 +60,8 @@ pushHigh sp pc = pushAt sp (high pc)
 abbrev pub pushLow : ℕ → ℕ → Write
 pushLow sp pc = pushAt (down sp) (low pc)
 
-unfoldable pub pushWord : ℕ → ℕ → Writes
-pushWord sp pc = twoWrites (pushHigh sp pc) (pushLow sp pc)
+unfoldable pub pushAddress : ℕ → ℕ → Writes
+pushAddress sp pc = twoWrites (pushHigh sp pc) (pushLow sp pc)
 
 -- PC pushed, then the byte p
 unfoldable pub pushInterrupt : ℕ → ℕ → ℕ → Writes
@@ -78,14 +78,14 @@ unfoldable pub pullOf : List ℕ → List ℕ → ℕ → Bus → Pulled
 pullOf answers memory sp b = pullFrom answers memory (up sp) b
 
 -- PC pulled, low byte first
-abbrev pub wordPulled : ℕ → Pulled → PulledWord
-wordPulled l p = record { value = word (p .value) l; sp = p .sp; bus = p .bus }
+abbrev pub addressPulled : ℕ → Pulled → PulledAddress
+addressPulled l p = record { value = word16 (p .value) l; sp = p .sp; bus = p .bus }
 
-abbrev pub secondPulled : List ℕ → List ℕ → Pulled → PulledWord
-secondPulled answers memory p = wordPulled (p .value) (pullOf answers memory (p .sp) (p .bus))
+abbrev pub secondPulled : List ℕ → List ℕ → Pulled → PulledAddress
+secondPulled answers memory p = addressPulled (p .value) (pullOf answers memory (p .sp) (p .bus))
 
-unfoldable pub pullWord : List ℕ → List ℕ → ℕ → Bus → PulledWord
-pullWord answers memory sp b = secondPulled answers memory (pullOf answers memory sp b)
+unfoldable pub pullAddress : List ℕ → List ℕ → ℕ → Bus → PulledAddress
+pullAddress answers memory sp b = secondPulled answers memory (pullOf answers memory sp b)
 
 -- what stands at address a after the writes, where v stood before
 unfoldable pub writtenOver : Writes → ℕ → ℕ → ℕ

@@ -3,8 +3,9 @@
 // result is thrown away. All other addresses are read from the lent memory. Nothing is written: the writes are handed
 // on.
 ghost use mathlib.Core.Path.{_≡_};
-ghost use Rattle.cpu_access.specs.Bus.{nextAddress, memoryByte, vectorOf, idle, askOf, readOf, readWord, fetchOf};
-ghost use Rattle.cpu_access.specs.Bus.{fetchWord};
+ghost use Rattle.cpu_access.specs.Bus.{nextAddress, memoryByte, vectorOf, idle, askOf, readOf, readAddress};
+ghost use Rattle.cpu_access.specs.Bus.{fetchOf};
+ghost use Rattle.cpu_access.specs.Bus.{fetchAddress};
 ghost use Rattle.memory.specs.Memory.{isRegister};
 use cpu_alu::Status;
 use memory::is_register;
@@ -50,7 +51,7 @@ pub struct Got {
 }
 
 // Two bytes that were read, as an address.
-pub struct Word {
+pub struct GotAddress {
     pub value: u16,
     pub bus: Bus,
 }
@@ -63,7 +64,7 @@ pub struct Fetched {
 }
 
 // Two bytes of the instruction, and PC past them.
-pub struct FetchedWord {
+pub struct FetchedAddress {
     pub value: u16,
     pub pc: u16,
     pub bus: Bus,
@@ -156,14 +157,14 @@ impl Bus {
     }
 
     // A low byte, then a high byte.
-    pub fn read_word(self, answers: &[u8], memory: &[u8], low: u16, high: u16) -> Word
-        ensures { λ r. ⌜ r ≡ readWord (now (answers .entry)) (now (memory .entry)) low high self ⌝ }
+    pub fn read_address(self, answers: &[u8], memory: &[u8], low: u16, high: u16) -> GotAddress
+        ensures { λ r. ⌜ r ≡ readAddress (now (answers .entry)) (now (memory .entry)) low high self ⌝ }
     {
         let lower = self.read(answers, memory, low, false);
         let between = lower.bus;
         let upper = between.read(answers, memory, high, false);
         let after = upper.bus;
-        Word {
+        GotAddress {
             value: bits::word16(upper.value, lower.value),
             bus: after,
         }
@@ -183,14 +184,14 @@ impl Bus {
     }
 
     // The two bytes at PC, low byte first.
-    pub fn fetch_word(self, answers: &[u8], memory: &[u8], pc: u16) -> FetchedWord
-        ensures { λ r. ⌜ r ≡ fetchWord (now (answers .entry)) (now (memory .entry)) pc self ⌝ }
+    pub fn fetch_address(self, answers: &[u8], memory: &[u8], pc: u16) -> FetchedAddress
+        ensures { λ r. ⌜ r ≡ fetchAddress (now (answers .entry)) (now (memory .entry)) pc self ⌝ }
     {
         let lower = self.fetch(answers, memory, pc);
         let between = lower.bus;
         let upper = between.fetch(answers, memory, lower.pc);
         let after = upper.bus;
-        FetchedWord {
+        FetchedAddress {
             value: bits::word16(upper.value, lower.value),
             pc: upper.pc,
             bus: after,

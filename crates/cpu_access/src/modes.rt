@@ -7,8 +7,8 @@ ghost use Rattle.cpu_access.specs.Modes.{secondAddress, displacement, re
 use crate::Bus;
 use crate::CpuRegisters;
 use crate::Fetched;
-use crate::FetchedWord;
-use crate::Word;
+use crate::FetchedAddress;
+use crate::GotAddress;
 use cpu_opcodes::Mode;
 
 // Where an operand is; of a branch, its target.
@@ -82,11 +82,11 @@ fn zero_page_indexed(z: u8, index: u8) -> u8
 }
 
 // The pointer in the zero page at z.
-fn zero_page_pointer(answers: &[u8], memory: &[u8], z: u8, bus: Bus) -> Word
+fn zero_page_pointer(answers: &[u8], memory: &[u8], z: u8, bus: Bus) -> GotAddress
     ensures { λ r. ⌜ r ≡ zeroPagePointer (now (answers .entry)) (now (memory .entry)) z bus ⌝ }
 {
     let high = std::num::wrapping_add_u8(z, 1);
-    bus.read_word(answers, memory, z as u16, high as u16)
+    bus.read_address(answers, memory, z as u16, high as u16)
 }
 
 // Where JMP indirect finds the high byte of its target: behind the pointer, in the pointer's own page.
@@ -132,14 +132,14 @@ pub fn at_zero_page_indexed(index: u8, operand: Fetched) -> Place
     place_at(z as u16, operand.pc, bus)
 }
 
-pub fn at_absolute(operand: FetchedWord) -> Place
+pub fn at_absolute(operand: FetchedAddress) -> Place
     ensures { λ r. ⌜ r ≡ atAbsolute operand ⌝ }
 {
     let bus = operand.bus;
     place_at(operand.value, operand.pc, bus)
 }
 
-pub fn at_indexed(index: u8, operand: FetchedWord) -> Place
+pub fn at_indexed(index: u8, operand: FetchedAddress) -> Place
     ensures { λ r. ⌜ r ≡ atIndexed index operand ⌝ }
 {
     let bus = operand.bus;
@@ -165,12 +165,12 @@ pub fn at_indirect_indexed(answers: &[u8], memory: &[u8], y: u8, operand: Fetche
     indexed_by(y, pointer.value, operand.pc, bus)
 }
 
-pub fn at_indirect(answers: &[u8], memory: &[u8], operand: FetchedWord) -> Place
+pub fn at_indirect(answers: &[u8], memory: &[u8], operand: FetchedAddress) -> Place
     ensures { λ r. ⌜ r ≡ atIndirect (now (answers .entry)) (now (memory .entry)) operand ⌝ }
 {
     let before = operand.bus;
     let high = second_address(operand.value);
-    let target = before.read_word(answers, memory, operand.value, high);
+    let target = before.read_address(answers, memory, operand.value, high);
     let bus = target.bus;
     place_at(target.value, operand.pc, bus)
 }
@@ -187,16 +187,16 @@ pub fn locate(answers: &[u8], memory: &[u8], mode: Mode, registers: CpuRegisters
         Mode::ZeroPage => at_zero_page(bus.fetch(answers, memory, pc)),
         Mode::ZeroPageX => at_zero_page_indexed(registers.x, bus.fetch(answers, memory, pc)),
         Mode::ZeroPageY => at_zero_page_indexed(registers.y, bus.fetch(answers, memory, pc)),
-        Mode::Absolute => at_absolute(bus.fetch_word(answers, memory, pc)),
-        Mode::AbsoluteX => at_indexed(registers.x, bus.fetch_word(answers, memory, pc)),
-        Mode::AbsoluteY => at_indexed(registers.y, bus.fetch_word(answers, memory, pc)),
+        Mode::Absolute => at_absolute(bus.fetch_address(answers, memory, pc)),
+        Mode::AbsoluteX => at_indexed(registers.x, bus.fetch_address(answers, memory, pc)),
+        Mode::AbsoluteY => at_indexed(registers.y, bus.fetch_address(answers, memory, pc)),
         Mode::IndexedIndirect => {
             at_indexed_indirect(answers, memory, registers.x, bus.fetch(answers, memory, pc))
         }
         Mode::IndirectIndexed => {
             at_indirect_indexed(answers, memory, registers.y, bus.fetch(answers, memory, pc))
         }
-        Mode::Indirect => at_indirect(answers, memory, bus.fetch_word(answers, memory, pc)),
+        Mode::Indirect => at_indirect(answers, memory, bus.fetch_address(answers, memory, pc)),
         Mode::Relative => relative(bus.fetch(answers, memory, pc)),
         Mode::ZeroPageRelative => at_zero_page(bus.fetch(answers, memory, pc)),
     }

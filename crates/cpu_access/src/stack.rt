@@ -1,8 +1,8 @@
 // The writes of an instruction, in order, and the stack, which lies in the zero page.
 ghost use mathlib.Core.Path.{_≡_};
 ghost use Rattle.cpu_access.specs.Stack.{writeAt, noWrite, noWrites, oneWrite, twoWrites, threeWrites};
-ghost use Rattle.cpu_access.specs.Stack.{stackAddress, down, up, pushAt, pushHigh, pushLow, pushWord};
-ghost use Rattle.cpu_access.specs.Stack.{pushInterrupt, pullOf, pullWord, writtenOver, readAfter};
+ghost use Rattle.cpu_access.specs.Stack.{stackAddress, down, up, pushAt, pushHigh, pushLow, pushAddress};
+ghost use Rattle.cpu_access.specs.Stack.{pushInterrupt, pullOf, pullAddress, writtenOver, readAfter};
 use crate::Bus;
 use crate::Got;
 use memory::is_register;
@@ -28,7 +28,7 @@ pub struct Pulled {
 }
 
 // Two bytes that were pulled, and SP after them.
-pub struct PulledWord {
+pub struct PulledAddress {
     pub value: u16,
     pub sp: u8,
     pub bus: Bus,
@@ -116,8 +116,8 @@ fn push_low(sp: u8, pc: u16) -> Write
 }
 
 // PC pushed, high byte first.
-pub fn push_word(sp: u8, pc: u16) -> Writes
-    ensures { λ r. ⌜ r ≡ pushWord sp pc ⌝ }
+pub fn push_address(sp: u8, pc: u16) -> Writes
+    ensures { λ r. ⌜ r ≡ pushAddress sp pc ⌝ }
 {
     let none = no_write();
     let upper = push_high(sp, pc);
@@ -161,14 +161,14 @@ impl Bus {
     }
 
     // PC pulled, low byte first.
-    pub fn pull_word(self, answers: &[u8], memory: &[u8], sp: u8) -> PulledWord
-        ensures { λ r. ⌜ r ≡ pullWord (now (answers .entry)) (now (memory .entry)) sp self ⌝ }
+    pub fn pull_address(self, answers: &[u8], memory: &[u8], sp: u8) -> PulledAddress
+        ensures { λ r. ⌜ r ≡ pullAddress (now (answers .entry)) (now (memory .entry)) sp self ⌝ }
     {
         let lower = self.pull(answers, memory, sp);
         let between = lower.bus;
         let upper = between.pull(answers, memory, lower.sp);
         let after = upper.bus;
-        PulledWord {
+        PulledAddress {
             value: bits::word16(upper.value, lower.value),
             sp: upper.sp,
             bus: after,

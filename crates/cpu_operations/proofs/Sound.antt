@@ -18,13 +18,14 @@ use Rattle.cpu_access.specs.Bus.{askOf, fetchOf}
 use Rattle.memory.specs.Memory.{isRegister}
 use Rattle.cpu_access.specs.Stack.{pushInterrupt, pullOf}
 use Rattle.cpu_access.specs.Modes.{relativeTo}
-use Rattle.cpu_access.proofs.Accesses.{fetch-keeps, pull-keeps, pull-word-keeps, relative-keeps}
+use Rattle.cpu_access.proofs.Accesses.{fetch-keeps, pull-keeps, pull-address-keeps, relative-keeps}
 use Rattle.cpu_operations.specs.declared.Operand.{Operand}
 use Rattle.cpu_operations.specs.declared.Executed.{Executed}
-use Rattle.cpu_operations.specs.Effects.{withPc, withStatus, intoA, quiet, completed, stored, modified, branched}
+use Rattle.cpu_operations.specs.Effects.{withPc, withStatus, intoA, readOnly, completed, stored, modified}
+use Rattle.cpu_operations.specs.Effects.{branched}
 use Rattle.cpu_operations.specs.Effects.{branchOperand, bitBranched, jumped, pushedByte, pulledByte, returned}
 use Rattle.cpu_operations.specs.Effects.{returnedFromInterrupt, interrupted, breakTaken, pushesOf}
-use Rattle.cpu_operations.specs.Operations.{workOf}
+use Rattle.cpu_operations.specs.Operations.{operateOf}
 
 -- the reads so far, with those of an operation, and the clocks that it may add to its entry's length
 pub record Cost : Type 0 where
@@ -72,7 +73,7 @@ costOf operation.Rts = returning
 -- n: the length of the opcode's entry
 pub record Sound (P : ℕ → Bus → Type 0) (k n : ℕ) (c : Cost) (e : Executed) : Type 0 where
   pub bus : P (c .reads k) (e .bus)
-  pub writes : pushesOf (e .worked .written) .count ≤ 3
+  pub writes : pushesOf (e .worked .writing) .count ≤ 3
   pub least : 2 ≤ n → 2 ≤ e .worked .length
   pub most : n + c .extra ≤ 7 → e .worked .length ≤ 7
 
@@ -92,17 +93,17 @@ module _ (P : ℕ → Bus → Type 0) (answers memory : List ℕ)
   unfolding stored pushesOf
   stored-sound k o r v h = record { bus = h; writes = lit≤ tt; least = λ l. l; most = λ l. omega arith }
 
-  quiet-sound : (k n : ℕ) (r : CpuRegisters) (b : Bus) → P k b → Sound P k n plain (quiet r n b)
+  read-only-sound : (k n : ℕ) (r : CpuRegisters) (b : Bus) → P k b → Sound P k n plain (readOnly r n b)
   unfolding pushesOf
-  quiet-sound k n r b h = record { bus = h; writes = lit≤ tt; least = λ l. l; most = λ l. omega arith }
+  read-only-sound k n r b h = record { bus = h; writes = lit≤ tt; least = λ l. l; most = λ l. omega arith }
 
   modified-sound : (k : ℕ) (o : Operand) (r : CpuRegisters) (v : Computed) → P k (o .bus)
       → Sound P k (o .length) plain (modified o r v)
   unfolding modified
   modified-sound k o r v h =
-      cond-both (Sound P k (o .length) plain) (o .accumulator) (quiet (intoA v r) (o .length) (o .bus))
+      cond-both (Sound P k (o .length) plain) (o .accumulator) (readOnly (intoA v r) (o .length) (o .bus))
       (stored o (withStatus (v .status) r) (v .value))
-      (λ t. quiet-sound k (o .length) (intoA v r) (o .bus) h)
+      (λ t. read-only-sound k (o .length) (intoA v r) (o .bus) h)
       (λ t. stored-sound k o (withStatus (v .status) r) (v .value) h)
 
   branched-sound : (k : ℕ) (o : Operand) (r : CpuRegisters) (taken : Bool) → P k (o .bus)
@@ -111,7 +112,7 @@ module _ (P : ℕ → Bus → Type 0) (answers memory : List ℕ)
   branched-sound k o r taken h =
       let d = digit-le (o .crossed) in
       cond-both (Sound P k (o .length) branching) taken
-      (quiet (withPc (o .address) r) (o .length + 1 + digit (o .crossed)) (o .bus)) (quiet r (o .length) (o .bus))
+      (readOnly (withPc (o .address) r) (o .length + 1 + digit (o .crossed)) (o .bus)) (readOnly r (o .length) (o .bus))
       (λ t. record { bus = h; writes = lit≤ tt; least = λ l. omega arith; most = λ l. omega arith })
       (λ t. record { bus = h; writes = lit≤ tt; least = λ l. l; most = λ l. omega arith })
 
@@ -128,7 +129,7 @@ module _ (P : ℕ → Bus → Type 0) (answers memory : List ℕ)
 
   jumped-sound : (k : ℕ) (o : Operand) (r : CpuRegisters) → P k (o .bus) → Sound P k (o .length) plain (jumped o r)
   unfolding jumped
-  jumped-sound k o r h = quiet-sound k (o .length) (withPc (o .address) r) (o .bus) h
+  jumped-sound k o r h = read-only-sound k (o .length) (withPc (o .address) r) (o .bus) h
 
   pushed-sound : (k : ℕ) (o : Operand) (r : CpuRegisters) (v : ℕ) → P k (o .bus)
       → Sound P k (o .length) plain (pushedByte o r v)
@@ -151,7 +152,7 @@ module _ (P : ℕ → Bus → Type 0) (answers memory : List ℕ)
   unfolding returned pushesOf
   returned-sound k o r h =
       record {
-        bus = pull-word-keeps P answers memory more asks k (r .sp) (o .bus) h;
+        bus = pull-address-keeps P answers memory more asks k (r .sp) (o .bus) h;
         writes = lit≤ tt;
         least = λ l. l;
         most = λ l. omega arith;
@@ -164,7 +165,7 @@ module _ (P : ℕ → Bus → Type 0) (answers memory : List ℕ)
       let p = pullOf answers memory (r .sp) (o .bus) in
       record {
         bus =
-            pull-word-keeps P answers memory more asks (suc k) (p .sp) (p .bus)
+            pull-address-keeps P answers memory more asks (suc k) (p .sp) (p .bus)
             (pull-keeps P answers memory more asks k (r .sp) (o .bus) h);
         writes = lit≤ tt;
         least = λ l. l;
@@ -176,21 +177,21 @@ module _ (P : ℕ → Bus → Type 0) (answers memory : List ℕ)
   unfolding breakTaken interrupted pushInterrupt pushesOf
   breakTaken-sound k o r h = record { bus = h; writes = lit≤ tt; least = λ l. lit≤ tt; most = λ l. lit≤ tt }
 
-  pub work-sound : (op : Operation) (k : ℕ) (r : CpuRegisters) (o : Operand) → P k (o .bus)
-      → Sound P k (o .length) (costOf op) (workOf answers memory op r o)
-  unfolding workOf
-  work-sound (operation.Read p) k r o h = completed-sound k o _ h
-  work-sound (operation.Modify p) k r o h = modified-sound k o r _ h
-  work-sound (operation.Store p) k r o h = stored-sound k o r _ h
-  work-sound (operation.Branch p) k r o h = branched-sound k o r _ h
-  work-sound (operation.BitBranch p) k r o h = bit-branched-sound k o r _ h
-  work-sound (operation.Push p) k r o h = pushed-sound k o r _ h
-  work-sound (operation.Pull p) k r o h = pulled-sound k p o r h
-  work-sound (operation.Register p) k r o h = completed-sound k o _ h
-  work-sound (operation.Flag p) k r o h = completed-sound k o _ h
-  work-sound operation.Brk k r o h = breakTaken-sound k o r h
-  work-sound operation.Jmp k r o h = jumped-sound k o r h
-  work-sound operation.Jsr k r o h = completed-sound k o _ h
-  work-sound operation.Nop k r o h = completed-sound k o _ h
-  work-sound operation.Rti k r o h = returnedFromInterrupt-sound k o r h
-  work-sound operation.Rts k r o h = returned-sound k o r h
+  pub operate-sound : (op : Operation) (k : ℕ) (r : CpuRegisters) (o : Operand) → P k (o .bus)
+      → Sound P k (o .length) (costOf op) (operateOf answers memory op r o)
+  unfolding operateOf
+  operate-sound (operation.Read p) k r o h = completed-sound k o _ h
+  operate-sound (operation.Modify p) k r o h = modified-sound k o r _ h
+  operate-sound (operation.Store p) k r o h = stored-sound k o r _ h
+  operate-sound (operation.Branch p) k r o h = branched-sound k o r _ h
+  operate-sound (operation.BitBranch p) k r o h = bit-branched-sound k o r _ h
+  operate-sound (operation.Push p) k r o h = pushed-sound k o r _ h
+  operate-sound (operation.Pull p) k r o h = pulled-sound k p o r h
+  operate-sound (operation.Register p) k r o h = completed-sound k o _ h
+  operate-sound (operation.Flag p) k r o h = completed-sound k o _ h
+  operate-sound operation.Brk k r o h = breakTaken-sound k o r h
+  operate-sound operation.Jmp k r o h = jumped-sound k o r h
+  operate-sound operation.Jsr k r o h = completed-sound k o _ h
+  operate-sound operation.Nop k r o h = completed-sound k o _ h
+  operate-sound operation.Rti k r o h = returnedFromInterrupt-sound k o r h
+  operate-sound operation.Rts k r o h = returned-sound k o r h

@@ -21,13 +21,13 @@ use Rattle.cpu_operations.specs.declared.Access.{Access}
 use Rattle.cpu_operations.specs.declared.Access.the-variants as access
 use Rattle.cpu_operations.specs.declared.Operand.{Operand}
 use Rattle.cpu_operations.specs.declared.Worked.{Worked}
-use Rattle.cpu_operations.specs.declared.Written.{Written}
-use Rattle.cpu_operations.specs.declared.Written.the-variants.{Nothing, Pushed, Stored}
+use Rattle.cpu_operations.specs.declared.Writing.{Writing}
+use Rattle.cpu_operations.specs.declared.Writing.the-variants.{Nothing, Pushed, Stored}
 use Rattle.cpu_operations.specs.Updates.{withPc}
 use Rattle.cpu_operations.specs.Effects.{completed, stored, modified, branched, branchOperand, bitBranched}
 use Rattle.cpu_operations.specs.Effects.{jumped, pushedByte, pulledByte, returned, returnedFromInterrupt}
 use Rattle.cpu_operations.specs.Effects.{interrupted, breakTaken}
-use Rattle.cpu_operations.specs.Operations.{accessOf, workOf}
+use Rattle.cpu_operations.specs.Operations.{accessOf, operateOf}
 use Rattle.cpu_operations.proofs.Flags.{listed}
 
 -- 001, 4.1: "Read/Modify/Write instructions are: ASL, DEC, INC, LSR, RMB, ROL, ROR, and SMB."
@@ -55,7 +55,7 @@ just-eight o e h =
     equal (modifies (accessOf (e .operation))) (listed readModifyWrite (e .operation)) t
 
 -- one store, and so no push
-abbrev pub isStore : Written → Bool
+abbrev pub isStore : Writing → Bool
 isStore Nothing = false
 isStore (Pushed w) = false
 isStore (Stored x) = true
@@ -80,7 +80,7 @@ stores operation.Rts accumulator = false
 
 -- whether what is left is a store; one takes just the n clocks of its opcode's entry
 pub record Stores (b : Bool) (n : ℕ) (w : Worked) : Type 0 where
-  pub stored : isStore (w .written) ≡ b
+  pub stored : isStore (w .writing) ≡ b
   pub clocks : b ≡ true → w .length ≡ n
 
 modified-stores : (o : Operand) (r : CpuRegisters) (k : Computed) (a : Bool) → o .accumulator ≡ a
@@ -103,21 +103,22 @@ module _ (answers memory : List ℕ) where
       branched-stores (branchOperand o p) (withPc (p .pc) r) taken (o .length)
 
   -- stores, and the read-modify-write operations in memory, leave one store and no push; all others leave no store
-  pub work-stores : (p : Operation) (r : CpuRegisters) (o : Operand)
-      → Stores (stores p (o .accumulator)) (o .length) (workOf answers memory p r o .worked)
-  unfolding workOf completed stored jumped pushedByte pulledByte returned returnedFromInterrupt interrupted breakTaken
-  work-stores (operation.Read p) r o = record { stored = refl; clocks = λ h. absurd (false≢true h) }
-  work-stores (operation.Modify p) r o = modified-stores o r _ (o .accumulator) refl
-  work-stores (operation.Store p) r o = record { stored = refl; clocks = λ h. refl }
-  work-stores (operation.Branch p) r o = branched-stores o r _ (o .length)
-  work-stores (operation.BitBranch p) r o = bit-branched-stores o r _
-  work-stores (operation.Push p) r o = record { stored = refl; clocks = λ h. absurd (false≢true h) }
-  work-stores (operation.Pull p) r o = record { stored = refl; clocks = λ h. absurd (false≢true h) }
-  work-stores (operation.Register p) r o = record { stored = refl; clocks = λ h. absurd (false≢true h) }
-  work-stores (operation.Flag p) r o = record { stored = refl; clocks = λ h. absurd (false≢true h) }
-  work-stores operation.Brk r o = record { stored = refl; clocks = λ h. absurd (false≢true h) }
-  work-stores operation.Jmp r o = record { stored = refl; clocks = λ h. absurd (false≢true h) }
-  work-stores operation.Jsr r o = record { stored = refl; clocks = λ h. absurd (false≢true h) }
-  work-stores operation.Nop r o = record { stored = refl; clocks = λ h. absurd (false≢true h) }
-  work-stores operation.Rti r o = record { stored = refl; clocks = λ h. absurd (false≢true h) }
-  work-stores operation.Rts r o = record { stored = refl; clocks = λ h. absurd (false≢true h) }
+  pub operate-stores : (p : Operation) (r : CpuRegisters) (o : Operand)
+      → Stores (stores p (o .accumulator)) (o .length) (operateOf answers memory p r o .worked)
+  unfolding operateOf completed stored jumped pushedByte pulledByte returned returnedFromInterrupt interrupted
+      breakTaken
+  operate-stores (operation.Read p) r o = record { stored = refl; clocks = λ h. absurd (false≢true h) }
+  operate-stores (operation.Modify p) r o = modified-stores o r _ (o .accumulator) refl
+  operate-stores (operation.Store p) r o = record { stored = refl; clocks = λ h. refl }
+  operate-stores (operation.Branch p) r o = branched-stores o r _ (o .length)
+  operate-stores (operation.BitBranch p) r o = bit-branched-stores o r _
+  operate-stores (operation.Push p) r o = record { stored = refl; clocks = λ h. absurd (false≢true h) }
+  operate-stores (operation.Pull p) r o = record { stored = refl; clocks = λ h. absurd (false≢true h) }
+  operate-stores (operation.Register p) r o = record { stored = refl; clocks = λ h. absurd (false≢true h) }
+  operate-stores (operation.Flag p) r o = record { stored = refl; clocks = λ h. absurd (false≢true h) }
+  operate-stores operation.Brk r o = record { stored = refl; clocks = λ h. absurd (false≢true h) }
+  operate-stores operation.Jmp r o = record { stored = refl; clocks = λ h. absurd (false≢true h) }
+  operate-stores operation.Jsr r o = record { stored = refl; clocks = λ h. absurd (false≢true h) }
+  operate-stores operation.Nop r o = record { stored = refl; clocks = λ h. absurd (false≢true h) }
+  operate-stores operation.Rti r o = record { stored = refl; clocks = λ h. absurd (false≢true h) }
+  operate-stores operation.Rts r o = record { stored = refl; clocks = λ h. absurd (false≢true h) }

@@ -13,15 +13,15 @@ use Rattle.cpu_access.specs.declared.CpuRegisters.{CpuRegisters}
 use Rattle.cpu_access.specs.declared.modes.Place.{Place}
 use Rattle.cpu_access.specs.declared.stack.Writes.{Writes}
 use Rattle.cpu_access.specs.declared.stack.Pulled.{Pulled}
-use Rattle.cpu_access.specs.declared.stack.PulledWord.{PulledWord}
+use Rattle.cpu_access.specs.declared.stack.PulledAddress.{PulledAddress}
 use Rattle.cpu_access.specs.declared.waiting.Waiting.{Waiting}
 use Rattle.cpu_access.specs.declared.waiting.Waiting.the-variants as waiting
 use Rattle.cpu_access.specs.Bus.{irqVector, nextAddress, vectorOf, fetchOf}
-use Rattle.cpu_access.specs.Stack.{writeAt, noWrites, oneWrite, down, pushAt, pushInterrupt, pullOf, pullWord}
+use Rattle.cpu_access.specs.Stack.{writeAt, noWrites, oneWrite, down, pushAt, pushInterrupt, pullOf, pullAddress}
 use Rattle.cpu_access.specs.Modes.{relativeTo}
 use Rattle.cpu_operations.specs.declared.Worked.{Worked}
-use Rattle.cpu_operations.specs.declared.Written.{Written}
-use Rattle.cpu_operations.specs.declared.Written.the-variants.{Nothing, Pushed, Stored}
+use Rattle.cpu_operations.specs.declared.Writing.{Writing}
+use Rattle.cpu_operations.specs.declared.Writing.the-variants.{Nothing, Pushed, Stored}
 use Rattle.cpu_operations.specs.declared.Operand.{Operand}
 use Rattle.cpu_operations.specs.declared.Executed.{Executed}
 -- with what is left go the registers set anew
@@ -29,32 +29,32 @@ pub use Rattle.cpu_operations.specs.Updates.{withSp, withPc, withStatus,
 use Rattle.cpu_operations.specs.Kinds.{withPulled}
 
 -- what is written on the first clock, in order: the pushes
-unfoldable pub pushesOf : Written → Writes
+unfoldable pub pushesOf : Writing → Writes
 pushesOf Nothing = noWrites
 pushesOf (Pushed w) = w
 pushesOf (Stored x) = noWrites
 
 -- what waits for the last clock: the store
-unfoldable pub waitingOf : Written → Waiting
+unfoldable pub waitingOf : Writing → Waiting
 waitingOf Nothing = waiting.Nothing
 waitingOf (Pushed w) = waiting.Nothing
 waitingOf (Stored x) = waiting.Byte x
 
-unfoldable pub writesNothing : Written → Bool
+unfoldable pub writesNothing : Writing → Bool
 writesNothing Nothing = true
 writesNothing (Pushed w) = false
 writesNothing (Stored x) = false
 
-abbrev pub executed : CpuRegisters → Written → ℕ → Bus → Executed
-executed r w n b = record { worked = record { registers = r; written = w; length = n }; bus = b }
+abbrev pub executed : CpuRegisters → Writing → ℕ → Bus → Executed
+executed r w n b = record { worked = record { registers = r; writing = w; length = n }; bus = b }
 
 -- nothing is written
-abbrev pub quiet : CpuRegisters → ℕ → Bus → Executed
-quiet r n b = executed r Nothing n b
+abbrev pub readOnly : CpuRegisters → ℕ → Bus → Executed
+readOnly r n b = executed r Nothing n b
 
 -- a byte was read, or none: one clock more where indexing crossed a page (001, A.3, *)
 unfoldable pub completed : Operand → CpuRegisters → Executed
-completed o r = quiet r (o .length + digit (o .crossed)) (o .bus)
+completed o r = readOnly r (o .length + digit (o .crossed)) (o .bus)
 
 -- the byte v is stored at the operand's address
 unfoldable pub stored : Operand → CpuRegisters → ℕ → Executed
@@ -63,13 +63,13 @@ stored o r v = executed r (Stored (writeAt (o .address) v)) (o .length) (o .bus)
 -- a byte that was read and changed goes back to where it came from
 unfoldable pub modified : Operand → CpuRegisters → Computed → Executed
 modified o r k =
-    cond (o .accumulator) (quiet (intoA k r) (o .length) (o .bus)) (stored o (withStatus (k .status) r) (k .value))
+    cond (o .accumulator) (readOnly (intoA k r) (o .length) (o .bus)) (stored o (withStatus (k .status) r) (k .value))
 
 -- one clock more where a branch is taken, two where its target lies in another page (001, A.3, **)
 unfoldable pub branched : Operand → CpuRegisters → Bool → Executed
 branched o r taken =
-    cond taken (quiet (withPc (o .address) r) (o .length + 1 + digit (o .crossed)) (o .bus))
-    (quiet r (o .length) (o .bus))
+    cond taken (readOnly (withPc (o .address) r) (o .length + 1 + digit (o .crossed)) (o .bus))
+    (readOnly r (o .length) (o .bus))
 
 -- BBR and BBS: the offset is fetched after the tested byte, whether or not the branch is taken
 abbrev pub branchOperand : Operand → Place → Operand
@@ -89,7 +89,7 @@ unfoldable pub bitBranched : List ℕ → List ℕ → Operand → CpuRegisters 
 bitBranched answers memory o r taken = bitBranchedTo o r taken (relativeTo (fetchOf answers memory (r .pc) (o .bus)))
 
 unfoldable pub jumped : Operand → CpuRegisters → Executed
-jumped o r = quiet (withPc (o .address) r) (o .length) (o .bus)
+jumped o r = readOnly (withPc (o .address) r) (o .length) (o .bus)
 
 -- PHA and PHP: a push writes at SP, and SP goes down
 unfoldable pub pushedByte : Operand → CpuRegisters → ℕ → Executed
@@ -97,24 +97,24 @@ pushedByte o r v = executed (withSp (down (r .sp)) r) (Pushed (oneWrite (pushAt 
 
 -- PLA and PLP: SP goes up, and the byte there is pulled
 abbrev pub pulledTo : PullOperation → Operand → CpuRegisters → Pulled → Executed
-pulledTo operation o r p = quiet (withPulled operation (withSp (p .sp) r) (p .value)) (o .length) (p .bus)
+pulledTo operation o r p = readOnly (withPulled operation (withSp (p .sp) r) (p .value)) (o .length) (p .bus)
 
 unfoldable pub pulledByte : List ℕ → List ℕ → PullOperation → Operand → CpuRegisters → Executed
 pulledByte answers memory operation o r = pulledTo operation o r (pullOf answers memory (r .sp) (o .bus))
 
 -- RTS: PC is what was pulled, plus 1
-abbrev pub returnTo : Operand → CpuRegisters → PulledWord → Executed
-returnTo o r w = quiet (withPc (nextAddress (w .value)) (withSp (w .sp) r)) (o .length) (w .bus)
+abbrev pub returnTo : Operand → CpuRegisters → PulledAddress → Executed
+returnTo o r w = readOnly (withPc (nextAddress (w .value)) (withSp (w .sp) r)) (o .length) (w .bus)
 
 unfoldable pub returned : List ℕ → List ℕ → Operand → CpuRegisters → Executed
-returned answers memory o r = returnTo o r (pullWord answers memory (r .sp) (o .bus))
+returned answers memory o r = returnTo o r (pullAddress answers memory (r .sp) (o .bus))
 
 -- RTI: the status is pulled, then PC
-abbrev pub resumeAt : Operand → CpuRegisters → Status → PulledWord → Executed
-resumeAt o r s w = quiet (withPc (w .value) (withStatus s (withSp (w .sp) r))) (o .length) (w .bus)
+abbrev pub resumeAt : Operand → CpuRegisters → Status → PulledAddress → Executed
+resumeAt o r s w = readOnly (withPc (w .value) (withStatus s (withSp (w .sp) r))) (o .length) (w .bus)
 
 abbrev pub resumeWith : List ℕ → List ℕ → Operand → CpuRegisters → Pulled → Executed
-resumeWith answers memory o r p = resumeAt o r (unpacked (p .value)) (pullWord answers memory (p .sp) (p .bus))
+resumeWith answers memory o r p = resumeAt o r (unpacked (p .value)) (pullAddress answers memory (p .sp) (p .bus))
 
 unfoldable pub returnedFromInterrupt : List ℕ → List ℕ → Operand → CpuRegisters → Executed
 returnedFromInterrupt answers memory o r = resumeWith answers memory o r (pullOf answers memory (r .sp) (o .bus))
@@ -130,7 +130,7 @@ interrupted memory vector p r = record {
     pc = vectorOf memory vector;
     status = withI true (r .status);
   };
-  written = Pushed (pushInterrupt (r .sp) (r .pc) p);
+  writing = Pushed (pushInterrupt (r .sp) (r .pc) p);
   length = 7;
 }
 

@@ -41,19 +41,19 @@ isCall Modify = false
 isCall Call = true
 
 -- r has PC behind the operand bytes. Of JSR's own work this is no part: see subroutineCall.
-unfoldable pub workOf : List ℕ → List ℕ → Operation → CpuRegisters → Operand → Executed
-workOf answers memory (operation.Read p) r o = completed o (withRead p r (o .value))
-workOf answers memory (operation.Modify p) r o = modified o r (changedBy p (o .value) (r .status))
-workOf answers memory (operation.Store p) r o = stored o r (byteToStore p r)
-workOf answers memory (operation.Branch p) r o = branched o r (branchTaken p (r .status))
-workOf answers memory (operation.BitBranch p) r o = bitBranched answers memory o r (bitBranchTaken p (o .value))
-workOf answers memory (operation.Push p) r o = pushedByte o r (byteToPush p r)
-workOf answers memory (operation.Pull p) r o = pulledByte answers memory p o r
-workOf answers memory (operation.Register p) r o = completed o (withRegister p r)
-workOf answers memory (operation.Flag p) r o = completed o (withStatus (withFlag p (r .status)) r)
-workOf answers memory operation.Brk r o = breakTaken memory o r
-workOf answers memory operation.Jmp r o = jumped o r
-workOf answers memory operation.Jsr r o = completed o r
-workOf answers memory operation.Nop r o = completed o r
-workOf answers memory operation.Rti r o = returnedFromInterrupt answers memory o r
-workOf answers memory operation.Rts r o = returned answers memory o r
+unfoldable pub operateOf : List ℕ → List ℕ → Operation → CpuRegisters → Operand → Executed
+operateOf answers memory (operation.Read p) r o = completed o (withRead p r (o .value))
+operateOf answers memory (operation.Modify p) r o = modified o r (changedBy p (o .value) (r .status))
+operateOf answers memory (operation.Store p) r o = stored o r (byteToStore p r)
+operateOf answers memory (operation.Branch p) r o = branched o r (branchTaken p (r .status))
+operateOf answers memory (operation.BitBranch p) r o = bitBranched answers memory o r (bitBranchTaken p (o .value))
+operateOf answers memory (operation.Push p) r o = pushedByte o r (byteToPush p r)
+operateOf answers memory (operation.Pull p) r o = pulledByte answers memory p o r
+operateOf answers memory (operation.Register p) r o = completed o (withRegister p r)
+operateOf answers memory (operation.Flag p) r o = completed o (withStatus (withFlag p (r .status)) r)
+operateOf answers memory operation.Brk r o = breakTaken memory o r
+operateOf answers memory operation.Jmp r o = jumped o r
+operateOf answers memory operation.Jsr r o = completed o r
+operateOf answers memory operation.Nop r o = completed o r
+operateOf answers memory operation.Rti r o = returnedFromInterrupt answers memory o r
+operateOf answers memory operation.Rts r o = returned answers memory o r

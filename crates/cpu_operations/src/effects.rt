@@ -1,13 +1,13 @@
 // What an instruction leaves, by kind: the registers, what it writes, and the clocks that it takes.
 ghost use mathlib.Core.Path.{_≡_};
 ghost use Prim.Native.Nat.{_≤_};
-ghost use Rattle.cpu_operations.specs.Effects.{executed, quiet, completed, stored, modified, branched};
+ghost use Rattle.cpu_operations.specs.Effects.{executed, readOnly, completed, stored, modified, branched};
 ghost use Rattle.cpu_operations.specs.Effects.{bitBranched, jumped, pushedByte, pulledByte, returned};
 ghost use Rattle.cpu_operations.specs.Effects.{returnedFromInterrupt, interrupted, breakTaken};
 use crate::Executed;
 use crate::Operand;
 use crate::Worked;
-use crate::Written;
+use crate::Writing;
 use crate::kinds::with_pulled;
 use crate::updates::into_a;
 use crate::updates::with_pc;
@@ -22,12 +22,12 @@ use cpu_alu::Computed;
 use cpu_alu::Status;
 use cpu_opcodes::operation::PullOperation;
 
-pub fn executed_with(registers: CpuRegisters, written: Written, length: u8, bus: Bus) -> Executed
-    ensures { λ r. ⌜ r ≡ executed registers written length bus ⌝ }
+pub fn executed_with(registers: CpuRegisters, writing: Writing, length: u8, bus: Bus) -> Executed
+    ensures { λ r. ⌜ r ≡ executed registers writing length bus ⌝ }
 {
     let worked = Worked {
         registers: registers,
-        written: written,
+        writing: writing,
         length: length,
     };
     Executed {
@@ -37,10 +37,10 @@ pub fn executed_with(registers: CpuRegisters, written: Written, length: u8, bus:
 }
 
 // Nothing is written.
-fn quiet(registers: CpuRegisters, length: u8, bus: Bus) -> Executed
-    ensures { λ r. ⌜ r ≡ quiet registers length bus ⌝ }
+fn read_only(registers: CpuRegisters, length: u8, bus: Bus) -> Executed
+    ensures { λ r. ⌜ r ≡ readOnly registers length bus ⌝ }
 {
-    executed_with(registers, Written::Nothing, length, bus)
+    executed_with(registers, Writing::Nothing, length, bus)
 }
 
 // A byte was read, or none: one clock more where indexing crossed a page.
@@ -49,7 +49,7 @@ pub fn completed(o: Operand, registers: CpuRegisters) -> Executed
     ensures { λ r. ⌜ r ≡ completed o registers ⌝ }
 {
     let bus = o.bus;
-    quiet(registers, o.length + bits::digit8(o.crossed), bus)
+    read_only(registers, o.length + bits::digit8(o.crossed), bus)
 }
 
 // A byte is stored at the operand's address.
@@ -61,7 +61,7 @@ pub fn stored(o: Operand, registers: CpuRegisters, value: u8) -> Executed
         address: o.address,
         value: value,
     };
-    executed_with(registers, Written::Stored(store), o.length, bus)
+    executed_with(registers, Writing::Stored(store), o.length, bus)
 }
 
 // A byte that was read and changed goes back to where it came from.
@@ -70,7 +70,7 @@ pub fn modified(o: Operand, registers: CpuRegisters, computed: Computed) -> Exec
 {
     if o.accumulator {
         let bus = o.bus;
-        return quiet(into_a(registers, computed), o.length, bus);
+        return read_only(into_a(registers, computed), o.length, bus);
     }
     let status = computed.status;
     stored(o, with_status(registers, status), computed.value)
@@ -84,9 +84,9 @@ pub fn branched(o: Operand, registers: CpuRegisters, taken: bool) -> Executed
     let bus = o.bus;
     if taken {
         let length = o.length + 1 + bits::digit8(o.crossed);
-        return quiet(with_pc(registers, o.address), length, bus);
+        return read_only(with_pc(registers, o.address), length, bus);
     }
-    quiet(registers, o.length, bus)
+    read_only(registers, o.length, bus)
 }
 
 // BBR and BBS: the offset is fetched after the tested byte.
@@ -118,7 +118,7 @@ pub fn jumped(o: Operand, registers: CpuRegisters) -> Executed
     ensures { λ r. ⌜ r ≡ jumped o registers ⌝ }
 {
     let bus = o.bus;
-    quiet(with_pc(registers, o.address), o.length, bus)
+    read_only(with_pc(registers, o.address), o.length, bus)
 }
 
 // PHA and PHP.
@@ -130,7 +130,7 @@ pub fn pushed_byte(o: Operand, registers: CpuRegisters, value: u8) -> Executed
     let pushes = one_write(cpu_access::stack::stack_address(sp), value);
     executed_with(
         with_sp(registers, down(sp)),
-        Written::Pushed(pushes),
+        Writing::Pushed(pushes),
         o.length,
         bus,
     )
@@ -150,7 +150,7 @@ pub fn pulled_byte(
     let pulled = before.pull(answers, memory, registers.sp);
     let after = pulled.bus;
     let stacked = with_sp(registers, pulled.sp);
-    quiet(
+    read_only(
         with_pulled(operation, stacked, pulled.value),
         o.length,
         after,
@@ -162,10 +162,10 @@ pub fn returned(answers: &[u8], memory: &[u8], o: Operand, registers: CpuRegiste
     ensures { λ r. ⌜ r ≡ returned (now (answers .entry)) (now (memory .entry)) o registers ⌝ }
 {
     let before = o.bus;
-    let pulled = before.pull_word(answers, memory, registers.sp);
+    let pulled = before.pull_address(answers, memory, registers.sp);
     let after = pulled.bus;
     let pc = cpu_access::next_address(pulled.value);
-    quiet(with_pc(with_sp(registers, pulled.sp), pc), o.length, after)
+    read_only(with_pc(with_sp(registers, pulled.sp), pc), o.length, after)
 }
 
 // RTI.
@@ -181,10 +181,10 @@ pub fn returned_from_interrupt(
     let p = before.pull(answers, memory, registers.sp);
     let between = p.bus;
     let status = Status::unpack(p.value);
-    let pulled = between.pull_word(answers, memory, p.sp);
+    let pulled = between.pull_address(answers, memory, p.sp);
     let after = pulled.bus;
     let back = with_status(with_sp(registers, pulled.sp), status);
-    quiet(with_pc(back, pulled.value), o.length, after)
+    read_only(with_pc(back, pulled.value), o.length, after)
 }
 
 // PC and P are pushed, I is set, and PC comes from the vector: BRK, NMI and IRQ. `p` is P as it is pushed.
@@ -199,7 +199,7 @@ pub fn interrupted(memory: &[u8], vector: u16, p: u8, registers: CpuRegisters) -
     let entered = with_pc(stacked, cpu_access::vector(memory, vector));
     Worked {
         registers: entered,
-        written: Written::Pushed(pushes),
+        writing: Writing::Pushed(pushes),
         length: 7,
     }
 }

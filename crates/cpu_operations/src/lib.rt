@@ -2,7 +2,7 @@
 ghost use mathlib.Core.Path.{_≡_};
 ghost use Prim.Native.Nat.{_≤_};
 ghost use Rattle.cpu_operations.specs.Effects.{pushesOf, waitingOf, writesNothing};
-ghost use Rattle.cpu_operations.specs.Operations.{accessOf, isCall, workOf};
+ghost use Rattle.cpu_operations.specs.Operations.{accessOf, isCall, operateOf};
 use cpu_access::Bus;
 use cpu_access::CpuRegisters;
 use cpu_access::stack::Write;
@@ -36,7 +36,7 @@ pub mod kinds; // kinds.rt: the operations of each kind
 pub mod updates; // updates.rt: one CPU register set, the others kept
 
 // What an instruction or an entry writes: nothing, pushes in their order, or one store; never pushes and a store.
-pub enum Written {
+pub enum Writing {
     Nothing,
     Pushed(Writes),
     Stored(Write),
@@ -45,7 +45,7 @@ pub enum Written {
 // An instruction, or an entry, that is done: the registers after it, what it writes, and its clocks.
 pub struct Worked {
     pub registers: CpuRegisters,
-    pub written: Written,
+    pub writing: Writing,
     pub length: u8,
 }
 
@@ -74,34 +74,34 @@ pub enum Access {
 }
 
 // The pushes in their order.
-pub fn pushes_of(written: Written) -> Writes
-    ensures { λ r. ⌜ r ≡ pushesOf written ⌝ }
+pub fn pushes_of(writing: Writing) -> Writes
+    ensures { λ r. ⌜ r ≡ pushesOf writing ⌝ }
 {
-    match written {
-        Written::Nothing => no_writes(),
-        Written::Pushed(pushes) => pushes,
-        Written::Stored(_) => no_writes(),
+    match writing {
+        Writing::Nothing => no_writes(),
+        Writing::Pushed(pushes) => pushes,
+        Writing::Stored(_) => no_writes(),
     }
 }
 
 // The store, which waits for the last clock.
-pub fn waiting_of(written: Written) -> Waiting
-    ensures { λ r. ⌜ r ≡ waitingOf written ⌝ }
+pub fn waiting_of(writing: Writing) -> Waiting
+    ensures { λ r. ⌜ r ≡ waitingOf writing ⌝ }
 {
-    match written {
-        Written::Nothing => Waiting::Nothing,
-        Written::Pushed(_) => Waiting::Nothing,
-        Written::Stored(store) => Waiting::Byte(store),
+    match writing {
+        Writing::Nothing => Waiting::Nothing,
+        Writing::Pushed(_) => Waiting::Nothing,
+        Writing::Stored(store) => Waiting::Byte(store),
     }
 }
 
-pub fn writes_nothing(written: Written) -> bool
-    ensures { λ r. ⌜ r ≡ writesNothing written ⌝ }
+pub fn writes_nothing(writing: Writing) -> bool
+    ensures { λ r. ⌜ r ≡ writesNothing writing ⌝ }
 {
-    match written {
-        Written::Nothing => true,
-        Written::Pushed(_) => false,
-        Written::Stored(_) => false,
+    match writing {
+        Writing::Nothing => true,
+        Writing::Pushed(_) => false,
+        Writing::Stored(_) => false,
     }
 }
 
@@ -139,7 +139,7 @@ pub fn is_call(access: Access) -> bool
 }
 
 // The operation itself. `r` has PC behind the operand bytes; JSR does not come here.
-pub fn work(
+pub fn operate(
     answers: &[u8],
     memory: &[u8],
     operation: Operation,
@@ -147,7 +147,7 @@ pub fn work(
     o: Operand,
 ) -> Executed
     requires { ⌜ o .length ≤ 7 ⌝ }
-    ensures { λ e. ⌜ e ≡ workOf (now (answers .entry)) (now (memory .entry)) operation r o ⌝ }
+    ensures { λ e. ⌜ e ≡ operateOf (now (answers .entry)) (now (memory .entry)) operation r o ⌝ }
 {
     let status = r.status;
     let value = o.value;

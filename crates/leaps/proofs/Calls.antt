@@ -14,7 +14,7 @@ use Rattle.refusals.specs.declared.Limits.{Limits}
 use Rattle.refusals.specs.Refusals.{lastClock, firstOf, refusalOf}
 use Rattle.refusals.proofs.Accepted.{Accepted, accepted, accepts}
 use Rattle.leaps.specs.Leaps.{plains, leapCount, trace, leadingQuiet}
-use Rattle.leaps.specs.Chip.{Chip}
+use Rattle.leaps.specs.Chip.{ChipRules}
 use Rattle.leaps.specs.World.{WorldOf, plainOf, runningIn, doneIn, systemOf}
 use Rattle.leaps.specs.Lists.{Machine, Call, runFor, Listed, calls, FairOf, stepOf, runOf, plainRunOf}
 use Rattle.leaps.specs.Calls.{ResultOf, HandedOf, stopOf, callStart, handedBackOf, refusedWith, lentOf}
@@ -70,7 +70,7 @@ refused-hands-on number w none on =
       ← on,
     )
 
-module _ {S : Type 0} (C : Chip S) (L : ChipLaws C) where
+module _ {S : Type 0} (C : ChipRules S) (L : ChipLaws C) where
   abbrev M : Machine (WorldOf S) (HandedOf S) (ResultOf S)
   M = machineOf C
 

@@ -12,7 +12,7 @@ use Rattle.bits.specs.Bits.{digit}
 use Rattle.bits.proofs.Cond.{cond-both}
 use Rattle.pin_lists.specs.PinLists.{pinsRight, dueCount}
 use Rattle.pin_lists.proofs.PinLists.{right-read, due-within}
-use Rattle.leaps.specs.Chip.{Chip, ClockEnd, ClockOutcome, stopped, ended}
+use Rattle.leaps.specs.Chip.{ChipRules, ClockEnd, ClockOutcome, stopped, ended}
 use Rattle.leaps.specs.Leaps.{System, plains}
 use Rattle.leaps.specs.World.{WorldOf, putRecord, stoppedAt, movedTo, after, dueIn, outcomeIn, plainOf, runningIn}
 use Rattle.leaps.specs.World.{isDone, doneIn, eventIn, passIn, systemOf}
@@ -20,7 +20,7 @@ use Rattle.leaps.specs.Calls.{isStop, stopOf, Fit}
 use Rattle.leaps.proofs.Laws.{Lawful}
 
 -- what is asked of a chip
-pub record ChipLaws {S : Type 0} (C : Chip S) : Type 0 where
+pub record ChipLaws {S : Type 0} (C : ChipRules S) : Type 0 where
   -- a clock that is done: "Clock plus 1"; every field stays in its range; memory keeps its length; a record that is put
   -- has room; a stop that it ends in is one by name
   pub done-clock : (s : S) (codes memory : List ℕ) (free : Bool) (d : ClockEnd S)
@@ -85,7 +85,7 @@ written-within true written space h room = let l = ltb-true written space (room 
 written-within false written space h room = omega arith
 
 -- how far a plain clock goes, of any world
-pub record Advanced {S : Type 0} (C : Chip S) (w v : WorldOf S) : Type 0 where
+pub record Advanced {S : Type 0} (C : ChipRules S) (w v : WorldOf S) : Type 0 where
   pub clock : C .clock (v .state) ≤ C .clock (w .state) + 1
   pub read : v .read ≤ w .read + length (w .inputClocks)
   pub memory : length (v .memory) ≡ length (w .memory)
@@ -93,7 +93,7 @@ pub record Advanced {S : Type 0} (C : Chip S) (w v : WorldOf S) : Type 0 where
   pub outputWords : length (v .outputWords) ≡ length (w .outputWords)
   pub written : w .written ≤ length (w .outputClocks) → v .written ≤ length (w .outputClocks)
 
-module _ {S : Type 0} (C : Chip S) (L : ChipLaws C) where
+module _ {S : Type 0} (C : ChipRules S) (L : ChipLaws C) where
   module _ (w : WorldOf S) where
     -- a clock where nothing has stopped, and one where something has
     pub plain-on : runningIn w ≡ true → plainOf C w ≡ after C w (dueIn C w) (outcomeIn C w (dueIn C w))

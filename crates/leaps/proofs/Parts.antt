@@ -13,7 +13,7 @@ use borrow.Author.Tests.{ltb-true, ltb-false, lt-ltb, le-ltb}
 use Rattle.bits.specs.Bits.{digit}
 use Rattle.bits.proofs.Cond.{cond-both}
 use Rattle.leaps.specs.Leaps.{plains, trace, leapCount, eventsIn, quietEnd}
-use Rattle.leaps.specs.Chip.{Chip, ClockEnd, ClockOutcome, stopped, ended}
+use Rattle.leaps.specs.Chip.{ChipRules, ClockEnd, ClockOutcome, stopped, ended}
 use Rattle.leaps.specs.World.{WorldOf, stoppedAt, movedTo, putRecord, after, dueIn, outcomeIn, plainOf, runningIn}
 use Rattle.leaps.specs.World.{isDone, doneIn, eventIn, systemOf}
 use Rattle.leaps.specs.Calls.{lentOf, Room}
@@ -74,7 +74,7 @@ pub record Rest {S : Type 0} (u v : WorldOf S) : Type 0 where
   pub inputCodes : v .inputCodes ≡ drop count (u .inputCodes)
   pub read : v .read ≡ u .read + count
 
-module _ {S : Type 0} (C : Chip S) where
+module _ {S : Type 0} (C : ChipRules S) where
   none-read : (u : WorldOf S) → Rest u u
   none-read u = record { count = 0; inputClocks = refl; inputCodes = refl; read = sym (add-zero (u .read)) }
 

@@ -12,14 +12,14 @@ use lib.ListN.{length, take, drop, set, length-set}
 use borrow.Author.Tests.{ltb-true, ltb-false, eqb-true, eqb-false, lt-ltb, le-ltb, eq-eqb, ne-eqb}
 use Rattle.bits.specs.Bits.{digit}
 use Rattle.pin_lists.specs.PinLists.{pinOf, entryRight, restRight, pinsRight, dueCount}
-use Rattle.leaps.specs.Chip.{Chip, ClockOutcome, stopped, ended}
+use Rattle.leaps.specs.Chip.{ChipRules, ClockOutcome, stopped, ended}
 use Rattle.leaps.specs.Leaps.{Run, plains, leapOf, movedOf, leftAfter, leapsOf, run, trace, leapCount}
 use Rattle.leaps.specs.World.{WorldOf, putRecord, after, dueIn, outcomeIn, plainOf, runningIn, isDone, doneIn}
 use Rattle.leaps.specs.World.{eventIn, passIn, systemOf}
 use Rattle.leaps.specs.Shifted.{shiftedClocks, ShiftedRecords, shiftedOutcome, ShiftedWorld}
 
 -- what is asked of a chip: `shift k s` is `s` with its clock k later, and no rule looks at the clock's value
-pub record ShiftLaws {S : Type 0} (C : Chip S) (shift : ℕ → S → S) : Type 0 where
+pub record ShiftLaws {S : Type 0} (C : ChipRules S) (shift : ℕ → S → S) : Type 0 where
   pub clock : (k : ℕ) (s : S) → C .clock (shift k s) ≡ C .clock s + k
   pub formed : (k : ℕ) (s : S) → C .wellFormed (shift k s) ≡ C .wellFormed s
   pub outcome : (k : ℕ) (s : S) (codes memory : List ℕ) (free : Bool)
@@ -136,7 +136,7 @@ pub record ShiftedRun {S : Type 0} (shift : ℕ → S → S) (k : ℕ) (r u : Ru
   pub world : ShiftedWorld shift k (r .world) (u .world)
   pub leaps : u .leaps ≡ r .leaps
 
-module _ {S : Type 0} (C : Chip S) (shift : ℕ → S → S) (L : ShiftLaws C shift) (k : ℕ) where
+module _ {S : Type 0} (C : ChipRules S) (shift : ℕ → S → S) (L : ShiftLaws C shift) (k : ℕ) where
   abbrev Alike : WorldOf S → WorldOf S → Type 0
   Alike = ShiftedWorld shift k
 

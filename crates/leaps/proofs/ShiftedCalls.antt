@@ -11,7 +11,7 @@ use Rattle.bits.proofs.Cond.{and-left, and-right}
 use Rattle.pin_lists.specs.PinLists.{pinsRight}
 use Rattle.refusals.specs.declared.Limits.{Limits}
 use Rattle.refusals.specs.Refusals.{lastClock, firstOf, refusalOf}
-use Rattle.leaps.specs.Chip.{Chip}
+use Rattle.leaps.specs.Chip.{ChipRules}
 use Rattle.leaps.specs.Leaps.{plains, run, leapCount}
 use Rattle.leaps.specs.World.{WorldOf, plainOf, runningIn, systemOf}
 use Rattle.leaps.specs.Lists.{Machine, Call, countOf, Listed, stepOf, runOf, plainRunOf, calls, clocksAccepted}
@@ -85,7 +85,7 @@ fit-number limits formed clock span clocks codes times words n h e =
     other false false false true e = omega arith
     other false false false false e = omega arith
 
-module _ {S : Type 0} (C : Chip S) (shift : ℕ → S → S) (L : ShiftLaws C shift) (k : ℕ) where
+module _ {S : Type 0} (C : ChipRules S) (shift : ℕ → S → S) (L : ShiftLaws C shift) (k : ℕ) where
   abbrev Alike : WorldOf S → WorldOf S → Type 0
   Alike = ShiftedWorld shift k
 

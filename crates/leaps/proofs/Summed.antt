@@ -12,7 +12,7 @@ use Rattle.page_sums.proofs.Sums.{sums-kept, sums-twice, sums-length, sixteen-a
 use Rattle.page_sums.proofs.Refused.{memory-wrong, list-wrong, list-right}
 use Rattle.refusals.specs.Refusals.{refusalOf}
 use Rattle.leaps.specs.Leaps.{plains}
-use Rattle.leaps.specs.Chip.{Chip}
+use Rattle.leaps.specs.Chip.{ChipRules}
 use Rattle.leaps.specs.World.{WorldOf, runningIn, systemOf}
 use Rattle.leaps.specs.Lists.{Call, singleClock, runFor, countOf, stepOf, runOf, callOf, Listed, listed, calls}
 use Rattle.leaps.specs.Lists.{clocksAccepted, resultsBy}
@@ -183,7 +183,7 @@ module _ {S : Type 0} (call : Call → WorldOf S → HandedOf S) where
 
 -- ---- of a chip
 
-module _ {S : Type 0} (C : Chip S) where
+module _ {S : Type 0} (C : ChipRules S) where
   abbrev lackingOf : List Call → WorldOf S → Listed (WorldOf S) (ResultOf S)
   lackingOf = calls (machineOf C)
 

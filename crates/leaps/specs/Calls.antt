@@ -7,7 +7,7 @@ use lib.Dec.{eqb}
 use lib.ListN.{length, take, drop}
 use Rattle.pin_lists.specs.PinLists.{pinsRight}
 use Rattle.refusals.specs.Refusals.{refusalOf}
-use Rattle.leaps.specs.Chip.{Chip}
+use Rattle.leaps.specs.Chip.{ChipRules}
 use Rattle.leaps.specs.World.{WorldOf, systemOf}
 use Rattle.leaps.specs.Lists.{Machine}
 
@@ -109,7 +109,7 @@ pub record Room {S : Type 0} (w : WorldOf S) : Type 0 where
   pub outputClocks : w .written ≤ length (w .outputClocks)
   pub outputWords : w .written ≤ length (w .outputWords)
 
-module _ {S : Type 0} (C : Chip S) where
+module _ {S : Type 0} (C : ChipRules S) where
   -- the number of the refusal of a call for n clocks, or 0
   abbrev pub refusalIn : ℕ → WorldOf S → ℕ
   refusalIn n w =
@@ -137,7 +137,7 @@ module _ {S : Type 0} (C : Chip S) where
 
 -- What a call that is not refused starts from, and every plain clock keeps: document 01's rules for state, memory and
 -- lists.
-pub record Fit {S : Type 0} (C : Chip S) (w : WorldOf S) : Type 0 where
+pub record Fit {S : Type 0} (C : ChipRules S) (w : WorldOf S) : Type 0 where
   pub memory : length (w .memory) ≡ C .limits .memory  -- number 1: of the chip's length
   pub state : C .wellFormed (w .state) ≡ true  -- "Well-formed: every field is within its range here."
   pub pins : pinsRight (C .limits .pin) (C .clock (w .state)) (w .inputClocks) (w .inputCodes)

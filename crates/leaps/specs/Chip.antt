@@ -19,7 +19,7 @@ pub data ClockOutcome (S : Type 0) : Type 0 where
   ended : ClockEnd S → ClockOutcome S
 
 -- `S` is the machine's state.
-pub record Chip (S : Type 0) : Type 0 where
+pub record ChipRules (S : Type 0) : Type 0 where
   -- the bytes of a memory, and the last pin
   pub limits : Limits
   -- "Well-formed: every field is within its range"

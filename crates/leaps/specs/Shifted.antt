@@ -6,7 +6,7 @@ use mathlib.Core.List.{List, [], _∷_, map}
 use Prim.Native.Nat.{ℕ, _+_}
 use lib.Dec.{eqb}
 use lib.ListN.{length, take}
-use Rattle.leaps.specs.Chip.{Chip, ClockEnd, ClockOutcome, stopped, ended}
+use Rattle.leaps.specs.Chip.{ChipRules, ClockEnd, ClockOutcome, stopped, ended}
 use Rattle.leaps.specs.World.{WorldOf}
 use Rattle.leaps.specs.Lists.{Listed}
 use Rattle.leaps.specs.Calls.{ResultOf, HandedOf, refusalIn}
@@ -77,7 +77,7 @@ abbrev pub clockRefusal : ℕ
 clockRefusal = 4
 
 -- a call for n clocks is refused with 4 in both worlds or in neither: in the earlier where it is in the later
-abbrev pub RefusedAlike : {S : Type 0} → Chip S → ℕ → WorldOf S → WorldOf S → Type 0
+abbrev pub RefusedAlike : {S : Type 0} → ChipRules S → ℕ → WorldOf S → WorldOf S → Type 0
 RefusedAlike C n w v = refusalIn C n v ≡ clockRefusal → refusalIn C n w ≡ clockRefusal
 
 -- no call of a list is refused with 4

@@ -7,7 +7,7 @@ use lib.ListN.{length, take, drop, set}
 use Rattle.bits.specs.Bits.{digit}
 use Rattle.pin_lists.specs.PinLists.{dueCount}
 use Rattle.leaps.specs.Leaps.{System}
-use Rattle.leaps.specs.Chip.{Chip, ClockEnd, ClockOutcome, stopped, ended}
+use Rattle.leaps.specs.Chip.{ChipRules, ClockEnd, ClockOutcome, stopped, ended}
 
 -- State and memory; the rest of the input list from its first unread entry; the whole output lists; how many inputs are
 -- read and records written; the stop, 0 where nothing stopped.
@@ -50,7 +50,7 @@ module _ {S : Type 0} where
   isDone (stopped number) = false
   isDone (ended d) = true
 
-module _ {S : Type 0} (C : Chip S) where
+module _ {S : Type 0} (C : ChipRules S) where
   -- "Otherwise steps 1 to 5 happen once: inputs of its clock are read; its record, if any, takes the first free entry."
   abbrev pub movedTo : ClockEnd S → ℕ → WorldOf S → WorldOf S
   movedTo d due w = record {

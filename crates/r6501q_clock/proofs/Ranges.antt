@@ -19,7 +19,8 @@ use Rattle.r6501q_state.specs.Pins.{levelsOf, rose, withEdges, resetOf, sensedA
 use Rattle.r6501q_state.specs.Control.{modeA, modeB}
 use Rattle.r6501q_state.proofs.Ranges.{InPeripherals, in-peripherals, fit-peripherals, set-lt, formed, formed-cpu}
 use Rattle.r6501q_state.proofs.Ranges.{formed-peripherals, sensed-formed}
-use Rattle.r6501q_clock.specs.Clock.{inputsSet, countA, countB, sentBy, heardBy, worked, workedState, readyOf}
+use Rattle.r6501q_clock.specs.Clock.{inputsSet, countA, countB, sentBy, heardBy, peripheralsClock}
+use Rattle.r6501q_clock.specs.Clock.{withPeripheralsClock, readyOf}
 
 counted-a-in : (p : Peripherals) (before now : ℕ) → InPeripherals p → InPeripherals (countA p before now .peripherals)
 unfolding countA
@@ -61,10 +62,10 @@ heard-in p ticks before now i = record {
 }
 
 -- steps 2 and 3
-pub worked-fits : (p : Peripherals) (before now : ℕ) → peripheralsFit p ≡ true
-    → peripheralsFit (worked p before now) ≡ true
-unfolding worked
-worked-fits p before now e =
+pub peripherals-clock-fits : (p : Peripherals) (before now : ℕ) → peripheralsFit p ≡ true
+    → peripheralsFit (peripheralsClock p before now) ≡ true
+unfolding peripheralsClock
+peripherals-clock-fits p before now e =
     let a = countA p before now in
     fit-peripherals _ (heard-in _ (a .ticks) before now
     (sent-in _ (a .ticks) (counted-b-in (a .peripherals) before now (counted-a-in p before now (in-peripherals p e)))))
@@ -76,7 +77,7 @@ ready-formed s codes e =
     let t = sensed (inputsSet s codes) in
     let f = sensed-formed (inputsSet s codes) (formed (inputsSet s codes) (formed-cpu s e) (formed-peripherals s e)) in
     formed (readyOf s codes) (formed-cpu t f)
-    (worked-fits (t .peripherals) (s .last .ports) (t .last .ports) (formed-peripherals t f))
+    (peripherals-clock-fits (t .peripherals) (s .last .ports) (t .last .ports) (formed-peripherals t f))
 
 -- "Clock plus 1"
 pub ready-clock : (s : State) (codes : List ℕ) → readyOf s codes .clock ≡ s .clock + 1

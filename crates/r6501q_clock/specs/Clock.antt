@@ -76,16 +76,16 @@ heardBy p ticks before now =
 abbrev pub afterCountA : Counted → ℕ → ℕ → Peripherals
 afterCountA c before now = heardBy (sentBy (countB (c .peripherals) before now) (c .ticks)) (c .ticks) before now
 
-unfoldable pub worked : Peripherals → ℕ → ℕ → Peripherals
-worked p before now = afterCountA (countA p before now) before now
+unfoldable pub peripheralsClock : Peripherals → ℕ → ℕ → Peripherals
+peripheralsClock p before now = afterCountA (countA p before now) before now
 
 -- steps 2 and 3 of a state that has sensed its pins; `before` are the port levels before step 1
-abbrev pub workedState : ℕ → State → State
-workedState before s = withPeripherals s (worked (s .peripherals) before (s .last .ports))
+abbrev pub withPeripheralsClock : ℕ → State → State
+withPeripheralsClock before s = withPeripherals s (peripheralsClock (s .peripherals) before (s .last .ports))
 
 -- steps 1 to 3, given the codes of this clock's inputs
 unfoldable pub readyOf : State → List ℕ → State
-readyOf s codes = workedState (s .last .ports) (sensed (inputsSet s codes))
+readyOf s codes = withPeripheralsClock (s .last .ports) (sensed (inputsSet s codes))
 
 -- 01, What is handed back: "7 | the next clock needs a record, none free"
 abbrev pub fullStop : ℕ

@@ -4,7 +4,8 @@ ghost use mathlib.Core.Path.{_≡_};
 ghost use Prim.Native.Nat.{_<_};
 ghost use Rattle.cpu_opcodes.specs.Table.{opcodeTable};
 ghost use Rattle.refusals.specs.Refusals.{lastClock};
-ghost use Rattle.r6501q_clock.specs.Clock.{withInputs, countA, countB, sentBy, heardBy, worked, readyOf};
+ghost use Rattle.r6501q_clock.specs.Clock.{withInputs, countA, countB, sentBy, heardBy, peripheralsClock};
+ghost use Rattle.r6501q_clock.specs.Clock.{readyOf};
 ghost use Rattle.r6501q_clock.specs.Clock.{fullStop, finished, clockOf};
 use counters::time::Ticks;
 use counters::time::ticks_of;
@@ -129,8 +130,8 @@ fn receive(mut p: Peripherals, ticks: Ticks, before: u32, after: u32) -> Periphe
 }
 
 // Steps 2 and 3, given the port levels before step 1 and after it.
-fn work(p: Peripherals, before: u32, after: u32) -> Peripherals
-    ensures { λ r. ⌜ r ≡ worked p before after ⌝ }
+fn clock_peripherals(p: Peripherals, before: u32, after: u32) -> Peripherals
+    ensures { λ r. ⌜ r ≡ peripheralsClock p before after ⌝ }
 {
     let counted = count_a(p, before, after);
     let ticks = counted.ticks;
@@ -149,7 +150,7 @@ pub fn ready(s: State, codes: &[u8]) -> State
     begun.external = external;
     begun.clock += 1;
     let mut sensed = begun.sense();
-    let peripherals = work(sensed.peripherals, before, sensed.last.ports);
+    let peripherals = clock_peripherals(sensed.peripherals, before, sensed.last.ports);
     sensed.peripherals = peripherals;
     sensed
 }

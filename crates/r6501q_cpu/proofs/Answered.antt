@@ -33,12 +33,12 @@ use Rattle.cpu.proofs.Laws.{done-fits, asked-writes, asks-end}
 use Rattle.cpu.proofs.Sequence.{pushes-as, waiting-as, workedOf, outcomeFrom, unpushed, instruction-asked}
 use Rattle.r6501q_cpu.specs.declared.Processed.{Processed}
 use Rattle.r6501q_cpu.specs.declared.Processed.the-variants.{Stopped, Done}
-use Rattle.r6501q_cpu.specs.declared.Turn.the-variants.{Over, Answered}
+use Rattle.r6501q_cpu.specs.declared.Round.the-variants.{Over, Answered}
 use Rattle.r6501q_cpu.specs.Processor.{registersOf, registerFile, performedIn, nextAfter, processedBy}
 use Rattle.r6501q_cpu.specs.Processor.{processedAfter, wholeInstruction, resetStart, nmiStart, irqStart}
-use Rattle.r6501q_cpu.specs.Asking.{putRegister, registersAfter, answerOf, nextOf, turnBy, turnOf}
+use Rattle.r6501q_cpu.specs.Asking.{putRegister, registersAfter, answerOf, nextOf, roundBy, roundOf}
 use Rattle.r6501q_cpu.specs.Asking.{instructionFrom, answeredInstruction}
-use Rattle.r6501q_cpu.proofs.Asks.{turn-over, turn-answered}
+use Rattle.r6501q_cpu.proofs.Asks.{round-over, round-answered}
 
 -- writes as a list, and as the code has them
 all-after : (levels : ℕ) (p : Peripherals) (ws : List Write) → inOrder ws .count ≤ 3
@@ -57,44 +57,45 @@ module _ (s : State) (memory : List ℕ) where
   abbrev file : RegisterFile Peripherals
   file = registerFile (s .last .ports)
 
-  abbrev turn : List ℕ → Reply Ending
-  turn answers = asked memory answers [] (instructionAccesses registers)
+  abbrev round : List ℕ → Reply Ending
+  round answers = asked memory answers [] (instructionAccesses registers)
 
-  -- a turn of the instruction
-  outcome-at : (answers : List ℕ) (x : Reply Ending) → turn answers ≡ x
+  -- a round of the instruction
+  outcome-at : (answers : List ℕ) (x : Reply Ending) → round answers ≡ x
       → instructionOf registers answers memory ≡ outcomeFrom x
   outcome-at answers x e = instruction-asked answers memory registers ∙ ap outcomeFrom e
 
-  turn-at : (p : Peripherals) (answers : List ℕ) (x : Reply Ending) → turn answers ≡ x
-      → turnOf s p answers memory ≡ turnBy s p (outcomeFrom x)
-  unfolding turnOf
-  turn-at p answers x e = ap (turnBy s p) (outcome-at answers x e)
+  round-at : (p : Peripherals) (answers : List ℕ) (x : Reply Ending) → round answers ≡ x
+      → roundOf s p answers memory ≡ roundBy s p (outcomeFrom x)
+  unfolding roundOf
+  round-at p answers x e = ap (roundBy s p) (outcome-at answers x e)
 
-  over-from : (n : ℕ) (p : Peripherals) (answers : List ℕ) (x : Ending) (ws : List Write) → turn answers ≡ over x ws
+  over-from : (n : ℕ) (p : Peripherals) (answers : List ℕ) (x : Ending) (ws : List Write) → round answers ≡ over x ws
       → instructionFrom (Stopped undefinedStop) (suc n) s p answers memory ≡ processedBy s (allWritten file p ws) ws x
   over-from n p answers undefined ws e =
-      turn-over (Stopped undefinedStop) s p answers memory (suc n) _ (omega arith)
-      (turn-at p answers (over undefined ws) e)
+      round-over (Stopped undefinedStop) s p answers memory (suc n) _ (omega arith)
+      (round-at p answers (over undefined ws) e)
   over-from n p answers (leaves l) ws e =
       let fits = done-fits registers answers memory (workedOf l ws) (outcome-at answers (over (leaves l) ws) e) in
       let pushes = pushes-as (l .waiting) ws (fits .writes) in
       let few : inOrder ws .count ≤ 3 = rw pushes at (fits .writes) in
-      turn-over (Stopped undefinedStop) s p answers memory (suc n) _ (omega arith)
-      (turn-at p answers (over (leaves l) ws) e)
+      round-over (Stopped undefinedStop) s p answers memory (suc n) _ (omega arith)
+      (round-at p answers (over (leaves l) ws) e)
       ∙ rw (waiting-as (l .waiting) ws (fits .writes), pushes, all-after (s .last .ports) p ws few) refl
 
   asks-from : (n : ℕ) (p : Peripherals) (answers : List ℕ) (latch : Bool) (a : ℕ) (ws : List Write)
-      → turn answers ≡ asks latch a ws
+      → round answers ≡ asks latch a ws
       → instructionFrom (Stopped undefinedStop) (suc n) s p answers memory
       ≡ instructionFrom (Stopped undefinedStop) n s (afterRead p a)
       (answers ++ (registerValue (allWritten file p ws) (s .last .ports) latch a ∷ [])) memory
   unfolding answerOf
   asks-from n p answers latch a ws e =
       let few = asked-writes registers answers memory _ (outcome-at answers (asks latch a ws) e) in
-      turn-answered (Stopped undefinedStop) s p answers memory (suc n) n _ refl (turn-at p answers (asks latch a ws) e)
+      round-answered (Stopped undefinedStop) s p answers memory (suc n) n _ refl
+      (round-at p answers (asks latch a ws) e)
       ∙ rw (all-after (s .last .ports) p ws few) refl
 
-  bound : (answers : List ℕ) (latch : Bool) (a : ℕ) (ws : List Write) → turn answers ≡ asks latch a ws
+  bound : (answers : List ℕ) (latch : Bool) (a : ℕ) (ws : List Write) → round answers ≡ asks latch a ws
       → length answers < 5
   bound answers latch a ws e = by-length (ltb (length answers) 5) refl
     where
@@ -108,7 +109,7 @@ module _ (s : State) (memory : List ℕ) where
   pub instruction-answered : wholeInstruction s memory ≡ answeredInstruction s memory
   unfolding wholeInstruction answeredInstruction allWritten
   instruction-answered =
-      sym (performs file read-write-commute memory turn
+      sym (performs file read-write-commute memory round
       (λ n p answers. instructionFrom (Stopped undefinedStop) n s p answers memory) (processedAfter s) 5
       over-from asks-from bound (instructionAccesses registers) 5 (s .peripherals) [] [] (omega arith) (λ more. refl))
 

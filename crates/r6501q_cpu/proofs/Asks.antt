@@ -1,4 +1,4 @@
--- Questions and answers of an instruction: one turn of `instructionFrom`, and that its bound is never met.
+-- Questions and answers of an instruction: one round of `instructionFrom`, and that its bound is never met.
 use mathlib.Core.Path.{_≡_, refl, sym, _∙_}
 use mathlib.Core.List.{List, [], _∷_, _++_}
 use Prim.Native.Nat.{ℕ, zero, suc, _+_, _-_, _≤_, _<_}
@@ -15,52 +15,53 @@ use Rattle.cpu.specs.Sequence.{undefinedStop}
 use Rattle.cpu.proofs.Laws.{asks-end}
 use Rattle.r6501q_cpu.specs.declared.Processed.{Processed}
 use Rattle.r6501q_cpu.specs.declared.Processed.the-variants.{Stopped}
-use Rattle.r6501q_cpu.specs.declared.Turn.{Turn}
-use Rattle.r6501q_cpu.specs.declared.Turn.the-variants.{Over, Answered}
+use Rattle.r6501q_cpu.specs.declared.Round.{Round}
+use Rattle.r6501q_cpu.specs.declared.Round.the-variants.{Over, Answered}
 use Rattle.r6501q_cpu.specs.Processor.{registersOf}
-use Rattle.r6501q_cpu.specs.Asking.{turnBy, turned, turnOf, instructionFrom, answeredInstruction}
+use Rattle.r6501q_cpu.specs.Asking.{roundBy, afterRound, roundOf, instructionFrom, answeredInstruction}
 
 module _ (spent : Processed) (s : State) (p : Peripherals) (answers memory : List ℕ) where
-  -- the last turn
-  pub turn-over : (n : ℕ) (x : Processed) → 0 < n → turnOf s p answers memory ≡ Over x
+  -- the last round
+  pub round-over : (n : ℕ) (x : Processed) → 0 < n → roundOf s p answers memory ≡ Over x
       → instructionFrom spent n s p answers memory ≡ x
   unfolding instructionFrom
-  turn-over zero x h e = absurd (omega arith)
-  turn-over (suc n) x h e = rw (e)
+  round-over zero x h e = absurd (omega arith)
+  round-over (suc n) x h e = rw (e)
 
-  -- a turn with a question
-  pub turn-answered : (n m : ℕ) (r : Reading) → n ≡ suc m → turnOf s p answers memory ≡ Answered r
+  -- a round with a question
+  pub round-answered : (n m : ℕ) (r : Reading) → n ≡ suc m → roundOf s p answers memory ≡ Answered r
       → instructionFrom spent n s p answers memory
       ≡ instructionFrom spent m s (r .peripherals) (answers ++ (r .value ∷ [])) memory
   unfolding instructionFrom
-  turn-answered n m r h e = rw (h, e)
+  round-answered n m r h e = rw (h, e)
 
--- one turn, whatever goes on after it
+-- one round, whatever goes on after it
 module _ (s : State) (p : Peripherals) (answers memory : List ℕ) (goOn goOn' : Reading → Processed) where
-  same-turn : ((q : Ask) (r : Reading) → instructionOf (registersOf (s .cpu)) answers memory ≡ outcome.Asked q
+  same-round : ((q : Ask) (r : Reading) → instructionOf (registersOf (s .cpu)) answers memory ≡ outcome.Asked q
       → goOn r ≡ goOn' r)
-      → turned goOn (turnOf s p answers memory) ≡ turned goOn' (turnOf s p answers memory)
-  unfolding turnOf
-  same-turn same = by-outcome (instructionOf (registersOf (s .cpu)) answers memory) refl
+      → afterRound goOn (roundOf s p answers memory) ≡ afterRound goOn' (roundOf s p answers memory)
+  unfolding roundOf
+  same-round same = by-outcome (instructionOf (registersOf (s .cpu)) answers memory) refl
     where
       by-outcome : (o : Outcome) → instructionOf (registersOf (s .cpu)) answers memory ≡ o
-          → turned goOn (turnBy s p o) ≡ turned goOn' (turnBy s p o)
+          → afterRound goOn (roundBy s p o) ≡ afterRound goOn' (roundBy s p o)
       by-outcome (outcome.Stopped number) e = refl
       by-outcome (outcome.Asked q) e = same q _ e
       by-outcome (outcome.Done w) e = refl
 
--- with five answers a turn is the last, so that neither a larger bound nor what stands for a spent one changes anything
-more-turns : (spent other : Processed) (k n : ℕ) (s : State) (p : Peripherals) (answers memory : List ℕ)
+-- with five answers a round is the last, so that neither a larger bound nor what stands for a spent one changes
+-- anything
+more-rounds : (spent other : Processed) (k n : ℕ) (s : State) (p : Peripherals) (answers memory : List ℕ)
     → 6 ≤ suc n + length answers
     → instructionFrom spent (suc (n + k)) s p answers memory ≡ instructionFrom other (suc n) s p answers memory
 unfolding instructionFrom
-more-turns spent other k zero s p answers memory h =
-    same-turn s p answers memory _ _
+more-rounds spent other k zero s p answers memory h =
+    same-round s p answers memory _ _
     (λ q r e. absurd (asks-end (registersOf (s .cpu)) answers memory (omega arith) q e))
-more-turns spent other k (suc n) s p answers memory h =
-    same-turn s p answers memory _ _
+more-rounds spent other k (suc n) s p answers memory h =
+    same-round s p answers memory _ _
     (λ q r e. (let m : suc n + k ≡ suc (n + k) = omega arith in
-    rw m (more-turns spent other k n s (r .peripherals) (answers ++ (r .value ∷ [])) memory
+    rw m (more-rounds spent other k n s (r .peripherals) (answers ++ (r .value ∷ [])) memory
     (rw (length-append answers (r .value ∷ [])) (omega arith)))))
 
 -- no instruction asks more than five times: what stands for a sixth question is never met
@@ -70,4 +71,4 @@ pub bound-unmet :
 unfolding answeredInstruction
 bound-unmet spent k s memory =
     let e : 6 + k ≡ suc (5 + k) = omega arith in
-    rw e (more-turns spent (Stopped undefinedStop) k 5 s (s .peripherals) [] memory (omega arith))
+    rw e (more-rounds spent (Stopped undefinedStop) k 5 s (s .peripherals) [] memory (omega arith))

@@ -42,10 +42,10 @@ use Rattle.cpu.proofs.Laws.{Fits, done-fits}
 use Rattle.r6501q_cpu.specs.declared.Next.{Next}
 use Rattle.r6501q_cpu.specs.declared.Processed.{Processed}
 use Rattle.r6501q_cpu.specs.declared.Processed.the-variants.{Stopped, Done}
-use Rattle.r6501q_cpu.specs.declared.Turn.{Turn}
+use Rattle.r6501q_cpu.specs.declared.Round.{Round}
 use Rattle.r6501q_cpu.specs.Processor.{registersOf, cpuOf, irqDue, startOf, withoutWrites, waitLess, bytePut}
 use Rattle.r6501q_cpu.specs.Processor.{waitedBy, processorOf}
-use Rattle.r6501q_cpu.specs.Asking.{putRegister, registersAfter, answerOf, nextOf, turnBy, turned, turnOf}
+use Rattle.r6501q_cpu.specs.Asking.{putRegister, registersAfter, answerOf, nextOf, roundBy, afterRound, roundOf}
 use Rattle.r6501q_cpu.specs.Asking.{instructionFrom, answeredInstruction}
 use Rattle.r6501q_cpu.proofs.Answered.{instruction-answered, reset-answered, nmi-answered, irq-answered}
 
@@ -62,14 +62,14 @@ never-both true = refl
 never-both false = refl
 
 -- an instruction takes two clocks at least, so that a byte never waits with wait 0
-cpu-of-fits : (w : Worked) → Fits w → cpuFits (cpuOf (w .registers) (w .length - 1) (waitingOf (w .written))) ≡ true
+cpu-of-fits : (w : Worked) → Fits w → cpuFits (cpuOf (w .registers) (w .length - 1) (waitingOf (w .writing))) ≡ true
 cpu-of-fits w f =
     let least = f .least in
     let most = f .most in
-    fit-cpu (cpuOf (w .registers) (w .length - 1) (waitingOf (w .written))) (record {
+    fit-cpu (cpuOf (w .registers) (w .length - 1) (waitingOf (w .writing))) (record {
       status = eq-eqb (packed (w .registers .status) / 16 % 4) 0 (packed-clear (w .registers .status));
       wait = le-leb (w .length - 1) 6 (omega arith);
-      waits = rw (ne-eqb (w .length - 1) 0 (λ e. omega arith)) (never-both (byteWaits (waitingOf (w .written))));
+      waits = rw (ne-eqb (w .length - 1) 0 (λ e. omega arith)) (never-both (byteWaits (waitingOf (w .writing))));
     })
 
 -- register writes keep the peripherals in their ranges
@@ -114,14 +114,14 @@ Ends P (Done n) = P n
 module _ (s : State) (memory : List ℕ) (Q : Peripherals → Type 0) (P : Next → Type 0)
     (first : Q (s .peripherals)) (reads : (p : Peripherals) (at : ℕ) → Q p → Q (afterRead p at))
     (ends : (due : Due) (p : Peripherals) (w : Worked) → Q p → Fits w → P (nextOf s due p w)) where
-  turn-ends : (p : Peripherals) (answers : List ℕ) (goOn : Reading → Processed) → Q p
+  round-ends : (p : Peripherals) (answers : List ℕ) (goOn : Reading → Processed) → Q p
       → ((r : Reading) → Q (r .peripherals) → Ends P (goOn r))
-      → Ends P (turned goOn (turnOf s p answers memory))
-  unfolding turnOf answerOf
-  turn-ends p answers goOn q on = by-outcome (instructionOf (registersOf (s .cpu)) answers memory) refl
+      → Ends P (afterRound goOn (roundOf s p answers memory))
+  unfolding roundOf answerOf
+  round-ends p answers goOn q on = by-outcome (instructionOf (registersOf (s .cpu)) answers memory) refl
     where
       by-outcome : (o : Outcome) → instructionOf (registersOf (s .cpu)) answers memory ≡ o
-          → Ends P (turned goOn (turnBy s p o))
+          → Ends P (afterRound goOn (roundBy s p o))
       by-outcome (outcome.Stopped number) e = tt
       by-outcome (outcome.Asked ask) e = on _ (reads p (ask .address) q)
       by-outcome (outcome.Done w) e = ends (s .due) p w q (done-fits (registersOf (s .cpu)) answers memory w e)
@@ -131,7 +131,7 @@ module _ (s : State) (memory : List ℕ) (Q : Peripherals → Type 0) (P : Next 
   unfolding instructionFrom
   instruction-ends zero p answers q = tt
   instruction-ends (suc n) p answers q =
-      turn-ends p answers _ q (λ r f. instruction-ends n (r .peripherals) (answers ++ (r .value ∷ [])) f)
+      round-ends p answers _ q (λ r f. instruction-ends n (r .peripherals) (answers ++ (r .value ∷ [])) f)
 
   start-ends : Ends P (startOf s memory)
   unfolding startOf answeredInstruction
@@ -192,7 +192,7 @@ pub processor-formed : (s : State) (memory : List ℕ) → wellFormed s ≡ true
 processor-formed s memory e =
     processor-ends s memory (λ p. peripheralsFit p ≡ true) (λ n. wellFormed (n .state) ≡ true) (formed-peripherals s e)
     read-fits
-    (λ due p w q f. formed _ (cpu-of-fits w f) (after-fits p (pushesOf (w .written)) q))
+    (λ due p w q f. formed _ (cpu-of-fits w f) (after-fits p (pushesOf (w .writing)) q))
     (fewer-formed s e) (λ w. put-byte-fits s w e) e
 
 put-clock : (s : State) (w : Write) → bytePut s w .state .clock ≡ s .clock

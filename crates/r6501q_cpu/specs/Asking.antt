@@ -23,8 +23,8 @@ use Rattle.cpu.specs.Sequence.{undefinedStop}
 use Rattle.r6501q_cpu.specs.declared.Next.{Next}
 use Rattle.r6501q_cpu.specs.declared.Processed.{Processed}
 use Rattle.r6501q_cpu.specs.declared.Processed.the-variants.{Stopped, Done}
-use Rattle.r6501q_cpu.specs.declared.Turn.{Turn}
-use Rattle.r6501q_cpu.specs.declared.Turn.the-variants.{Over, Answered}
+use Rattle.r6501q_cpu.specs.declared.Round.{Round}
+use Rattle.r6501q_cpu.specs.declared.Round.the-variants.{Over, Answered}
 use Rattle.r6501q_cpu.specs.Processor.{registersOf, cpuOf}
 
 -- a write at a register's address, where there is one
@@ -48,36 +48,36 @@ answerOf p levels ask = record {
 abbrev pub nextOf : State → Due → Peripherals → Worked → Next
 nextOf s due p w = record {
   state = record {
-    cpu = cpuOf (w .registers) (w .length - 1) (waitingOf (w .written));
+    cpu = cpuOf (w .registers) (w .length - 1) (waitingOf (w .writing));
     due = due;
-    peripherals = registersAfter p (pushesOf (w .written));
+    peripherals = registersAfter p (pushesOf (w .writing));
     external = s .external;
     last = s .last;
     clock = s .clock;
   };
-  writes = pushesOf (w .written);
+  writes = pushesOf (w .writing);
 }
 
 -- what an instruction comes to with the answers so far: it is undefined, it is done, or it asks, and is answered
-abbrev pub turnBy : State → Peripherals → Outcome → Turn
-turnBy s p (outcome.Stopped number) = Over (Stopped number)
-turnBy s p (outcome.Asked ask) = Answered (answerOf p (s .last .ports) ask)
-turnBy s p (outcome.Done w) = Over (Done (nextOf s (s .due) p w))
+abbrev pub roundBy : State → Peripherals → Outcome → Round
+roundBy s p (outcome.Stopped number) = Over (Stopped number)
+roundBy s p (outcome.Asked ask) = Answered (answerOf p (s .last .ports) ask)
+roundBy s p (outcome.Done w) = Over (Done (nextOf s (s .due) p w))
 
-unfoldable pub turnOf : State → Peripherals → List ℕ → List ℕ → Turn
-turnOf s p answers memory = turnBy s p (instructionOf (registersOf (s .cpu)) answers memory)
+unfoldable pub roundOf : State → Peripherals → List ℕ → List ℕ → Round
+roundOf s p answers memory = roundBy s p (instructionOf (registersOf (s .cpu)) answers memory)
 
-abbrev pub turned : (Reading → Processed) → Turn → Processed
-turned goOn (Over x) = x
-turned goOn (Answered r) = goOn r
+abbrev pub afterRound : (Reading → Processed) → Round → Processed
+afterRound goOn (Over x) = x
+afterRound goOn (Answered r) = goOn r
 
 -- Each question is answered in turn, and the instruction worked on with the answer. No instruction asks more than five
 -- times (`asks-end`): what stands for a sixth question, `spent`, is never met, and may be anything (`bound-unmet`).
 unfoldable pub instructionFrom : Processed → ℕ → State → Peripherals → List ℕ → List ℕ → Processed
 instructionFrom spent zero s p answers memory = spent
 instructionFrom spent (suc n) s p answers memory =
-    turned (λ (r : Reading). instructionFrom spent n s (r .peripherals) (answers ++ (r .value ∷ [])) memory)
-    (turnOf s p answers memory)
+    afterRound (λ (r : Reading). instructionFrom spent n s (r .peripherals) (answers ++ (r .value ∷ [])) memory)
+    (roundOf s p answers memory)
 
 -- one whole instruction
 unfoldable pub answeredInstruction : State → List ℕ → Processed

@@ -5,14 +5,15 @@ ghost use Prim.Native.Nat.{_<_};
 ghost use Rattle.cpu_opcodes.specs.Table.{opcodeTable};
 ghost use Rattle.r6501q_cpu.specs.Processor.{registersOf, cpuOf, irqDue, resetStart, nmiStart, irqStart, startOf};
 ghost use Rattle.r6501q_cpu.specs.Processor.{withoutWrites, waitLess, bytePut, waitedBy, processorOf};
-ghost use Rattle.r6501q_cpu.specs.Asking.{putRegister, registersAfter, answerOf, nextOf, turnOf, instructionFrom};
+ghost use Rattle.r6501q_cpu.specs.Asking.{putRegister, registersAfter, answerOf, nextOf, roundOf};
+ghost use Rattle.r6501q_cpu.specs.Asking.{instructionFrom};
 ghost use Rattle.r6501q_cpu.specs.Asking.{answeredInstruction};
 use cpu::Ask;
 use cpu::Outcome;
 use cpu::UNDEFINED;
 use cpu::entries::interrupt_entry;
 use cpu::entries::reset_entry;
-use cpu::quiet::one_outcome;
+use cpu::work::one_outcome;
 use cpu_access::CpuRegisters;
 use cpu_access::IRQ_VECTOR;
 use cpu_access::NMI_VECTOR;
@@ -46,7 +47,7 @@ pub enum Processed {
 }
 
 // An instruction with the answers so far: it is over, or one more answer is given.
-pub enum Turn {
+pub enum Round {
     Over(Processed),
     Answered(Reading),
 }
@@ -117,9 +118,9 @@ fn registers_after(p: Peripherals, w: Writes) -> Peripherals
 fn answer(p: Peripherals, levels: u32, ask: Ask) -> Reading
     ensures { λ r. ⌜ r ≡ answerOf p levels ask ⌝ }
 {
-    let written = registers_after(p, ask.writes);
+    let after = registers_after(p, ask.writes);
     Reading {
-        value: r6501q_registers::read::value(written, levels, ask.latch, ask.address),
+        value: r6501q_registers::read::value(after, levels, ask.latch, ask.address),
         peripherals: r6501q_registers::read::after_read(p, ask.address),
     }
 }
@@ -128,9 +129,9 @@ fn answer(p: Peripherals, levels: u32, ask: Ask) -> Reading
 fn next_state(s: State, due: Due, p: Peripherals, w: Worked) -> Next
     ensures { λ r. ⌜ r ≡ nextOf s due p w ⌝ }
 {
-    let written = w.written;
-    let cpu = cpu_of(w.registers, bits::one_less(w.length), waiting_of(written));
-    let writes = pushes_of(written);
+    let writing = w.writing;
+    let cpu = cpu_of(w.registers, bits::one_less(w.length), waiting_of(writing));
+    let writes = pushes_of(writing);
     let peripherals = registers_after(p, writes);
     let mut state = s;
     state.cpu = cpu;
@@ -143,15 +144,15 @@ fn next_state(s: State, due: Due, p: Peripherals, w: Worked) -> Next
 }
 
 // An instruction worked with the answers so far.
-fn take_turn(s: State, p: Peripherals, answers: &[u8], memory: &[u8], entries: &[u16]) -> Turn
+fn one_round(s: State, p: Peripherals, answers: &[u8], memory: &[u8], entries: &[u16]) -> Round
     requires { ⌜ now entries ≡ opcodeTable ⌝ }
-    ensures { λ r. ⌜ r ≡ turnOf s p (now (answers .entry)) (now (memory .entry)) ⌝ }
+    ensures { λ r. ⌜ r ≡ roundOf s p (now (answers .entry)) (now (memory .entry)) ⌝ }
 {
     let outcome = one_outcome(registers_of(s.cpu), answers, memory, entries);
     match outcome {
-        Outcome::Stopped(number) => Turn::Over(Processed::Stopped(number)),
-        Outcome::Asked(ask) => Turn::Answered(answer(p, s.last.ports, ask)),
-        Outcome::Done(worked) => Turn::Over(Processed::Done(next_state(s, s.due, p, worked))),
+        Outcome::Stopped(number) => Round::Over(Processed::Stopped(number)),
+        Outcome::Asked(ask) => Round::Answered(answer(p, s.last.ports, ask)),
+        Outcome::Done(worked) => Round::Over(Processed::Done(next_state(s, s.due, p, worked))),
     }
 }
 
@@ -164,12 +165,12 @@ fn whole_instruction(s: State, memory: &[u8], entries: &[u16]) -> Processed
     let mut peripherals = s.peripherals;
     let mut count = 0;
     while count < ANSWERS {
-        let turned = take_turn(s, peripherals, &answers[..count], memory, entries);
-        match turned {
-            Turn::Over(processed) => {
+        let round = one_round(s, peripherals, &answers[..count], memory, entries);
+        match round {
+            Round::Over(processed) => {
                 return processed;
             }
-            Turn::Answered(reading) => {
+            Round::Answered(reading) => {
                 answers[count] = reading.value;
                 peripherals = reading.peripherals;
                 count += 1;

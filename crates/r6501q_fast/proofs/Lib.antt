@@ -1,4 +1,4 @@
 pub mod Commits
 pub mod Opcodes
 pub mod Tried
-pub mod Turns
+pub mod Instructions

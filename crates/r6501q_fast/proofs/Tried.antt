@@ -33,28 +33,28 @@ use Rattle.cpu_access.specs.declared.stack.Write.{Write}
 use Rattle.cpu_access.specs.declared.stack.Writes.{Writes}
 use Rattle.cpu_access.specs.declared.Fetched.{Fetched}
 use Rattle.cpu_access.specs.declared.stack.Pulled.{Pulled}
-use Rattle.bits.specs.Bits.{digit, word}
+use Rattle.bits.specs.Bits.{digit, word16}
 use Rattle.cpu_alu.specs.Status.{unpacked}
 use Rattle.cpu_access.proofs.Told.{unwritten}
 use Rattle.r6501q_fast.specs.declared.Attempt.{Attempt}
 use Rattle.cpu_access.specs.Bus.{idle, nextAddress, memoryByte, readOf, fetchOf}
 use Rattle.cpu_access.specs.Modes.{locateOf, relativeTo}
-use Rattle.cpu_access.specs.Stack.{writeAt, oneWrite, pushAt, down, noWrites, pullOf, pullWord}
+use Rattle.cpu_access.specs.Stack.{writeAt, oneWrite, pushAt, down, noWrites, pullOf, pullAddress}
 use Rattle.cpu_operations.specs.declared.Worked.{Worked}
-use Rattle.cpu_operations.specs.declared.Written.{Written}
-use Rattle.cpu_operations.specs.declared.Written.the-variants.{Nothing, Pushed, Stored}
+use Rattle.cpu_operations.specs.declared.Writing.{Writing}
+use Rattle.cpu_operations.specs.declared.Writing.the-variants.{Nothing, Pushed, Stored}
 use Rattle.cpu_operations.specs.Effects.{pushesOf, waitingOf, completed, stored, modified, branched, bitBranched}
 use Rattle.cpu_operations.specs.Effects.{jumped, pushedByte, pulledByte, returned, returnedFromInterrupt}
 use Rattle.cpu_operations.specs.Kinds.{withRead, changedBy, byteToStore, branchTaken, bitBranchTaken, byteToPush}
 use Rattle.cpu_operations.specs.Kinds.{withPulled, withRegister, withFlag}
-use Rattle.cpu_operations.specs.Operations.{workOf}
+use Rattle.cpu_operations.specs.Operations.{operateOf}
 use Rattle.cpu_operations.specs.Updates.{withPc, withSp, withStatus, intoA}
 use Rattle.cpu.specs.declared.Outcome.{Outcome}
 use Rattle.cpu.specs.declared.Outcome.the-variants.{Done}
-use Rattle.cpu.specs.declared.quiet.Work.{Work}
+use Rattle.cpu.specs.declared.work.Work.{Work}
 use Rattle.cpu.specs.Instruction.{instructionOf, executeOf, outcomeOf, carriedOut, operandByte, subroutineCall}
 use Rattle.cpu.specs.Instruction.{writesAsked}
-use Rattle.cpu.specs.Quiet.{nextWork}
+use Rattle.cpu.specs.Work.{nextWork}
 use Rattle.r6501q_clock.specs.Commit.{putWrite, committed}
 use Rattle.r6501q_spans.specs.Spans.{endsSpan, writesRegister, putWork}
 use Rattle.r6501q_spans.proofs.Ends.{either-false, ends-not}
@@ -121,10 +121,10 @@ module _ (halt : Halt) (span : ℕ) (w : Work) (memory : List ℕ) (inside : w .
   left-or-same false a f = f refl
 
   -- nothing is written
-  quiet : (o : Operation) (m : Mode) (n : ℕ) → Decodes o m n → (r : CpuRegisters) (length : ℕ)
+  read-only : (o : Operation) (m : Mode) (n : ℕ) → Decodes o m n → (r : CpuRegisters) (length : ℕ)
       → Executes o m n (workedOut r Nothing length) → Tries halt span w memory (startedNext w r length) memory
   unfolding waitingOf
-  quiet o m n d r length e =
+  read-only o m n d r length e =
       whole (subst (λ (memory' : List ℕ). Instructed halt span w memory (nextWork w (workedOut r Nothing length))
       memory')
       (nothing-committed memory)
@@ -159,7 +159,7 @@ module _ (halt : Halt) (span : ℕ) (w : Work) (memory : List ℕ) (inside : w .
       → Executes (operation.Read o) m n
       (workedOut (withRead o (withPc (placeOf m .pc) (w .registers)) (memoryByte memory (placeOf m .address))) Nothing
       (n + digit (placeOf m .crossed)))
-  unfolding executeOf carriedOut operandByte readOf outcomeOf workOf completed
+  unfolding executeOf carriedOut operandByte readOf outcomeOf operateOf completed
   read-done o m n b a = rw (a, b) refl
 
   pub read-tries : (o : ReadOperation) (m : Mode) (n : ℕ) → Decodes (operation.Read o) m n
@@ -168,14 +168,14 @@ module _ (halt : Halt) (span : ℕ) (w : Work) (memory : List ℕ) (inside : w .
   read-tries o m n d =
       left-or-same (asksFor (placeOf m)) _
       (λ t. let both = either-false (placeOf m .bus .missing) (isRegister (placeOf m .address)) t in
-      quiet (operation.Read o) m n d _ _ (read-done o m n (both .0) (both .1)))
+      read-only (operation.Read o) m n d _ _ (read-done o m n (both .0) (both .1)))
 
   -- STA, STX and STY
   save-done : (o : StoreOperation) (m : Mode) (n : ℕ) → placeOf m .bus .missing ≡ false
       → Executes (operation.Store o) m n
       (workedOut (withPc (placeOf m .pc) (w .registers))
       (Stored (writeAt (placeOf m .address) (byteToStore o (w .registers)))) n)
-  unfolding executeOf carriedOut operandByte outcomeOf workOf stored
+  unfolding executeOf carriedOut operandByte outcomeOf operateOf stored
   save-done o m n b = rw (byte-stored o (placeOf m .pc) (w .registers), b) refl
 
   pub save-tries : (o : StoreOperation) (m : Mode) (n : ℕ) → Decodes (operation.Store o) m n → 1 < n
@@ -193,7 +193,7 @@ module _ (halt : Halt) (span : ℕ) (w : Work) (memory : List ℕ) (inside : w .
       → Executes (operation.Modify o) m n
       (workedOut (withStatus (changedAt o w memory (placeOf m) .status) (withPc (placeOf m .pc) (w .registers)))
       (Stored (writeAt (placeOf m .address) (changedAt o w memory (placeOf m) .value))) n)
-  unfolding executeOf carriedOut operandByte readOf outcomeOf workOf modified stored
+  unfolding executeOf carriedOut operandByte readOf outcomeOf operateOf modified stored
   change-done o m n c b a = rw (c, a, b) refl
 
   pub change-tries : (o : ModifyOperation) (m : Mode) (n : ℕ) → Decodes (operation.Modify o) m n
@@ -209,8 +209,8 @@ module _ (halt : Halt) (span : ℕ) (w : Work) (memory : List ℕ) (inside : w .
   -- A changed
   pub accumulator-tries : (o : ModifyOperation) (n : ℕ) → Decodes (operation.Modify o) Accumulator n
       → Tries halt span w memory (accumulatorTried o w (nextAddress (w .registers .pc)) n) memory
-  unfolding accumulatorTried executeOf carriedOut operandByte outcomeOf workOf modified locateOf
-  accumulator-tries o n d = quiet (operation.Modify o) Accumulator n d _ _ refl
+  unfolding accumulatorTried executeOf carriedOut operandByte outcomeOf operateOf modified locateOf
+  accumulator-tries o n d = read-only (operation.Modify o) Accumulator n d _ _ refl
 
   -- branches
   branch-done : (o : Operation) (m : Mode) (n : ℕ) → Decodes o m n → (taken : Bool) (p : Place)
@@ -226,8 +226,8 @@ module _ (halt : Halt) (span : ℕ) (w : Work) (memory : List ℕ) (inside : w .
           → Tries halt span w memory
           (cond t (startedNext w (withPc (p .address) (w .registers)) (n + 1 + digit (p .crossed)))
           (startedNext w (withPc (p .pc) (w .registers)) n)) memory
-      by-taken true z = quiet o m n d _ _ (e true z)
-      by-taken false z = quiet o m n d _ _ (e false z)
+      by-taken true z = read-only o m n d _ _ (e true z)
+      by-taken false z = read-only o m n d _ _ (e false z)
 
   -- what a branch executes to, taken or not
   branch-executes : (o : BranchOperation) (n : ℕ) → placeOf Relative .bus .missing ≡ false → (t : Bool)
@@ -236,7 +236,7 @@ module _ (halt : Halt) (span : ℕ) (w : Work) (memory : List ℕ) (inside : w .
       (cond t (workedOut (withPc (placeOf Relative .address) (w .registers)) Nothing
       (n + 1 + digit (placeOf Relative .crossed)))
       (workedOut (withPc (placeOf Relative .pc) (w .registers)) Nothing n))
-  unfolding executeOf carriedOut operandByte outcomeOf workOf branched
+  unfolding executeOf carriedOut operandByte outcomeOf operateOf branched
   branch-executes o n b true z = rw (sym z, b) refl
   branch-executes o n b false z = rw (sym z, b) refl
 
@@ -266,7 +266,7 @@ module _ (halt : Halt) (span : ℕ) (w : Work) (memory : List ℕ) (inside : w .
       → Executes (operation.BitBranch o) ZeroPageRelative n
       (cond t (workedOut (withPc (target .address) (w .registers)) Nothing (n + 1 + digit (target .crossed)))
       (workedOut (withPc (target .pc) (w .registers)) Nothing n))
-  unfolding executeOf carriedOut operandByte readOf outcomeOf workOf bitBranched branched
+  unfolding executeOf carriedOut operandByte readOf outcomeOf operateOf bitBranched branched
   bit-branch-executes o n a b true z = rw (a, sym z, b) refl
   bit-branch-executes o n a b false z = rw (a, sym z, b) refl
 
@@ -290,20 +290,20 @@ module _ (halt : Halt) (span : ℕ) (w : Work) (memory : List ℕ) (inside : w .
 
   jump-done : (m : Mode) (n : ℕ) → placeOf m .bus .missing ≡ false
       → Executes operation.Jmp m n (workedOut (withPc (placeOf m .address) (w .registers)) Nothing n)
-  unfolding executeOf carriedOut operandByte outcomeOf workOf jumped
+  unfolding executeOf carriedOut operandByte outcomeOf operateOf jumped
   jump-done m n b = rw b refl
 
   pub jump-tries : (m : Mode) (n : ℕ) → Decodes operation.Jmp m n
       → Tries halt span w memory (jumpTried w (placeOf m) n) memory
   unfolding jumpTried
-  jump-tries m n d = left-or-same (placeOf m .bus .missing) _ (λ b. quiet operation.Jmp m n d _ _ (jump-done m n b))
+  jump-tries m n d = left-or-same (placeOf m .bus .missing) _ (λ b. read-only operation.Jmp m n d _ _ (jump-done m n b))
 
   -- PHA and PHP
   push-done : (o : PushOperation) (n : ℕ)
       → Executes (operation.Push o) Implied n
       (workedOut (withSp (down (w .registers .sp)) behind)
       (Pushed (oneWrite (pushAt (w .registers .sp) (byteToPush o (w .registers))))) n)
-  unfolding executeOf carriedOut operandByte outcomeOf workOf pushedByte locateOf
+  unfolding executeOf carriedOut operandByte outcomeOf operateOf pushedByte locateOf
   push-done o n = rw (byte-pushed o (nextAddress (w .registers .pc)) (w .registers)) refl
 
   pub push-tries : (o : PushOperation) (n : ℕ) → Decodes (operation.Push o) Implied n
@@ -317,7 +317,7 @@ module _ (halt : Halt) (span : ℕ) (w : Work) (memory : List ℕ) (inside : w .
       → Executes (operation.Pull o) Implied n
       (workedOut (withPulled o (withSp (pullOf [] memory (w .registers .sp) idle .sp) behind)
       (pullOf [] memory (w .registers .sp) idle .value)) Nothing n)
-  unfolding executeOf carriedOut operandByte outcomeOf workOf pulledByte locateOf
+  unfolding executeOf carriedOut operandByte outcomeOf operateOf pulledByte locateOf
   pull-done o n b = rw b refl
 
   pub pull-tries : (o : PullOperation) (n : ℕ) → Decodes (operation.Pull o) Implied n
@@ -325,27 +325,27 @@ module _ (halt : Halt) (span : ℕ) (w : Work) (memory : List ℕ) (inside : w .
   unfolding pullTried
   pull-tries o n d =
       left-or-same (pullOf [] memory (w .registers .sp) idle .bus .missing) _
-      (λ b. quiet (operation.Pull o) Implied n d _ _ (pull-done o n b))
+      (λ b. read-only (operation.Pull o) Implied n d _ _ (pull-done o n b))
 
   pub register-tries : (o : RegisterOperation) (n : ℕ) → Decodes (operation.Register o) Implied n
       → Tries halt span w memory (registerTried o w (nextAddress (w .registers .pc)) n) memory
-  unfolding registerTried executeOf carriedOut operandByte outcomeOf workOf completed locateOf
+  unfolding registerTried executeOf carriedOut operandByte outcomeOf operateOf completed locateOf
   register-tries o n d =
-      quiet (operation.Register o) Implied n d _ _
+      read-only (operation.Register o) Implied n d _ _
       (ap (λ (k : ℕ). Done (workedOut (withRegister o behind) Nothing k)) (add-zero n))
 
   pub flag-tries : (o : FlagOperation) (n : ℕ) → Decodes (operation.Flag o) Implied n
       → Tries halt span w memory (flagTried o w (nextAddress (w .registers .pc)) n) memory
-  unfolding flagTried executeOf carriedOut operandByte outcomeOf workOf completed locateOf
+  unfolding flagTried executeOf carriedOut operandByte outcomeOf operateOf completed locateOf
   flag-tries o n d =
-      quiet (operation.Flag o) Implied n d _ _
+      read-only (operation.Flag o) Implied n d _ _
       (ap (λ (k : ℕ). Done (workedOut (withStatus (withFlag o (w .registers .status)) behind) Nothing k)) (add-zero n))
 
   pub no-operation-tries : (n : ℕ) → Decodes operation.Nop Implied n
       → Tries halt span w memory (startedNext w behind n) memory
-  unfolding executeOf carriedOut operandByte outcomeOf workOf completed locateOf
+  unfolding executeOf carriedOut operandByte outcomeOf operateOf completed locateOf
   no-operation-tries n d =
-      quiet operation.Nop Implied n d _ _ (ap (λ (k : ℕ). Done (workedOut behind Nothing k)) (add-zero n))
+      read-only operation.Nop Implied n d _ _ (ap (λ (k : ℕ). Done (workedOut behind Nothing k)) (add-zero n))
 
   -- JSR
   abbrev lower : Fetched
@@ -353,7 +353,7 @@ module _ (halt : Halt) (span : ℕ) (w : Work) (memory : List ℕ) (inside : w .
 
   call-done : (n : ℕ) → callUpper memory w lower .bus .missing ≡ false
       → Executes operation.Jsr Absolute n
-      (workedOut (withPc (word (callUpper memory w lower .value) (lower .value))
+      (workedOut (withPc (word16 (callUpper memory w lower .value) (lower .value))
       (withSp (down (down (w .registers .sp))) (w .registers)))
       (Pushed (callPushes w lower)) n)
   unfolding executeOf subroutineCall outcomeOf
@@ -369,35 +369,35 @@ module _ (halt : Halt) (span : ℕ) (w : Work) (memory : List ℕ) (inside : w .
       pushes operation.Jsr Absolute n d _ _ n (call-done n (both .0)) (both .1))
 
   -- RTS and RTI
-  return-done : (n : ℕ) → pullWord [] memory (w .registers .sp) idle .bus .missing ≡ false
+  return-done : (n : ℕ) → pullAddress [] memory (w .registers .sp) idle .bus .missing ≡ false
       → Executes operation.Rts Implied n
-      (workedOut (withPc (nextAddress (pullWord [] memory (w .registers .sp) idle .value))
-      (withSp (pullWord [] memory (w .registers .sp) idle .sp) (w .registers)))
+      (workedOut (withPc (nextAddress (pullAddress [] memory (w .registers .sp) idle .value))
+      (withSp (pullAddress [] memory (w .registers .sp) idle .sp) (w .registers)))
       Nothing n)
-  unfolding executeOf carriedOut operandByte outcomeOf workOf returned locateOf
+  unfolding executeOf carriedOut operandByte outcomeOf operateOf returned locateOf
   return-done n b = rw b refl
 
   pub return-tries : (n : ℕ) → Decodes operation.Rts Implied n
       → Tries halt span w memory (returnTried w memory n) memory
   unfolding returnTried
   return-tries n d =
-      left-or-same (pullWord [] memory (w .registers .sp) idle .bus .missing) _
-      (λ b. quiet operation.Rts Implied n d _ _ (return-done n b))
+      left-or-same (pullAddress [] memory (w .registers .sp) idle .bus .missing) _
+      (λ b. read-only operation.Rts Implied n d _ _ (return-done n b))
 
   abbrev status : Pulled
   status = pullOf [] memory (w .registers .sp) idle
 
-  resume-done : (n : ℕ) → pullWord [] memory (status .sp) (status .bus) .bus .missing ≡ false
+  resume-done : (n : ℕ) → pullAddress [] memory (status .sp) (status .bus) .bus .missing ≡ false
       → Executes operation.Rti Implied n
-      (workedOut (withPc (pullWord [] memory (status .sp) (status .bus) .value)
+      (workedOut (withPc (pullAddress [] memory (status .sp) (status .bus) .value)
       (withStatus (unpacked (status .value))
-      (withSp (pullWord [] memory (status .sp) (status .bus) .sp) (w .registers)))) Nothing n)
-  unfolding executeOf carriedOut operandByte outcomeOf workOf returnedFromInterrupt locateOf
+      (withSp (pullAddress [] memory (status .sp) (status .bus) .sp) (w .registers)))) Nothing n)
+  unfolding executeOf carriedOut operandByte outcomeOf operateOf returnedFromInterrupt locateOf
   resume-done n b = rw b refl
 
   pub interrupt-return-tries : (n : ℕ) → Decodes operation.Rti Implied n
       → Tries halt span w memory (interruptReturnTried w memory n) memory
   unfolding interruptReturnTried
   interrupt-return-tries n d =
-      left-or-same (pullWord [] memory (status .sp) (status .bus) .bus .missing) _
-      (λ b. quiet operation.Rti Implied n d _ _ (resume-done n b))
+      left-or-same (pullAddress [] memory (status .sp) (status .bus) .bus .missing) _
+      (λ b. read-only operation.Rti Implied n d _ _ (resume-done n b))

@@ -23,25 +23,25 @@ use Rattle.cpu_access.specs.declared.waiting.Waiting.the-variants as waiting
 use Rattle.cpu_access.specs.declared.Fetched.{Fetched}
 use Rattle.cpu_access.specs.declared.Got.{Got}
 use Rattle.cpu_access.specs.declared.stack.Pulled.{Pulled}
-use Rattle.cpu_access.specs.declared.stack.PulledWord.{PulledWord}
+use Rattle.cpu_access.specs.declared.stack.PulledAddress.{PulledAddress}
 use Rattle.cpu_alu.specs.declared.Computed.{Computed}
 use Rattle.cpu_alu.specs.declared.Status.{Status}
 use Rattle.cpu_alu.specs.Status.{unpacked}
-use Rattle.bits.specs.Bits.{word}
+use Rattle.bits.specs.Bits.{word16}
 use Rattle.cpu_access.specs.Bus.{idle, nextAddress, memoryByte, fetchOf}
 use Rattle.cpu_access.specs.Modes.{relativeTo}
-use Rattle.cpu_access.specs.Stack.{writeAt, oneWrite, pushAt, down, pushWord, pullOf, pullWord, readAfter}
+use Rattle.cpu_access.specs.Stack.{writeAt, oneWrite, pushAt, down, pushAddress, pullOf, pullAddress, readAfter}
 use Rattle.cpu_operations.specs.declared.Worked.{Worked}
-use Rattle.cpu_operations.specs.declared.Written.{Written}
-use Rattle.cpu_operations.specs.declared.Written.the-variants.{Nothing, Pushed, Stored}
+use Rattle.cpu_operations.specs.declared.Writing.{Writing}
+use Rattle.cpu_operations.specs.declared.Writing.the-variants.{Nothing, Pushed, Stored}
 use Rattle.cpu_operations.specs.Effects.{pushesOf, waitingOf}
 use Rattle.cpu_operations.specs.Kinds.{withRead, changedBy, byteToStore, bitBranchTaken, withPulled, withRegister}
 use Rattle.cpu_operations.specs.Kinds.{withFlag}
 use Rattle.cpu_operations.specs.Updates.{withPc, withSp, withStatus, intoA}
 use Rattle.cpu.specs.declared.Outcome.the-variants.{Done}
-use Rattle.cpu.specs.declared.quiet.Work.{Work}
+use Rattle.cpu.specs.declared.work.Work.{Work}
 use Rattle.cpu.specs.Instruction.{instructionOf}
-use Rattle.cpu.specs.Quiet.{nextWork}
+use Rattle.cpu.specs.Work.{nextWork}
 use Rattle.r6501q_clock.specs.Commit.{committed}
 use Rattle.r6501q_unseen.specs.declared.Ticking.{Ticking}
 use Rattle.r6501q_unseen.specs.Unseen.{onTick}
@@ -58,10 +58,10 @@ pub record Starts (w : Work) (span : ℕ) : Type 0 where
 -- the span too, its byte is put. Neither writes to a register or at the halt address.
 pub data Instructed (halt : Halt) (span : ℕ) (w : Work) (memory : List ℕ) : Work → List ℕ → Type 0 where
   pushing : (worked : Worked) → w .gone .0 + w .wait < span → instructionOf (w .registers) [] memory ≡ Done worked
-      → waitingOf (worked .written) ≡ waiting.Nothing → endsSpan halt (pushesOf (worked .written)) ≡ false
-      → Instructed halt span w memory (nextWork w worked) (committed memory (pushesOf (worked .written)))
+      → waitingOf (worked .writing) ≡ waiting.Nothing → endsSpan halt (pushesOf (worked .writing)) ≡ false
+      → Instructed halt span w memory (nextWork w worked) (committed memory (pushesOf (worked .writing)))
   storing : (worked : Worked) (x : Write) → w .gone .0 + w .wait + worked .length ≤ span → 1 < worked .length
-      → instructionOf (w .registers) [] memory ≡ Done worked → worked .written ≡ Stored x
+      → instructionOf (w .registers) [] memory ≡ Done worked → worked .writing ≡ Stored x
       → endsSpan halt (oneWrite x) ≡ false
       → Instructed halt span w memory (putWork (nextWork w worked) .work) (committed memory (oneWrite x))
 
@@ -76,16 +76,17 @@ unfoldable pub sharedBy : Ticking → ℕ → ℕ → ℕ
 sharedBy t start gone = digit (onTick t start) + cond (eqb gone start) 0 (digit (onTick t gone))
 
 -- instructions one after the other, and how many of the clocks that they act on have a tick too
-pub data InTurn (halt : Halt) (span : ℕ) (t : Ticking) (w : Work) (memory : List ℕ) : Work → List ℕ → ℕ → Type 0 where
-  none : InTurn halt span t w memory w memory 0
-  more : {v w' : Work} {before memory' : List ℕ} {shared : ℕ} → InTurn halt span t w memory v before shared
+pub data ByInstructions (halt : Halt) (span : ℕ) (t : Ticking) (w : Work) (memory : List ℕ) : Work → List ℕ → ℕ
+    → Type 0 where
+  none : ByInstructions halt span t w memory w memory 0
+  more : {v w' : Work} {before memory' : List ℕ} {shared : ℕ} → ByInstructions halt span t w memory v before shared
       → Instructed halt span v before w' memory'
-      → InTurn halt span t w memory w' memory' (shared + sharedBy t (v .gone .0 + v .wait + 1) (w' .gone .0))
+      → ByInstructions halt span t w memory w' memory' (shared + sharedBy t (v .gone .0 + v .wait + 1) (w' .gone .0))
 
 -- the same with the byte that waits: where one does, nothing is done
 abbrev pub RunsOn : Halt → ℕ → Ticking → Work → Waiting → List ℕ → RanOn → List ℕ → Type 0
 RunsOn halt span t w waiting.Nothing memory r memory' =
-    InTurn halt span t w memory (r .working .work) memory' (r .shared) × (r .working .waiting ≡ waiting.Nothing)
+    ByInstructions halt span t w memory (r .working .work) memory' (r .shared) × (r .working .waiting ≡ waiting.Nothing)
 RunsOn halt span t w (waiting.Byte x) memory r memory' =
     (r ≡ record { working = record { work = w; waiting = waiting.Byte x }; shared = 0 }) × (memory' ≡ memory)
 
@@ -94,8 +95,8 @@ RunsOn halt span t w (waiting.Byte x) memory r memory' =
 abbrev pub leftAsItWas : Work → Attempt
 leftAsItWas w = record { succeeded = false; work = w }
 
-abbrev pub workedOut : CpuRegisters → Written → ℕ → Worked
-workedOut r x n = record { registers = r; written = x; length = n }
+abbrev pub workedOut : CpuRegisters → Writing → ℕ → Worked
+workedOut r x n = record { registers = r; writing = x; length = n }
 
 -- an instruction of n clocks that writes nothing to memory, or has pushed
 abbrev pub startedNext : Work → CpuRegisters → ℕ → Attempt
@@ -193,7 +194,7 @@ pullTried o w memory pc n = pulledAttempt o w pc n (pullOf [] memory (w .registe
 
 -- JSR
 abbrev pub callPushes : Work → Fetched → Writes
-callPushes w l = pushWord (w .registers .sp) (l .pc)
+callPushes w l = pushAddress (w .registers .sp) (l .pc)
 
 abbrev pub callUpper : List ℕ → Work → Fetched → Got
 callUpper memory w l = readAfter [] memory (callPushes w l) (l .pc) (l .bus)
@@ -201,7 +202,7 @@ callUpper memory w l = readAfter [] memory (callPushes w l) (l .pc) (l .bus)
 abbrev pub callAttempt : Halt → Work → ℕ → Fetched → Got → Attempt
 callAttempt halt w n l u =
     cond (u .bus .missing || endsSpan halt (callPushes w l)) (leftAsItWas w)
-    (startedNext w (withPc (word (u .value) (l .value)) (withSp (down (down (w .registers .sp))) (w .registers))) n)
+    (startedNext w (withPc (word16 (u .value) (l .value)) (withSp (down (down (w .registers .sp))) (w .registers))) n)
 
 abbrev pub callBytes : Halt → Work → List ℕ → Fetched → Got → List ℕ
 callBytes halt w memory l u =
@@ -216,22 +217,22 @@ callMemory halt w memory pc =
     callBytes halt w memory (fetchOf [] memory pc idle) (callUpper memory w (fetchOf [] memory pc idle))
 
 -- RTS
-abbrev pub returnAttempt : Work → ℕ → PulledWord → Attempt
+abbrev pub returnAttempt : Work → ℕ → PulledAddress → Attempt
 returnAttempt w n p =
     cond (p .bus .missing) (leftAsItWas w)
     (startedNext w (withPc (nextAddress (p .value)) (withSp (p .sp) (w .registers))) n)
 
 unfoldable pub returnTried : Work → List ℕ → ℕ → Attempt
-returnTried w memory n = returnAttempt w n (pullWord [] memory (w .registers .sp) idle)
+returnTried w memory n = returnAttempt w n (pullAddress [] memory (w .registers .sp) idle)
 
 -- RTI
-abbrev pub resumeAttempt : Work → ℕ → Status → PulledWord → Attempt
+abbrev pub resumeAttempt : Work → ℕ → Status → PulledAddress → Attempt
 resumeAttempt w n s p =
     cond (p .bus .missing) (leftAsItWas w)
     (startedNext w (withPc (p .value) (withStatus s (withSp (p .sp) (w .registers)))) n)
 
 abbrev pub resumeAfter : Work → List ℕ → ℕ → Pulled → Attempt
-resumeAfter w memory n p = resumeAttempt w n (unpacked (p .value)) (pullWord [] memory (p .sp) (p .bus))
+resumeAfter w memory n p = resumeAttempt w n (unpacked (p .value)) (pullAddress [] memory (p .sp) (p .bus))
 
 unfoldable pub interruptReturnTried : Work → List ℕ → ℕ → Attempt
 interruptReturnTried w memory n = resumeAfter w memory n (pullOf [] memory (w .registers .sp) idle)

@@ -19,7 +19,7 @@ use crate::started_next;
 use bits::bit8;
 use bits::digit8;
 use bits::word16;
-use cpu::quiet::Work;
+use cpu::work::Work;
 use cpu_access::Bus;
 use cpu_access::halt::Halt;
 use cpu_access::memory_byte;
@@ -29,7 +29,7 @@ use cpu_access::next_address;
 use cpu_access::stack::Write;
 use cpu_access::stack::down;
 use cpu_access::stack::one_write;
-use cpu_access::stack::push_word;
+use cpu_access::stack::push_address;
 use cpu_access::stack::stack_address;
 use cpu_alu::Status;
 use cpu_operations::updates::load_a;
@@ -166,7 +166,7 @@ pub fn call(
     let sp = w.registers.sp;
     let lower = Bus::idle().fetch(&none, memory, pc);
     let between = lower.bus;
-    let writes = push_word(sp, lower.pc);
+    let writes = push_address(sp, lower.pc);
     let upper = between.read_after(&none, memory, writes, lower.pc);
     let ends = ends_span(writes, halt);
     if upper.bus.missing | ends {
@@ -184,7 +184,7 @@ pub fn return_from_subroutine(w: Work, memory: &[u8], length: u8) -> Attempt
     ensures { λ r. ⌜ r ≡ returnTried w (now (memory .entry)) length ⌝ }
 {
     let none = [0u8; 0];
-    let pulled = Bus::idle().pull_word(&none, memory, w.registers.sp);
+    let pulled = Bus::idle().pull_address(&none, memory, w.registers.sp);
     if pulled.bus.missing {
         return left_as_it_was(w);
     }
@@ -200,7 +200,7 @@ pub fn return_from_interrupt(w: Work, memory: &[u8], length: u8) -> Attempt
     let none = [0u8; 0];
     let p = Bus::idle().pull(&none, memory, w.registers.sp);
     let between = p.bus;
-    let pulled = between.pull_word(&none, memory, p.sp);
+    let pulled = between.pull_address(&none, memory, p.sp);
     if pulled.bus.missing {
         return left_as_it_was(w);
     }

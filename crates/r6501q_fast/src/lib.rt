@@ -3,12 +3,13 @@ ghost use mathlib.Core.Bool.{cond};
 ghost use mathlib.Core.Path.{_≡_};
 ghost use Prim.Native.Nat.{_+_, _≤_, _<_};
 ghost use Rattle.page_sums.specs.PageSums.{sumsAfter};
-ghost use Rattle.cpu.specs.Quiet.{WithinSpan};
-ghost use Rattle.r6501q_fast.specs.Attempts.{InTurn, RunsOn, sharedBy, leftAsItWas, startedNext, storedWhole};
+ghost use Rattle.cpu.specs.Work.{WithinSpan};
+ghost use Rattle.r6501q_fast.specs.Attempts.{ByInstructions, RunsOn, sharedBy, leftAsItWas, startedNext};
+ghost use Rattle.r6501q_fast.specs.Attempts.{storedWhole};
 ghost use Rattle.r6501q_fast.specs.Attempts.{asksFor};
 use bits::digit8;
 use counters::time::Clocks;
-use cpu::quiet::Work;
+use cpu::work::Work;
 use cpu_access::CpuRegisters;
 use cpu_access::halt::Halt;
 use cpu_access::memory_byte;
@@ -158,7 +159,7 @@ pub fn run_opcodes(
 ) -> Ran
     requires { ⌜ WithinSpan start (span .0) ⌝ }
     requires { ⌜ (span .0 ≤ 2147483647) × (0 < ticking .period) ⌝ }
-    ensures { λ r. ⌜ InTurn halt (span .0) ticking start (now (memory .entry)) (r .work) (now (memory .exit))
+    ensures { λ r. ⌜ ByInstructions halt (span .0) ticking start (now (memory .entry)) (r .work) (now (memory .exit))
         (r .shared) ⌝ }
     ensures { λ r. ⌜ WithinSpan (r .work) (span .0) ⌝ }
     ensures { λ _. ⌜ now (sums .exit) ≡ sumsAfter (now (sums .entry)) (now (memory .entry)) (now (memory .exit)) ⌝ }

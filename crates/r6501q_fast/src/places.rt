@@ -1,7 +1,7 @@
 // The places of operands by addressing mode, no register having been read. `pc` is that behind the opcode.
 ghost use mathlib.Core.Path.{_≡_};
 ghost use mathlib.Core.List.{[]};
-ghost use Rattle.cpu_access.specs.Bus.{nextAddress, idle, fetchOf, fetchWord};
+ghost use Rattle.cpu_access.specs.Bus.{nextAddress, idle, fetchOf, fetchAddress};
 ghost use Rattle.cpu_access.specs.Modes.{placeAt, atZeroPage, atZeroPageIndexed, atAbsolute, atIndexed};
 ghost use Rattle.cpu_access.specs.Modes.{atIndexedIndirect, atIndirectIndexed, atIndirect, relativeTo};
 use cpu_access::Bus;
@@ -37,17 +37,17 @@ pub fn zero_page_indexed(memory: &[u8], pc: u16, index: u8) -> Place
 }
 
 pub fn absolute(memory: &[u8], pc: u16) -> Place
-    ensures { λ r. ⌜ r ≡ atAbsolute (fetchWord [] (now (memory .entry)) pc idle) ⌝ }
+    ensures { λ r. ⌜ r ≡ atAbsolute (fetchAddress [] (now (memory .entry)) pc idle) ⌝ }
 {
     let none = [0u8; 0];
-    modes::at_absolute(Bus::idle().fetch_word(&none, memory, pc))
+    modes::at_absolute(Bus::idle().fetch_address(&none, memory, pc))
 }
 
 pub fn absolute_indexed(memory: &[u8], pc: u16, index: u8) -> Place
-    ensures { λ r. ⌜ r ≡ atIndexed index (fetchWord [] (now (memory .entry)) pc idle) ⌝ }
+    ensures { λ r. ⌜ r ≡ atIndexed index (fetchAddress [] (now (memory .entry)) pc idle) ⌝ }
 {
     let none = [0u8; 0];
-    modes::at_indexed(index, Bus::idle().fetch_word(&none, memory, pc))
+    modes::at_indexed(index, Bus::idle().fetch_address(&none, memory, pc))
 }
 
 pub fn indexed_indirect(memory: &[u8], pc: u16, x: u8) -> Place
@@ -65,10 +65,10 @@ pub fn indirect_indexed(memory: &[u8], pc: u16, y: u8) -> Place
 }
 
 pub fn indirect(memory: &[u8], pc: u16) -> Place
-    ensures { λ r. ⌜ r ≡ atIndirect [] (now (memory .entry)) (fetchWord [] (now (memory .entry)) pc idle) ⌝ }
+    ensures { λ r. ⌜ r ≡ atIndirect [] (now (memory .entry)) (fetchAddress [] (now (memory .entry)) pc idle) ⌝ }
 {
     let none = [0u8; 0];
-    modes::at_indirect(&none, memory, Bus::idle().fetch_word(&none, memory, pc))
+    modes::at_indirect(&none, memory, Bus::idle().fetch_address(&none, memory, pc))
 }
 
 pub fn relative(memory: &[u8], pc: u16) -> Place

@@ -9,7 +9,7 @@ use crate::asks_for;
 use crate::left_as_it_was;
 use crate::started_next;
 use bits::digit8;
-use cpu::quiet::Work;
+use cpu::work::Work;
 use cpu_access::memory_byte;
 use cpu_access::modes::Place;
 use cpu_alu::arithmetic;

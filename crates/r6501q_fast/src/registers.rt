@@ -8,7 +8,7 @@ ghost use Rattle.cpu_operations.specs.Updates.{withPc};
 ghost use Rattle.r6501q_fast.specs.Attempts.{startedNext, registerTried, flagTried};
 use crate::Attempt;
 use crate::started_next;
-use cpu::quiet::Work;
+use cpu::work::Work;
 use cpu_alu::shift;
 use cpu_operations::updates::into_x;
 use cpu_operations::updates::into_y;

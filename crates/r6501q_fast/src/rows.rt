@@ -15,7 +15,7 @@ use crate::reads;
 use crate::registers;
 use crate::stores;
 use counters::time::Clocks;
-use cpu::quiet::Work;
+use cpu::work::Work;
 use cpu_access::halt::Halt;
 use cpu_access::next_address;
 

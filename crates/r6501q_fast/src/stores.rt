@@ -14,7 +14,7 @@ use crate::left_as_it_was;
 use crate::started_next;
 use crate::stored_whole;
 use counters::time::Clocks;
-use cpu::quiet::Work;
+use cpu::work::Work;
 use cpu_access::CpuRegisters;
 use cpu_access::halt::Halt;
 use cpu_access::memory_byte;

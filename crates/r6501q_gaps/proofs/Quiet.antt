@@ -21,7 +21,7 @@ use Rattle.r6501q_state.specs.declared.state.State.{State}
 use Rattle.r6501q_state.specs.Copies.{withCounterA, withCounterB}
 use Rattle.r6501q_state.specs.Pins.{levelsOf, rose, fell, edges, withEdges, resetOf, sensedAt, sensed}
 use Rattle.r6501q_state.specs.Control.{modeA, modeB}
-use Rattle.r6501q_clock.specs.Clock.{withInputs, inputsSet, countA, countB, sentBy, heardBy, worked, readyOf}
+use Rattle.r6501q_clock.specs.Clock.{withInputs, inputsSet, countA, countB, sentBy, heardBy, peripheralsClock, readyOf}
 use Rattle.r6501q_cpu.specs.Processor.{processorOf, withoutWrites}
 use Rattle.r6501q_cpu.proofs.Stores.{clock-waits, waited-less}
 use Rattle.r6501q_gaps.specs.Events.{hasInput, levelsChange, underflowsA, underflowsB, isReset, resetChanges}
@@ -210,10 +210,10 @@ heard-none : (p : Peripherals) (x : ℕ) → heardBy p (ticksOf false) x x ≡ p
 unfolding heardBy receiverClock ticksOf
 heard-none p x = rw (no-rise 4 x)
 
-pub worked-quiet : (p : Peripherals) (x : ℕ) → (runningA (p .control) x ≡ true → 0 < p .countera .count)
-    → (runningB (p .control) ≡ true → 0 < p .counterb .count) → worked p x x ≡ passCounters p x (clocksOf 1)
-unfolding worked
-worked-quiet p x a b =
+pub peripherals-quiet : (p : Peripherals) (x : ℕ) → (runningA (p .control) x ≡ true → 0 < p .countera .count)
+    → (runningB (p .control) ≡ true → 0 < p .counterb .count) → peripheralsClock p x x ≡ passCounters p x (clocksOf 1)
+unfolding peripheralsClock
+peripherals-quiet p x a b =
     rw (
       counted-a-quiet p x a,
       counted-b-quiet (withCounterA p (passA (p .countera) (runningA (p .control) x) (clocksOf 1))) x b,
@@ -223,24 +223,24 @@ worked-quiet p x a b =
 
 -- ---- the whole clock
 
-abbrev pub workedTo : State → Peripherals → State
-workedTo s p =
+abbrev pub peripheralsTo : State → Peripherals → State
+peripheralsTo s p =
     record { cpu = s .cpu; due = s .due; peripherals = p; external = s .external; last = s .last; clock = s .clock }
 
 -- steps 1 to 3, where the levels are the last ones
-pub ready-worked : (s : State) → levelsOf s ≡ s .last → (s .last .res ≡ false → isReset s ≡ true)
-    → readyOf s [] ≡ workedTo (ahead s) (worked (s .peripherals) (s .last .ports) (s .last .ports))
+pub ready-peripherals : (s : State) → levelsOf s ≡ s .last → (s .last .res ≡ false → isReset s ≡ true)
+    → readyOf s [] ≡ peripheralsTo (ahead s) (peripheralsClock (s .peripherals) (s .last .ports) (s .last .ports))
 unfolding readyOf
-ready-worked s levels reset = rw (inputsSet-ahead s, sensed-ahead s levels reset)
+ready-peripherals s levels reset = rw (inputsSet-ahead s, sensed-ahead s levels reset)
 
 pub ready-still : (s : State) → Still s
-    → readyOf s [] ≡ workedTo (ahead s) (passCounters (s .peripherals) (s .last .ports) (clocksOf 1))
+    → readyOf s [] ≡ peripheralsTo (ahead s) (passCounters (s .peripherals) (s .last .ports) (clocksOf 1))
 ready-still s q =
-    ready-worked s (q .levels) (q .reset)
-    ∙ rw (worked-quiet (s .peripherals) (s .last .ports) (q .above-a) (q .above-b))
+    ready-peripherals s (q .levels) (q .reset)
+    ∙ rw (peripherals-quiet (s .peripherals) (s .last .ports) (q .above-a) (q .above-b))
 
 ready-quiet : (s : State) → Quiet s
-    → readyOf s [] ≡ workedTo (ahead s) (passCounters (s .peripherals) (s .last .ports) (clocksOf 1))
+    → readyOf s [] ≡ peripheralsTo (ahead s) (passCounters (s .peripherals) (s .last .ports) (clocksOf 1))
 ready-quiet s q = ready-still s (q .still)
 
 -- the CPU neither starts nor puts a byte: it waits, and where a byte waits for more than a clock
@@ -265,10 +265,10 @@ unfolding processorOf passOf waitAfter untilCpu
 clock-quiet s memory q = rw (ready-quiet s q) (by-res (s .last .res) refl)
   where
     ready : State
-    ready = workedTo (ahead s) (passCounters (s .peripherals) (s .last .ports) (clocksOf 1))
+    ready = peripheralsTo (ahead s) (passCounters (s .peripherals) (s .last .ports) (clocksOf 1))
 
     by-res : (r : Bool) → s .last .res ≡ r
-        → processorOf (workedTo (ahead s) (passCounters (s .peripherals) (s .last .ports) (clocksOf 1))) memory
+        → processorOf (peripheralsTo (ahead s) (passCounters (s .peripherals) (s .last .ports) (clocksOf 1))) memory
         ≡ withoutWrites (passOf s (clocksOf 1))
     by-res true e =
         let some = not-over true _ (s .cpu .wait) (λ _. q .waits e) refl in

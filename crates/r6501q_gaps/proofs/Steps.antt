@@ -16,7 +16,7 @@ use Rattle.cpu_access.specs.Waiting.{byteWaits}
 use Rattle.r6501q_state.specs.declared.state.State.{State}
 use Rattle.r6501q_state.specs.Copies.{withWait}
 use Rattle.r6501q_cpu.specs.declared.Processed.the-variants.{Done}
-use Rattle.r6501q_clock.specs.Clock.{countA, countB, workedState}
+use Rattle.r6501q_clock.specs.Clock.{countA, countB, withPeripheralsClock}
 use Rattle.r6501q_cpu.specs.Processor.{processorOf, startOf, bytePut, withoutWrites}
 use Rattle.r6501q_gaps.specs.Events.{underflowsA, underflowsB, cpuStarts, putsByte}
 use Rattle.r6501q_gaps.specs.Gaps.{clocksOf, waitAfter}
@@ -43,7 +43,7 @@ module _ (before : ℕ) (s : State) where
 
   -- the CPU starts, or it puts a byte, or it only waits
   pub step-start : (memory : List ℕ) → cpuStarts s ≡ true
-      → processorOf (workedState before s) memory ≡ startOf (workedState before s) memory
+      → processorOf (withPeripheralsClock before s) memory ≡ startOf (withPeripheralsClock before s) memory
   unfolding processorOf cpuStarts
   step-start memory e =
       let res = and-left (s .last .res) _ e in
@@ -51,7 +51,7 @@ module _ (before : ℕ) (s : State) where
       rw (res, le-ltb 0 (s .cpu .wait) (omega arith))
 
   pub step-put : (memory : List ℕ) (w : Write) → s .cpu .waiting ≡ Byte w → putsByte s ≡ true
-      → processorOf (workedState before s) memory ≡ Done (bytePut (workedState before s) w)
+      → processorOf (withPeripheralsClock before s) memory ≡ Done (bytePut (withPeripheralsClock before s) w)
   unfolding processorOf putsByte byteWaits
   step-put memory w waits e =
       let last = and-right (s .last .res && byteWaits (s .cpu .waiting)) _ e in
@@ -60,13 +60,13 @@ module _ (before : ℕ) (s : State) where
       rw (res, lt-ltb 0 (s .cpu .wait) (omega arith), waits, last)
 
   pub step-waits : (memory : List ℕ) → cpuStarts s ≡ false → putsByte s ≡ false
-      → processorOf (workedState before s) memory
-      ≡ withoutWrites (withWait (workedState before s) (waitAfter (s .cpu .wait) (s .last .res) (clocksOf 1)))
+      → processorOf (withPeripheralsClock before s) memory
+      ≡ withoutWrites (withWait (withPeripheralsClock before s) (waitAfter (s .cpu .wait) (s .last .res) (clocksOf 1)))
   unfolding processorOf cpuStarts putsByte waitAfter
   step-waits memory = by-res (s .last .res) refl
     where
       t : State
-      t = workedState before s
+      t = withPeripheralsClock before s
 
       by-res : (r : Bool) → s .last .res ≡ r → (s .last .res && eqb (s .cpu .wait) 0) ≡ false
           → (s .last .res && byteWaits (s .cpu .waiting) && eqb (s .cpu .wait) 1) ≡ false

@@ -15,7 +15,7 @@ use Rattle.r6501q_registers.specs.Addresses.{lowerBAddress, upperBAddres
 -- "Ports 00h to 03h: read step 1's levels"; 001, 4.1: "During the Read cycle of a Read/Modify/Write instruction the
 -- Port I/O register is read. For all other read instructions the port input lines are read."
 unfoldable pub portValue : Bool → ℕ → ℕ → ℕ
-portValue latch written levels = cond latch written (levels % 256)
+portValue latch latched levels = cond latch latched (levels % 256)
 
 -- What is read. 01: "IFR reads at 11h"; "10h reads FFh"; Machine state, "unassigned registers read FFh".
 unfoldable pub registerValue : Peripherals → ℕ → Bool → ℕ → ℕ

@@ -27,10 +27,10 @@ pub struct Reading {
 }
 
 // What a port reads as: its latch for a read-modify-write instruction, else its pins, the lowest byte of `levels`.
-fn port_value(latch: bool, written: u8, levels: u32) -> u8
-    ensures { λ r. ⌜ r ≡ portValue latch written levels ⌝ }
+fn port_value(latch: bool, latched: u8, levels: u32) -> u8
+    ensures { λ r. ⌜ r ≡ portValue latch latched levels ⌝ }
 {
-    if latch { written } else { (levels % 256) as u8 }
+    if latch { latched } else { (levels % 256) as u8 }
 }
 
 // What a register reads as, given step 1's levels; `latch` for the read of a read-modify-write instruction.

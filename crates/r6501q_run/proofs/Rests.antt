@@ -12,7 +12,7 @@ use Rattle.bits.proofs.Cond.{cond-along}
 use Rattle.cpu_access.specs.declared.halt.Halt.{Halt}
 use Rattle.refusals.specs.Refusals.{lastClock}
 use Rattle.leaps.specs.Leaps.{Run, leapOf, leftAfter, run}
-use Rattle.leaps.specs.Chip.{Chip, ClockOutcome, stopped, ended}
+use Rattle.leaps.specs.Chip.{ChipRules, ClockOutcome, stopped, ended}
 use Rattle.leaps.specs.World.{WorldOf, after, dueIn, outcomeIn, plainOf, runningIn, systemOf}
 use Rattle.leaps.proofs.Along.{Unseen, run-along}
 use Rattle.r6501q_gaps.specs.Gaps.{clocksOf}
@@ -45,7 +45,7 @@ module _ {S : Type 0} (k : ℕ) where
   runBefore r = record { world = readBefore (r .world); leaps = r .leaps }
 
   -- no clock, gap or count sees how many
-  module _ (C : Chip S) where
+  module _ (C : ChipRules S) where
     after-read : (w : WorldOf S) (due : ℕ) (o : ClockOutcome S)
         → readBefore (after C w due o) ≡ after C (readBefore w) due o
     after-read w due (stopped number) = refl

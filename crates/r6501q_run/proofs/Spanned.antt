@@ -8,8 +8,8 @@ use native.Mathlib.Omega.{arith}
 use lib.Dec.{ltb, leb}
 use borrow.Author.Tests.{ltb-true, leb-true, leb-false, not-true}
 use Rattle.bits.proofs.Cond.{cond-both, and-left, and-right}
-use Rattle.cpu_operations.specs.declared.Written.{Written}
-use Rattle.cpu_operations.specs.declared.Written.the-variants.{Nothing}
+use Rattle.cpu_operations.specs.declared.Writing.{Writing}
+use Rattle.cpu_operations.specs.declared.Writing.the-variants.{Nothing}
 use Rattle.cpu_operations.specs.Effects.{pushesOf}
 use Rattle.cpu_access.specs.declared.halt.Halt.{Halt}
 use Rattle.cpu_access.specs.declared.stack.Write.{Write}
@@ -18,8 +18,8 @@ use Rattle.cpu_access.proofs.Told.{unwritten}
 use Rattle.cpu_operations.specs.declared.Worked.{Worked}
 use Rattle.cpu.specs.declared.Outcome.{Outcome}
 use Rattle.cpu.specs.declared.Outcome.the-variants as outcome
-use Rattle.cpu.specs.declared.quiet.Work.{Work}
-use Rattle.cpu.specs.Quiet.{WithinSpan}
+use Rattle.cpu.specs.declared.work.Work.{Work}
+use Rattle.cpu.specs.Work.{WithinSpan}
 use Rattle.leaps.specs.Leaps.{run, no-leap}
 use Rattle.leaps.proofs.Laws.{by-leaps-run}
 use Rattle.r6501q_state.specs.declared.state.State.{State}
@@ -42,17 +42,17 @@ use Rattle.r6501q_run.proofs.Laws.{lawful}
 pub work-either : (halt : Halt) (s : State) (span : ℕ) (w : Work) (memory : List ℕ) (P : Working → List ℕ → Type 0)
     → w .gone .0 ≤ span → P (noneWaiting w) memory
     → ((worked : Worked) → w .gone .0 + w .wait < span → outcomeWithin s (w .registers) memory ≡ outcome.Done worked
-    → endsSpan halt (pushesOf (worked .written)) ≡ false
-    → P (nextWorking w worked) (committed memory (pushesOf (worked .written))))
+    → endsSpan halt (pushesOf (worked .writing)) ≡ false
+    → P (nextWorking w worked) (committed memory (pushesOf (worked .writing))))
     → P (workAfter halt s span w memory) (memoryAfter halt s span w memory)
 unfolding workAfter memoryAfter continuedBy committedBy
 work-either halt s span w memory P room none next = by-test (leb (span - w .gone .0) (w .wait)) refl
   where
     by-writes : (worked : Worked) → w .gone .0 + w .wait < span
         → outcomeWithin s (w .registers) memory ≡ outcome.Done worked → (t : Bool)
-        → endsSpan halt (pushesOf (worked .written)) ≡ t
+        → endsSpan halt (pushesOf (worked .writing)) ≡ t
         → P (cond t (noneWaiting w) (nextWorking w worked))
-        (cond t memory (committed memory (pushesOf (worked .written))))
+        (cond t memory (committed memory (pushesOf (worked .writing))))
     by-writes worked inside e true q = none
     by-writes worked inside e false q = next worked inside e q
 
@@ -61,7 +61,7 @@ work-either halt s span w memory P room none next = by-test (leb (span - w .gone
     by-outcome (outcome.Stopped number) inside e = none
     by-outcome (outcome.Asked ask) inside e = none
     by-outcome (outcome.Done worked) inside e =
-        by-writes worked inside e (endsSpan halt (pushesOf (worked .written))) refl
+        by-writes worked inside e (endsSpan halt (pushesOf (worked .writing))) refl
 
     by-test : (t : Bool) → leb (span - w .gone .0) (w .wait) ≡ t
         → P (cond t (noneWaiting w) (workBy halt w (outcomeWithin s (w .registers) memory)))
@@ -110,16 +110,16 @@ room-put halt span w x room =
     (λ some fits q. record { gone = fits; leaps = omega (arith, room .leaps) })
 
 -- an instruction that writes nothing pushes neither to a register nor at the halt address, and leaves memory as it is
-no-register : (w : Written) → w ≡ Nothing → writesRegister (pushesOf w) ≡ false
+no-register : (w : Writing) → w ≡ Nothing → writesRegister (pushesOf w) ≡ false
 unfolding writesRegister pushesOf
 no-register w e = rw e
 
-pub no-end : (halt : Halt) (w : Written) → w ≡ Nothing → endsSpan halt (pushesOf w) ≡ false
+pub no-end : (halt : Halt) (w : Writing) → w ≡ Nothing → endsSpan halt (pushesOf w) ≡ false
 unfolding pushesOf
 no-end halt w e =
     rw e (ends-not halt (pushesOf Nothing) (no-register Nothing refl) (unwritten halt (pushesOf Nothing) refl))
 
-pub same-memory : (memory : List ℕ) (w : Written) → w ≡ Nothing → committed memory (pushesOf w) ≡ memory
+pub same-memory : (memory : List ℕ) (w : Writing) → w ≡ Nothing → committed memory (pushesOf w) ≡ memory
 unfolding committed putWrite pushesOf
 same-memory memory w e = rw e
 

@@ -14,7 +14,7 @@ use Rattle.cpu_access.specs.declared.halt.Halt.{Halt}
 use Rattle.cpu_access.specs.declared.halt.Halt.the-variants.{Nowhere, At}
 use Rattle.cpu_alu.specs.Arithmetic.{adcOf}
 use Rattle.cpu_alu.proofs.Examples as alu
-use Rattle.bits.specs.Bits.{bit, word}
+use Rattle.bits.specs.Bits.{bit, word16}
 use Rattle.serial.specs.Transmitter.{idleTransmitter}
 use Rattle.r6501q_state.specs.State.{fresh}
 use Rattle.r6501q_state.specs.Pins.{sensed}
@@ -107,7 +107,7 @@ pub record Examples : Type 0 where
   pub indirect-jump : (first last next : ℕ)
       → plains (chip Nowhere) 1
       (clocks.startWith (clocks.running 0) (jumpMemory first last next) [] [] [] []) .state .cpu
-      ≡ record { a = 0; x = 0; y = 0; sp = 0xFF; p = 0x04; pc = word first last; wait = 4; waiting = Nothing }
+      ≡ record { a = 0; x = 0; y = 0; sp = 0xFF; p = 0x04; pc = word16 first last; wait = 4; waiting = Nothing }
   -- 02, U8: fresh, field by field (r6501q_state/proofs/Fresh.antt has the literals)
   pub fresh-fields : FreshFields
   -- 02, U8, a fresh chip with no inputs: both counters and IFR after clocks 65,535 to 65,537, and the leaps of 65,536

@@ -11,7 +11,7 @@ use lib.ListN.{length, drop}
 use borrow.Author.Tests.{ltb-true, ltb-false, lt-ltb, le-ltb, eq-eqb, ne-eqb}
 use Rattle.bits.specs.Bits.{digit}
 use Rattle.bits.proofs.Cond.{cond-both, digit-le}
-use Rattle.cpu_operations.specs.declared.Written.the-variants.{Nothing, Stored}
+use Rattle.cpu_operations.specs.declared.Writing.the-variants.{Nothing, Stored}
 use Rattle.cpu_operations.specs.Effects.{pushesOf, waitingOf}
 use Rattle.cpu_access.specs.declared.halt.Halt.{Halt}
 use Rattle.cpu_access.specs.declared.stack.Write.{Write}
@@ -21,9 +21,9 @@ use Rattle.cpu_access.specs.declared.waiting.Waiting.the-variants as waiting
 use Rattle.cpu_access.specs.Stack.{oneWrite, noWrites}
 use Rattle.cpu_operations.specs.declared.Worked.{Worked}
 use Rattle.cpu.specs.declared.Outcome.the-variants as outcome
-use Rattle.cpu.specs.declared.quiet.Work.{Work}
+use Rattle.cpu.specs.declared.work.Work.{Work}
 use Rattle.cpu.specs.Instruction.{instructionOf}
-use Rattle.cpu.specs.Quiet.{WithinSpan, nextWork}
+use Rattle.cpu.specs.Work.{WithinSpan, nextWork}
 use Rattle.leaps.specs.Leaps.{System, leapOf, leftAfter, ByLeaps, no-leap, one-more}
 use Rattle.leaps.specs.World.{passIn, putRecord, doneIn, plainOf}
 use Rattle.r6501q_state.specs.declared.state.Peripherals.{Peripherals}
@@ -34,8 +34,8 @@ use Rattle.r6501q_clock.specs.declared.Clocked.the-variants.{Done}
 use Rattle.r6501q_clock.specs.Clock.{endedWith, clockOf}
 use Rattle.r6501q_clock.specs.Commit.{committed}
 use Rattle.r6501q_unseen.specs.declared.Ticking.{Ticking}
-use Rattle.r6501q_unseen.specs.Unseen.{workedFor, ticksNext, ticksIn, Unseen, onTick, tickingOf}
-use Rattle.r6501q_unseen.proofs.TickClocks.{on-tick, worked-add, ticks-add}
+use Rattle.r6501q_unseen.specs.Unseen.{peripheralsClocks, ticksNext, ticksIn, Unseen, onTick, tickingOf}
+use Rattle.r6501q_unseen.proofs.TickClocks.{on-tick, peripherals-add, ticks-add}
 use Rattle.r6501q_unseen.proofs.Laws.{ticks-one, first-tick, ticks-most}
 use Rattle.r6501q_step.specs.declared.Progress.{Progress}
 use Rattle.r6501q_step.specs.R6501q.{World, r6501q, chip}
@@ -52,11 +52,11 @@ use Rattle.r6501q_spans.proofs.Ticked.{ticked-waits, tick-gap, cpu-gap, ticked-
 use Rattle.r6501q_spans.proofs.Ticked.{instruction-there, until-put, byte-there}
 use Rattle.r6501q_run.specs.declared.Leaped.{Leaped}
 use Rattle.r6501q_fast.specs.declared.RanOn.{RanOn}
-use Rattle.r6501q_fast.specs.Attempts as turns
-use Rattle.r6501q_fast.specs.Attempts.{InTurn, sharedBy, RunsOn}
-use Rattle.r6501q_fast.proofs.Turns.{shared-most}
+use Rattle.r6501q_fast.specs.Attempts as instructions
+use Rattle.r6501q_fast.specs.Attempts.{ByInstructions, sharedBy, RunsOn}
+use Rattle.r6501q_fast.proofs.Instructions.{shared-most}
 use Rattle.r6501q_run.specs.declared.Stepped.{Stepped}
-use Rattle.r6501q_run.specs.Ticked.{SpanBegun, sharedIn, leapsTo, tickedTo, Ending, StepsOn}
+use Rattle.r6501q_run.specs.Ticked.{SpanBegun, sharedIn, leapsTo, tickedTo, EndFits, StepsOn}
 use Rattle.r6501q_run.specs.Spanned.{Spanned}
 use Rattle.r6501q_run.proofs.Runs.{leap-reaches}
 use Rattle.r6501q_run.proofs.Spanned.{work-either, put-either, room-after, room-put, no-end, same-memory}
@@ -247,8 +247,8 @@ module _ (halt : Halt) (at : Leaped) (clocks : List ℕ) (span : ℕ) (on : at .
           let tick = first-tick ports here runs (λ r. omega (arith, b r, early, c .inside)) in
           let together : gone + (first + 1) ≡ gone + first + 1 = omega arith in
           let whole : d ≡ first + 1 + (d - (first + 1)) = omega arith in
-          let later : workedFor (first + 1) ports here ≡ tickedState s after .peripherals =
-          sym (worked-add gone (first + 1) ports (s .peripherals)) ∙ rw together in
+          let later : peripheralsClocks (first + 1) ports here ≡ tickedState s after .peripherals =
+          sym (peripherals-add gone (first + 1) ports (s .peripherals)) ∙ rw together in
           ap (λ (k : ℕ). ticksIn k ports here) whole ∙ ticks-add (first + 1) (d - (first + 1)) ports here
           ∙ rw (tick, later)
 
@@ -291,7 +291,8 @@ module _ (halt : Halt) (at : Leaped) (clocks : List ℕ) (span : ℕ) (on : at .
       → (v : Working) (d shared : ℕ)
       → Acting memory next writes v d → next .work .leaps ≡ v .work .leaps + 1 → LeaptTo memory₀ v shared memory
       → LeaptTo memory₀ next
-      (shared + digit (ticksNext (s .last .ports) (workedFor (v .work .gone .0 + d) (s .last .ports) (s .peripherals))))
+      (shared + digit
+      (ticksNext (s .last .ports) (peripheralsClocks (v .work .gone .0 + d) (s .last .ports) (s .peripherals))))
       (committed memory writes)
   leapt-acts memory₀ memory next writes neither v d shared c leaps so-far =
       let gone = v .work .gone .0 in
@@ -299,7 +300,7 @@ module _ (halt : Halt) (at : Leaped) (clocks : List ℕ) (span : ℕ) (on : at .
       let before = ticks-add gone d ports (s .peripherals) in
       let last : ticksIn (next .work .gone .0) ports (s .peripherals)
       ≡ ticksIn (gone + d) ports (s .peripherals)
-      + digit (ticksNext ports (workedFor (gone + d) ports (s .peripherals))) =
+      + digit (ticksNext ports (peripheralsClocks (gone + d) ports (s .peripherals))) =
       rw (c .gone) (ticks-one (gone + d) ports (s .peripherals)) in
       record {
         made = so-far .made + 1 + ticksIn d ports (tickedState s v .peripherals);
@@ -311,14 +312,15 @@ module _ (halt : Halt) (at : Leaped) (clocks : List ℕ) (span : ℕ) (on : at .
   pub leapt-next : (w : Work) (shared : ℕ) (memory₀ memory : List ℕ) → LeaptTo memory₀ (noneWaiting w) shared memory
       → (worked : Worked) → w .gone .0 + w .wait < span
       → outcomeWithin s (w .registers) memory ≡ outcome.Done worked
-      → endsSpan halt (pushesOf (worked .written)) ≡ false
+      → endsSpan halt (pushesOf (worked .writing)) ≡ false
       → LeaptTo memory₀ (nextWorking w worked)
-      (shared + digit (ticksNext (s .last .ports) (workedFor (w .gone .0 + w .wait) (s .last .ports) (s .peripherals))))
-      (committed memory (pushesOf (worked .written)))
+      (shared + digit
+      (ticksNext (s .last .ports) (peripheralsClocks (w .gone .0 + w .wait) (s .last .ports) (s .peripherals))))
+      (committed memory (pushesOf (worked .writing)))
   leapt-next w shared memory₀ memory so-far worked inside e q =
       let n = at .left .0 in
       let v = noneWaiting w in
-      let writes = pushesOf (worked .written) in
+      let writes = pushesOf (worked .writing) in
       let starts = instruction-there n s rest span a w inside memory worked e (ends-neither halt writes q .0) in
       let acting : Acting memory (nextWorking w worked) writes v (w .wait) = record {
         until = until-start s w;
@@ -336,7 +338,8 @@ module _ (halt : Halt) (at : Leaped) (clocks : List ℕ) (span : ℕ) (on : at .
       → 0 < w .wait → w .gone .0 + w .wait ≤ span → endsSpan halt (oneWrite x) ≡ false
       → LeaptTo memory₀ (putWork w)
       (shared
-      + digit (ticksNext (s .last .ports) (workedFor (w .gone .0 + (w .wait - 1)) (s .last .ports) (s .peripherals))))
+      + digit (ticksNext (s .last .ports)
+      (peripheralsClocks (w .gone .0 + (w .wait - 1)) (s .last .ports) (s .peripherals))))
       (committed memory (oneWrite x))
   leapt-put w x shared memory₀ memory so-far some fits q =
       let n = at .left .0 in
@@ -356,15 +359,16 @@ module _ (halt : Halt) (at : Leaped) (clocks : List ℕ) (span : ℕ) (on : at .
 
   module _ (ticking : Ticking)
       (ticks : (g : ℕ) → g < span
-      → ticksNext (s .last .ports) (workedFor g (s .last .ports) (s .peripherals)) ≡ onTick ticking (g + 1)) where
+      → ticksNext (s .last .ports) (peripheralsClocks g (s .last .ports) (s .peripherals))
+      ≡ onTick ticking (g + 1)) where
     -- an instruction that leaves no byte waiting
     pub leapt-pushing : (w : Work) (shared : ℕ) (memory₀ memory : List ℕ)
         → LeaptTo memory₀ (noneWaiting w) shared memory
         → (worked : Worked) → w .gone .0 + w .wait < span
-        → instructionOf (w .registers) [] memory ≡ outcome.Done worked → waitingOf (worked .written) ≡ waiting.Nothing
-        → endsSpan halt (pushesOf (worked .written)) ≡ false
+        → instructionOf (w .registers) [] memory ≡ outcome.Done worked → waitingOf (worked .writing) ≡ waiting.Nothing
+        → endsSpan halt (pushesOf (worked .writing)) ≡ false
         → LeaptTo memory₀ (noneWaiting (nextWork w worked)) (shared + digit (onTick ticking (w .gone .0 + w .wait + 1)))
-        (committed memory (pushesOf (worked .written)))
+        (committed memory (pushesOf (worked .writing)))
     leapt-pushing w shared memory₀ memory so-far worked inside e none q =
         rw (none, ticks (w .gone .0 + w .wait) inside) at
         (leapt-next w shared memory₀ memory so-far worked inside (within-done s (w .registers) memory worked e) q)
@@ -384,7 +388,7 @@ module _ (halt : Halt) (at : Leaped) (clocks : List ℕ) (span : ℕ) (on : at .
     pub leapt-storing : (w : Work) (shared : ℕ) (memory₀ memory : List ℕ)
         → LeaptTo memory₀ (noneWaiting w) shared memory
         → (worked : Worked) (x : Write) → w .gone .0 + w .wait + worked .length ≤ span → 1 < worked .length
-        → instructionOf (w .registers) [] memory ≡ outcome.Done worked → worked .written ≡ Stored x
+        → instructionOf (w .registers) [] memory ≡ outcome.Done worked → worked .writing ≡ Stored x
         → endsSpan halt (oneWrite x) ≡ false
         → LeaptTo memory₀ (putWork (nextWork w worked))
         (shared + digit (onTick ticking (w .gone .0 + w .wait + 1))
@@ -393,8 +397,8 @@ module _ (halt : Halt) (at : Leaped) (clocks : List ℕ) (span : ℕ) (on : at .
     unfolding pushesOf waitingOf
     leapt-storing w shared memory₀ memory so-far worked x inside long e z q =
         let start = w .gone .0 + w .wait in
-        let pushes : pushesOf (worked .written) ≡ noWrites = rw z in
-        let waits : waitingOf (worked .written) ≡ waiting.Byte x = rw z in
+        let pushes : pushesOf (worked .writing) ≡ noWrites = rw z in
+        let waits : waitingOf (worked .writing) ≡ waiting.Byte x = rw z in
         let begun =
         leapt-next w shared memory₀ memory so-far worked (omega arith) (within-done s (w .registers) memory worked e)
         (rw pushes (no-end halt Nothing refl)) in
@@ -415,16 +419,16 @@ module _ (halt : Halt) (at : Leaped) (clocks : List ℕ) (span : ℕ) (on : at .
     storing-shared shared k start later h = rw (ne-eqb later start (λ e. omega (arith, h, e))) (omega arith)
 
     pub leapt-ran : (w : Work) (counted : ℕ) (memory₀ memory : List ℕ) → LeaptTo memory₀ (noneWaiting w) counted memory
-        → {w' : Work} {memory' : List ℕ} {k : ℕ} → InTurn halt span ticking w memory w' memory' k
+        → {w' : Work} {memory' : List ℕ} {k : ℕ} → ByInstructions halt span ticking w memory w' memory' k
         → LeaptTo memory₀ (noneWaiting w') (counted + k) memory'
-    leapt-ran w counted memory₀ memory so-far turns.none = rw (add-zero counted) so-far
+    leapt-ran w counted memory₀ memory so-far instructions.none = rw (add-zero counted) so-far
     leapt-ran w counted memory₀ memory so-far
-        (turns.more {v} {w'} {before} {memory'} {shared} ran (turns.pushing worked inside e z q)) =
+        (instructions.more {v} {w'} {before} {memory'} {shared} ran (instructions.pushing worked inside e z q)) =
         rw (pushing-shared counted shared (v .gone .0 + v .wait + 1))
         (leapt-pushing v (counted + shared) memory₀ before (leapt-ran w counted memory₀ memory so-far ran) worked inside
         e z q)
     leapt-ran w counted memory₀ memory so-far
-        (turns.more {v} {w'} {before} {memory'} {shared} ran (turns.storing worked x fits long e z q)) =
+        (instructions.more {v} {w'} {before} {memory'} {shared} ran (instructions.storing worked x fits long e z q)) =
         rw (storing-shared counted shared (v .gone .0 + v .wait + 1) (v .gone .0 + v .wait + 1 + (worked .length - 1))
         (omega (arith, long)))
         (leapt-storing v (counted + shared) memory₀ before (leapt-ran w counted memory₀ memory so-far ran) worked x fits
@@ -466,7 +470,7 @@ module _ (halt : Halt) (at : Leaped) (clocks : List ℕ) (span : ℕ) (on : at .
 -- at its start nothing is gone
 begin-same : (at : Leaped) (n : ℕ) (clocks : List ℕ) (span : ℕ) → AloneSeen n (at .progress .state) clocks span
     → tickedTo at (beginWork (at .progress .state)) 0 ≡ at
-unfolding workedFor ticksIn
+unfolding peripheralsClocks ticksIn
 begin-same at n clocks span a =
     let all : at .left .0 - 0 ≡ at .left .0 = omega arith in
     rw (a .status, add-zero (at .progress .state .clock), all, add-zero (at .leaps))
@@ -504,7 +508,7 @@ shares-at-most t v r shared e =
 -- the clocks with a tick, of a span
 pub ticks-of : (span ports : ℕ) (p : Peripherals) (t : Ticking) → t ≡ tickingOf ports p → span ≤ 2147483647 → (g : ℕ)
     → g < span
-    → ticksNext ports (workedFor g ports p) ≡ onTick t (g + 1)
+    → ticksNext ports (peripheralsClocks g ports p) ≡ onTick t (g + 1)
 ticks-of span ports p t e short g h = on-tick g ports p (omega arith) ∙ ap (λ (u : Ticking). onTick u (g + 1)) (sym e)
 
 pub some-period : (ports : ℕ) (p : Peripherals) (t : Ticking) → t ≡ tickingOf ports p → 0 < t .period
@@ -556,7 +560,7 @@ module _ (halt : Halt) (at : Leaped) (clocks : List ℕ) (span : ℕ) (memory₀
 
   -- a step of the CPU, with `t` the clocks with a tick
   module _ (t : Ticking)
-      (ticks : (g : ℕ) → g < span → ticksNext ports (workedFor g ports here) ≡ onTick t (g + 1)) where
+      (ticks : (g : ℕ) → g < span → ticksNext ports (peripheralsClocks g ports here) ≡ onTick t (g + 1)) where
     within-after : (memory memory' : List ℕ) (w : Work) (shared : ℕ) (v : Working)
         → Within halt at clocks span memory₀ memory (noneWaiting w) shared
         → v ≡ workAfter halt start span w memory → memory' ≡ memoryAfter halt start span w memory → length memory'
@@ -671,7 +675,7 @@ module _ (halt : Halt) (at : Leaped) (clocks : List ℕ) (span : ℕ) (memory₀
         }
 
     pub ending : at .progress .state .clock + at .left .0 ≤ 4294967295 → at .leaps + at .left .0 ≤ 4294967295
-        → Unseen (v .work .gone .0) ports here → Ending at v shared
+        → Unseen (v .work .gone .0) ports here → EndFits at v shared
     ending clock leaps unseen =
         let left = i .begun .alone .left in
         record {

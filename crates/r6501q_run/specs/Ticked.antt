@@ -7,7 +7,7 @@ use lib.Dec.{ltb}
 use lib.ListN.{drop, length}
 use Rattle.bits.specs.Bits.{digit}
 use Rattle.cpu_access.specs.declared.halt.Halt.{Halt}
-use Rattle.cpu.specs.Quiet.{WithinSpan}
+use Rattle.cpu.specs.Work.{WithinSpan}
 use Rattle.r6501q_state.specs.declared.state.State.{State}
 use Rattle.r6501q_gaps.specs.Gaps.{clocksOf}
 use Rattle.r6501q_unseen.specs.declared.Ticking.{Ticking}
@@ -50,7 +50,7 @@ tickedTo at v shared = record {
 }
 
 -- what `tickedTo` asks
-pub record Ending (at : Leaped) (v : Working) (shared : ℕ) : Type 0 where
+pub record EndFits (at : Leaped) (v : Working) (shared : ℕ) : Type 0 where
   pub clock : at .progress .state .clock + v .work .gone .0 ≤ 4294967295
   pub left : v .work .gone .0 ≤ at .left .0
   pub unseen : Unseen (v .work .gone .0) (at .progress .state .last .ports) (at .progress .state .peripherals)

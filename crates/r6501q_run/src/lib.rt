@@ -8,14 +8,14 @@ ghost use Rattle.leaps.specs.Lists.{runOf, plainRunOf};
 ghost use Rattle.leaps.specs.Lent.{atEntry};
 ghost use Rattle.leaps.specs.Summed.{withSums};
 ghost use Rattle.cpu_opcodes.specs.Table.{opcodeTable};
-ghost use Rattle.cpu.specs.Quiet.{WithinSpan};
+ghost use Rattle.cpu.specs.Work.{WithinSpan};
 ghost use Rattle.r6501q_gaps.specs.Gaps.{gapOf, clocksOf};
 ghost use Rattle.r6501q_step.specs.R6501q.{chip, machine};
 ghost use Rattle.r6501q_step.specs.World.{worldAtEntry, worldAtExit};
 ghost use Rattle.r6501q_step.specs.Calls.{leapsFrom, atExit};
 ghost use Rattle.r6501q_run.specs.Leap.{passedBy, goesOn, runFrom, runEnded, beginRun, Leaping};
 ghost use Rattle.r6501q_run.specs.Spanned.{Spanned};
-ghost use Rattle.r6501q_run.specs.Ticked.{SpanBegun, sharedIn, tickedTo, Ending, StepsOn};
+ghost use Rattle.r6501q_run.specs.Ticked.{SpanBegun, sharedIn, tickedTo, EndFits, StepsOn};
 use counters::time::Clocks;
 use cpu_access::halt::Halt;
 use page_sums::WRONG_PAGE_LIST;
@@ -234,7 +234,7 @@ fn steps_on(
 
 // A run after the leaps of a span.
 fn spanned_to(at: Leaped, v: Working, shared: u32) -> Leaped
-    requires { ⌜ Ending at v shared ⌝ }
+    requires { ⌜ EndFits at v shared ⌝ }
     ensures { λ r. ⌜ r ≡ tickedTo at v shared ⌝ }
 {
     let before = at.progress.state;

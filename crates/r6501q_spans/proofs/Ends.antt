@@ -10,7 +10,7 @@ use Rattle.cpu_access.specs.Stack.{noWrites, oneWrite}
 use Rattle.cpu_access.proofs.Told.{unwritten}
 use Rattle.cpu_operations.specs.declared.Worked.{Worked}
 use Rattle.cpu_operations.specs.Effects.{pushesOf}
-use Rattle.cpu.specs.declared.quiet.Work.{Work}
+use Rattle.cpu.specs.declared.work.Work.{Work}
 use Rattle.cpu_access.specs.declared.stack.Writes.{Writes}
 use Rattle.cpu_access.specs.declared.halt.Halt.{Halt}
 use Rattle.cpu_access.specs.Halt.{halts}
@@ -41,7 +41,7 @@ no-writes-end : (halt : Halt) → endsSpan halt noWrites ≡ false
 unfolding writesRegister
 no-writes-end halt = ends-not halt noWrites refl (unwritten halt noWrites refl)
 
-pub nothing-pushed : (halt : Halt) (w : Work) (memory : List ℕ) (worked : Worked) → pushesOf (worked .written)
+pub nothing-pushed : (halt : Halt) (w : Work) (memory : List ℕ) (worked : Worked) → pushesOf (worked .writing)
     ≡ noWrites
     → (continuedBy halt w worked ≡ nextWorking w worked) × (committedBy halt memory worked ≡ memory)
 unfolding continuedBy committedBy committed putWrite

@@ -20,11 +20,11 @@ use Rattle.cpu_access.specs.Bus.{idle, nextAddress, memoryByte, askOf, readOf, 
 use Rattle.cpu_access.specs.Modes.{locateOf, relativeTo}
 use Rattle.cpu_access.specs.Stack.{writeAt, noWrites}
 use Rattle.cpu_operations.specs.declared.Worked.{Worked}
-use Rattle.cpu_operations.specs.declared.Written.{Written}
-use Rattle.cpu_operations.specs.declared.Written.the-variants.{Nothing, Stored}
+use Rattle.cpu_operations.specs.declared.Writing.{Writing}
+use Rattle.cpu_operations.specs.declared.Writing.the-variants.{Nothing, Stored}
 use Rattle.cpu_operations.specs.Effects.{completed, stored, modified, branched, bitBranched}
 use Rattle.cpu_operations.specs.Kinds.{withRead, changedBy, byteToStore, bitBranchTaken}
-use Rattle.cpu_operations.specs.Operations.{workOf}
+use Rattle.cpu_operations.specs.Operations.{operateOf}
 use Rattle.cpu_operations.specs.Updates.{withPc, withStatus}
 use Rattle.cpu.specs.declared.Ask.{Ask}
 use Rattle.cpu.specs.declared.Outcome.the-variants.{Asked, Done}
@@ -35,8 +35,8 @@ use Rattle.r6501q_spans.specs.Spans.{steadyAt, steadyAsk, outcomeWithin}
 use Rattle.r6501q_spans.specs.Known.{Encoded}
 use Rattle.r6501q_spans.proofs.Steady.{within-done}
 
-abbrev workedOut : CpuRegisters → Written → ℕ → Worked
-workedOut r x n = record { registers = r; written = x; length = n }
+abbrev workedOut : CpuRegisters → Writing → ℕ → Worked
+workedOut r x n = record { registers = r; writing = x; length = n }
 
 byte-stored : (o : StoreOperation) (pc : ℕ) (r : CpuRegisters) → byteToStore o (withPc pc r) ≡ byteToStore o r
 unfolding byteToStore
@@ -62,27 +62,27 @@ module _ (r : CpuRegisters) (memory : List ℕ) (e : Entry) (a : ℕ) (i : Encod
 
   read-asks : (o : ReadOperation) → e .operation ≡ operation.Read o → e .mode ≡ ZeroPage
       → executeOf [] memory e behind idle ≡ Asked (asked false)
-  unfolding executeOf carriedOut locateOf fetchOf operandByte readOf askOf outcomeOf workOf completed
+  unfolding executeOf carriedOut locateOf fetchOf operandByte readOf askOf outcomeOf operateOf completed
   read-asks o k m = rw (k, m, i .second, i .operand, i .register) refl
 
   read-ends : (o : ReadOperation) → e .operation ≡ operation.Read o → e .mode ≡ ZeroPage → (v : ℕ)
       → executeOf (v ∷ []) memory e behind idle ≡ Done (workedOut (withRead o (withPc past r) v) Nothing (e
       .length + 0))
-  unfolding executeOf carriedOut locateOf fetchOf operandByte readOf askOf outcomeOf workOf completed
+  unfolding executeOf carriedOut locateOf fetchOf operandByte readOf askOf outcomeOf operateOf completed
   read-ends o k m v = rw (k, m, i .second, i .operand, i .register) refl
 
   -- ---- operations that change a byte
 
   change-asks : (o : ModifyOperation) → e .operation ≡ operation.Modify o → e .mode ≡ ZeroPage
       → executeOf [] memory e behind idle ≡ Asked (asked true)
-  unfolding executeOf carriedOut locateOf fetchOf operandByte readOf askOf outcomeOf workOf modified stored
+  unfolding executeOf carriedOut locateOf fetchOf operandByte readOf askOf outcomeOf operateOf modified stored
   change-asks o k m = rw (k, m, i .second, i .operand, i .register) refl
 
   change-ends : (o : ModifyOperation) → e .operation ≡ operation.Modify o → e .mode ≡ ZeroPage → (v : ℕ)
       → executeOf (v ∷ []) memory e behind idle
       ≡ Done (workedOut (withStatus (changedBy o v (r .status) .status) (withPc past r))
       (Stored (writeAt a (changedBy o v (r .status) .value))) (e .length))
-  unfolding executeOf carriedOut locateOf fetchOf operandByte readOf askOf outcomeOf workOf modified stored
+  unfolding executeOf carriedOut locateOf fetchOf operandByte readOf askOf outcomeOf operateOf modified stored
   change-ends o k m v = rw (k, m, i .second, i .operand, i .register) refl
 
   -- ---- stores
@@ -90,7 +90,7 @@ module _ (r : CpuRegisters) (memory : List ℕ) (e : Entry) (a : ℕ) (i : Encod
   store-ends : (o : StoreOperation) → e .operation ≡ operation.Store o → e .mode ≡ ZeroPage
       → executeOf [] memory e behind idle
       ≡ Done (workedOut (withPc past r) (Stored (writeAt a (byteToStore o r))) (e .length))
-  unfolding executeOf carriedOut locateOf fetchOf operandByte readOf outcomeOf workOf stored
+  unfolding executeOf carriedOut locateOf fetchOf operandByte readOf outcomeOf operateOf stored
   store-ends o k m = rw (k, m, i .second, i .operand, byte-stored o past r) refl
 
   -- ---- BBR and BBS
@@ -105,7 +105,7 @@ module _ (r : CpuRegisters) (memory : List ℕ) (e : Entry) (a : ℕ) (i : Encod
 
   branch-asks : (o : BitBranchOperation) → e .operation ≡ operation.BitBranch o → e .mode ≡ ZeroPageRelative
       → executeOf [] memory e behind idle ≡ Asked (asked false)
-  unfolding executeOf carriedOut locateOf fetchOf operandByte readOf askOf outcomeOf workOf bitBranched branched
+  unfolding executeOf carriedOut locateOf fetchOf operandByte readOf askOf outcomeOf operateOf bitBranched branched
       relativeTo
   branch-asks o k m = by-taken (bitBranchTaken o 0) refl
     where
@@ -116,7 +116,7 @@ module _ (r : CpuRegisters) (memory : List ℕ) (e : Entry) (a : ℕ) (i : Encod
   branch-ends : (o : BitBranchOperation) → e .operation ≡ operation.BitBranch o → e .mode ≡ ZeroPageRelative
       → (v : ℕ) (t : Bool) → bitBranchTaken o v ≡ t
       → executeOf (v ∷ []) memory e behind idle ≡ Done (branchedTo t)
-  unfolding executeOf carriedOut locateOf fetchOf operandByte readOf askOf outcomeOf workOf bitBranched branched
+  unfolding executeOf carriedOut locateOf fetchOf operandByte readOf askOf outcomeOf operateOf bitBranched branched
       relativeTo
   branch-ends o k m v true z = rw (k, m, i .second, i .operand, i .register, i .third, z) refl
   branch-ends o k m v false z = rw (k, m, i .second, i .operand, i .register, i .third, z) refl

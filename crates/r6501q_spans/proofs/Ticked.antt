@@ -29,16 +29,16 @@ use Rattle.cpu_operations.specs.Effects.{pushesOf, waitingOf}
 use Rattle.cpu.specs.declared.Ask.{Ask}
 use Rattle.cpu.specs.declared.Outcome.{Outcome}
 use Rattle.cpu.specs.declared.Outcome.the-variants as outcome
-use Rattle.cpu.specs.declared.quiet.Work.{Work}
+use Rattle.cpu.specs.declared.work.Work.{Work}
 use Rattle.cpu.specs.Instruction.{instructionOf}
-use Rattle.cpu.specs.Quiet.{nextWork}
+use Rattle.cpu.specs.Work.{nextWork}
 use Rattle.cpu.specs.Sequence.{undefinedStop}
 use Rattle.r6501q_cpu.specs.declared.Processed.{Processed}
 use Rattle.r6501q_cpu.specs.declared.Processed.the-variants as processed
-use Rattle.r6501q_cpu.specs.declared.Turn.the-variants.{Over, Answered}
+use Rattle.r6501q_cpu.specs.declared.Round.the-variants.{Over, Answered}
 use Rattle.r6501q_cpu.specs.Processor.{irqDue, bytePut, processorOf}
-use Rattle.r6501q_cpu.specs.Asking.{putRegister, registersAfter, turnOf, instructionFrom, answeredInstruction}
-use Rattle.r6501q_cpu.proofs.Asks.{turn-over, turn-answered}
+use Rattle.r6501q_cpu.specs.Asking.{putRegister, registersAfter, roundOf, instructionFrom, answeredInstruction}
+use Rattle.r6501q_cpu.proofs.Asks.{round-over, round-answered}
 use Rattle.r6501q_cpu.proofs.Answered.{instruction-answered}
 use Rattle.r6501q_cpu.proofs.Ranges.{never-both}
 use Rattle.r6501q_cpu.proofs.Stores.{clock-waits, waited-less, instruction-starts, byte-put}
@@ -47,13 +47,13 @@ use Rattle.r6501q_gaps.specs.Events.{levelsChange, resetChanges}
 use Rattle.r6501q_gaps.specs.Gaps.{clocksOf, runningA, runningB, toInput, toChange, toUnderflowA, toUnderflowB, toReset}
 use Rattle.r6501q_gaps.specs.Gaps.{untilCpu, toCpu, gapOf, waitAfter, passCounters, passOf}
 use Rattle.r6501q_gaps.proofs.Same.{same-levels}
-use Rattle.r6501q_gaps.proofs.Quiet.{not-put, not-over, ready-worked}
+use Rattle.r6501q_gaps.proofs.Quiet.{not-put, not-over, ready-peripherals}
 use Rattle.r6501q_gaps.proofs.Gaps.{no-event, not-due}
 use Rattle.r6501q_clock.specs.declared.Clocked.the-variants.{Done}
-use Rattle.r6501q_clock.specs.Clock.{readyOf, worked, endedWith, finished, clockOf}
-use Rattle.r6501q_unseen.specs.Unseen.{workedFor, ticksIn, SameSeen, Unseen}
-use Rattle.r6501q_unseen.proofs.TickClocks.{worked-add}
-use Rattle.r6501q_unseen.proofs.Laws.{worked-one, none-ticks, unseen-left-b, worked-passes}
+use Rattle.r6501q_clock.specs.Clock.{readyOf, peripheralsClock, endedWith, finished, clockOf}
+use Rattle.r6501q_unseen.specs.Unseen.{peripheralsClocks, ticksIn, SameSeen, Unseen}
+use Rattle.r6501q_unseen.proofs.TickClocks.{peripherals-add}
+use Rattle.r6501q_unseen.proofs.Laws.{peripherals-one, none-ticks, unseen-left-b, peripherals-pass}
 use Rattle.r6501q_spans.specs.declared.Working.{Working}
 use Rattle.r6501q_spans.specs.Spans.{onlyCpu, noneWaiting, writesRegister, putWork, steadyAsk, steadyAnswer}
 use Rattle.r6501q_spans.specs.Spans.{answeredOnce, outcomeWithin, nextWorking}
@@ -161,9 +161,11 @@ module _ (n : ℕ) (s : State) (clocks : List ℕ) (span : ℕ) (a : AloneSeen n
   -- steps 1 to 3
   ticked-ready : readyOf (tickedState s v) [] ≡ tickedState s (counted v)
   ticked-ready =
-      ready-worked (tickedState s v) levels-last (λ e. absurd (false≢true (sym e ∙ a .res)))
-      ∙ rw
-      (← worked-one (v .work .gone .0) (s .last .ports) (s .peripherals), add-assoc (s .clock) (v .work .gone .0) 1)
+      ready-peripherals (tickedState s v) levels-last (λ e. absurd (false≢true (sym e ∙ a .res)))
+      ∙ rw (
+        ← peripherals-one (v .work .gone .0) (s .last .ports) (s .peripherals),
+        add-assoc (s .clock) (v .work .gone .0) 1,
+      )
 
   -- steps 1 to 5, by what step 4 comes to: the word stays
   pub ticked-clock : (memory : List ℕ) (next : Working) (writes : Writes) → next .work .gone .0 ≤ span
@@ -283,9 +285,9 @@ module _ (n : ℕ) (s : State) (clocks : List ℕ) (span : ℕ) (a : AloneSeen n
     unfolding passOf waitAfter
     ticked-passed =
         let on : passCounters (there .peripherals) (s .last .ports) (clocksOf e)
-        ≡ workedFor (v .work .gone .0 + e) (s .last .ports) (s .peripherals) =
-        sym (worked-passes e (s .last .ports) (there .peripherals) none none-b)
-        ∙ sym (worked-add (v .work .gone .0) e (s .last .ports) (s .peripherals)) in
+        ≡ peripheralsClocks (v .work .gone .0 + e) (s .last .ports) (s .peripherals) =
+        sym (peripherals-pass e (s .last .ports) (there .peripherals) none none-b)
+        ∙ sym (peripherals-add (v .work .gone .0) e (s .last .ports) (s .peripherals)) in
         rw (a .res, on, add-assoc (s .clock) (v .work .gone .0) e)
 
     pub ticked-none : ticksIn e (s .last .ports) (tickedState s v .peripherals) ≡ 0
@@ -300,30 +302,30 @@ until-start s w = omega arith
 module _ (n : ℕ) (s : State) (clocks : List ℕ) (span : ℕ) (a : AloneSeen n s clocks span) (w : Work)
     (inside : w .gone .0 + w .wait < span)
     (memory : List ℕ) (worked : Worked) (done : outcomeWithin s (w .registers) memory ≡ outcome.Done worked)
-    (inMemory : writesRegister (pushesOf (worked .written)) ≡ false) where
+    (inMemory : writesRegister (pushesOf (worked .writing)) ≡ false) where
   abbrev begun : State
   begun = tickedState s (counted (waited (noneWaiting w) (w .wait)))
 
   abbrev next : Processed
   next =
-      processed.Done (record { state = tickedState s (nextWorking w worked); writes = pushesOf (worked .written) })
+      processed.Done (record { state = tickedState s (nextWorking w worked); writes = pushesOf (worked .writing) })
 
-  -- the turn that ends it
-  turn-there : (answers : List ℕ) → instructionOf (w .registers) answers memory ≡ outcome.Done worked
-      → turnOf begun (begun .peripherals) answers memory ≡ Over next
-  unfolding turnOf
-  turn-there answers e =
+  -- the round that ends it
+  round-there : (answers : List ℕ) → instructionOf (w .registers) answers memory ≡ outcome.Done worked
+      → roundOf begun (begun .peripherals) answers memory ≡ Over next
+  unfolding roundOf
+  round-there answers e =
       rw (
         unpacked-packed (w .registers .status),
         e,
-        no-registers (begun .peripherals) (pushesOf (worked .written)) inMemory,
+        no-registers (begun .peripherals) (pushesOf (worked .writing)) inMemory,
       )
 
-  -- a turn that asks for a register whose value stays
+  -- a round that asks for a register whose value stays
   asks-there : (ask : Ask) → instructionOf (w .registers) [] memory ≡ outcome.Asked ask → steadyAsk ask ≡ true
-      → turnOf begun (begun .peripherals) [] memory
+      → roundOf begun (begun .peripherals) [] memory
       ≡ Answered (record { value = steadyAnswer s ask; peripherals = begun .peripherals })
-  unfolding turnOf
+  unfolding roundOf
   asks-there ask e t =
       let seen = a .unseen .same (w .gone .0 + w .wait + 1) (omega arith) in
       rw (
@@ -342,9 +344,9 @@ module _ (n : ℕ) (s : State) (clocks : List ℕ) (span : ℕ) (a : AloneSeen n
           ≡ outcome.Done worked
           → instructionFrom (processed.Stopped undefinedStop) 6 begun (begun .peripherals) [] memory ≡ next
       by-ask ask e true t d =
-          turn-answered _ begun (begun .peripherals) [] memory 6 5 _ refl (asks-there ask e t)
-          ∙ turn-over _ begun (begun .peripherals) (steadyAnswer s ask ∷ []) memory 5 _ (omega arith)
-          (turn-there (steadyAnswer s ask ∷ []) d)
+          round-answered _ begun (begun .peripherals) [] memory 6 5 _ refl (asks-there ask e t)
+          ∙ round-over _ begun (begun .peripherals) (steadyAnswer s ask ∷ []) memory 5 _ (omega arith)
+          (round-there (steadyAnswer s ask ∷ []) d)
       by-ask ask e false t d = absurd (false≢true (ap isDone d))
 
       by-outcome : (o : Outcome) → instructionOf (w .registers) [] memory ≡ o
@@ -353,10 +355,10 @@ module _ (n : ℕ) (s : State) (clocks : List ℕ) (span : ℕ) (a : AloneSeen n
       by-outcome (outcome.Stopped number) e d = absurd (false≢true (ap isDone d))
       by-outcome (outcome.Asked ask) e d = by-ask ask e (steadyAsk ask) refl d
       by-outcome (outcome.Done x) e d =
-          turn-over _ begun (begun .peripherals) [] memory 6 _ (omega arith) (turn-there [] (e ∙ d))
+          round-over _ begun (begun .peripherals) [] memory 6 _ (omega arith) (round-there [] (e ∙ d))
 
   pub instruction-there : processorOf (tickedState s (counted (waited (noneWaiting w) (w .wait)))) memory
-      ≡ processed.Done (record { state = tickedState s (nextWorking w worked); writes = pushesOf (worked .written) })
+      ≡ processed.Done (record { state = tickedState s (nextWorking w worked); writes = pushesOf (worked .writing) })
   instruction-there =
       let irq = ticked-irq n s clocks span a (counted (waited (noneWaiting w) (w .wait))) (omega arith) in
       instruction-starts begun memory (a .res) (omega arith) (a .reset) (a .nmi) irq
@@ -399,14 +401,14 @@ alone-seen n s clocks span e some left input change unseen =
     let undisturbed = high && not (s .due .reset) && not (s .due .nmi) in
     let none = not (pending (s .peripherals .control)) in
     let kept = eqb (packed (unpacked (s .cpu .p))) (s .cpu .p) in
-    let quiet = and-left (undisturbed && none) kept e in
-    let dues = and-left undisturbed none quiet in
+    let neither = and-left (undisturbed && none) kept e in
+    let dues = and-left undisturbed none neither in
     let first = and-left (high && not (s .due .reset)) (not (s .due .nmi)) dues in
     record {
       res = and-left high (not (s .due .reset)) first;
       reset = not-true (s .due .reset) (and-right high (not (s .due .reset)) first);
       nmi = not-true (s .due .nmi) (and-right (high && not (s .due .reset)) (not (s .due .nmi)) dues);
-      flags = not-true (pending (s .peripherals .control)) (and-right undisturbed none quiet);
+      flags = not-true (pending (s .peripherals .control)) (and-right undisturbed none neither);
       status = eqb-true _ _ (and-right (undisturbed && none) kept e);
       left = left;
       input = input;

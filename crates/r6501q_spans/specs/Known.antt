@@ -12,19 +12,19 @@ use Rattle.cpu_opcodes.specs.declared.Mode.the-variants.{ZeroPage, ZeroPageRela
 use Rattle.cpu_access.specs.declared.CpuRegisters.{CpuRegisters}
 use Rattle.cpu_access.specs.Bus.{nextAddress, memoryByte}
 use Rattle.cpu_access.specs.Stack.{noWrites}
-use Rattle.cpu_operations.specs.declared.Written.{Written}
-use Rattle.cpu_operations.specs.declared.Written.the-variants.{Nothing}
+use Rattle.cpu_operations.specs.declared.Writing.{Writing}
+use Rattle.cpu_operations.specs.declared.Writing.the-variants.{Nothing}
 use Rattle.cpu_operations.specs.Effects.{pushesOf}
 use Rattle.cpu.specs.declared.Outcome.the-variants.{Done}
 use Rattle.r6501q_state.specs.declared.state.State.{State}
 use Rattle.r6501q_spans.specs.declared.direct.Direct.{Direct}
 use Rattle.r6501q_spans.specs.Spans.{outcomeWithin}
 
-abbrev pub knownWork : CpuRegisters → Written → ℕ → Direct
-knownWork r w n = record { known = true; worked = record { registers = r; written = w; length = n } }
+abbrev pub knownWork : CpuRegisters → Writing → ℕ → Direct
+knownWork r w n = record { known = true; worked = record { registers = r; writing = w; length = n } }
 
 abbrev pub unknownWork : CpuRegisters → Direct
-unknownWork r = record { known = false; worked = record { registers = r; written = Nothing; length = 1 } }
+unknownWork r = record { known = false; worked = record { registers = r; writing = Nothing; length = 1 } }
 
 -- the three bytes from PC on lie in memory; they begin with the opcode of the entry, and with the register's address a
 pub record Encoded (r : CpuRegisters) (memory : List ℕ) (e : Entry) (a : ℕ) : Type 0 where
@@ -46,4 +46,4 @@ OnBit r memory e a = Encoded r memory e a × (e .mode ≡ ZeroPageRelative)
 -- what is known is the outcome, and that nothing is pushed; that nothing is known may be said of any instruction
 abbrev pub Knows : State → CpuRegisters → List ℕ → Direct → Type 0
 Knows s r memory d = d .known ≡ true
-    → (outcomeWithin s r memory ≡ Done (d .worked)) × (pushesOf (d .worked .written) ≡ noWrites)
+    → (outcomeWithin s r memory ≡ Done (d .worked)) × (pushesOf (d .worked .writing) ≡ noWrites)

@@ -23,9 +23,9 @@ use Rattle.cpu_operations.specs.Effects.{pushesOf, waitingOf}
 use Rattle.cpu.specs.declared.Ask.{Ask}
 use Rattle.cpu.specs.declared.Outcome.{Outcome}
 use Rattle.cpu.specs.declared.Outcome.the-variants.{Stopped, Asked, Done}
-use Rattle.cpu.specs.declared.quiet.Work.{Work}
+use Rattle.cpu.specs.declared.work.Work.{Work}
 use Rattle.cpu.specs.Instruction.{instructionOf}
-use Rattle.cpu.specs.Quiet.{nextWork}
+use Rattle.cpu.specs.Work.{nextWork}
 use Rattle.r6501q_cpu.specs.Processor.{registersOf}
 use Rattle.r6501q_gaps.specs.Gaps.{clocksOf}
 use Rattle.r6501q_clock.specs.Commit.{committed}
@@ -87,16 +87,16 @@ outcomeWithin s r memory = answeredOnce s r memory (instructionOf r [] memory)
 
 -- an instruction that was worked out
 abbrev pub nextWorking : Work → Worked → Working
-nextWorking w worked = record { work = nextWork w worked; waiting = waitingOf (worked .written) }
+nextWorking w worked = record { work = nextWork w worked; waiting = waitingOf (worked .writing) }
 
 -- a store only begins to wait here, whatever its address
 unfoldable pub continuedBy : Halt → Work → Worked → Working
 continuedBy halt w worked =
-    cond (endsSpan halt (pushesOf (worked .written))) (noneWaiting w) (nextWorking w worked)
+    cond (endsSpan halt (pushesOf (worked .writing))) (noneWaiting w) (nextWorking w worked)
 
 unfoldable pub committedBy : Halt → List ℕ → Worked → List ℕ
 committedBy halt memory worked =
-    cond (endsSpan halt (pushesOf (worked .written))) memory (committed memory (pushesOf (worked .written)))
+    cond (endsSpan halt (pushesOf (worked .writing))) memory (committed memory (pushesOf (worked .writing)))
 
 -- an instruction that still asks for a register, or is undefined, is left to the clock's own rules
 abbrev pub workBy : Halt → Work → Outcome → Working

@@ -9,7 +9,7 @@ use Rattle.r6501q_state.specs.Control.{pending}
 use Rattle.r6501q_cpu.specs.Processor.{cpuOf}
 use Rattle.r6501q_gaps.specs.Events.{levelsChange}
 use Rattle.r6501q_gaps.specs.Gaps.{toInput}
-use Rattle.r6501q_unseen.specs.Unseen.{workedFor, Unseen}
+use Rattle.r6501q_unseen.specs.Unseen.{peripheralsClocks, Unseen}
 use Rattle.r6501q_spans.specs.declared.Working.{Working}
 
 -- what is known of a state at the start of a span, n clocks being left: RES is high, neither reset nor NMI is due, no
@@ -31,7 +31,7 @@ abbrev pub tickedState : State → Working → State
 tickedState s v = record {
   cpu = cpuOf (v .work .registers) (v .work .wait) (v .waiting);
   due = s .due;
-  peripherals = workedFor (v .work .gone .0) (s .last .ports) (s .peripherals);
+  peripherals = peripheralsClocks (v .work .gone .0) (s .last .ports) (s .peripherals);
   external = s .external;
   last = s .last;
   clock = s .clock + v .work .gone .0;

@@ -23,7 +23,7 @@ use cpu_opcodes::operation::Operation;
 use cpu_opcodes::operation::ReadOperation;
 use cpu_opcodes::operation::StoreOperation;
 use cpu_operations::Worked;
-use cpu_operations::Written;
+use cpu_operations::Writing;
 use cpu_operations::kinds;
 use cpu_operations::updates::with_pc;
 use cpu_operations::updates::with_status;
@@ -37,12 +37,12 @@ pub struct Direct {
     pub worked: Worked,
 }
 
-fn known_work(registers: CpuRegisters, written: Written, length: u8) -> Direct
-    ensures { λ r. ⌜ r ≡ knownWork registers written length ⌝ }
+fn known_work(registers: CpuRegisters, writing: Writing, length: u8) -> Direct
+    ensures { λ r. ⌜ r ≡ knownWork registers writing length ⌝ }
 {
     let worked = Worked {
         registers: registers,
-        written: written,
+        writing: writing,
         length: length,
     };
     Direct {
@@ -56,7 +56,7 @@ fn unknown_work(registers: CpuRegisters) -> Direct
 {
     let worked = Worked {
         registers: registers,
-        written: Written::Nothing,
+        writing: Writing::Nothing,
         length: 1,
     };
     Direct {
@@ -89,7 +89,7 @@ fn known_read(
     }
     let byte = value(s.peripherals, s.last.ports, false, address);
     let after = kinds::with_read(o, with_pc(r, past_two(r)), byte);
-    known_work(after, Written::Nothing, entry.length)
+    known_work(after, Writing::Nothing, entry.length)
 }
 
 // The operand is read, changed, and to be put back; of a port the latch is read.
@@ -114,7 +114,7 @@ fn known_change(
         value: changed.value,
     };
     let after = with_status(with_pc(r, past_two(r)), changed.status);
-    known_work(after, Written::Stored(store), entry.length)
+    known_work(after, Writing::Stored(store), entry.length)
 }
 
 // A register of the CPU is to be stored, whatever is there.
@@ -135,7 +135,7 @@ fn known_store(
     };
     known_work(
         with_pc(r, past_two(r)),
-        Written::Stored(store),
+        Writing::Stored(store),
         entry.length,
     )
 }
@@ -160,9 +160,9 @@ fn known_branch(
     let target = relative(Bus::idle().fetch(&none, memory, past_two(r)));
     if kinds::bit_branch_taken(o, byte) {
         let length = entry.length + 1 + digit8(target.crossed);
-        return known_work(with_pc(r, target.address), Written::Nothing, length);
+        return known_work(with_pc(r, target.address), Writing::Nothing, length);
     }
-    known_work(with_pc(r, target.pc), Written::Nothing, entry.length)
+    known_work(with_pc(r, target.pc), Writing::Nothing, entry.length)
 }
 
 // By the kind of operation.

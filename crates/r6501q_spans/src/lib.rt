@@ -7,7 +7,7 @@ ghost use mathlib.Core.Path.{_≡_};
 ghost use Prim.Native.Nat.{_+_, _≤_, _<_};
 ghost use Rattle.page_sums.specs.PageSums.{sumsAfter};
 ghost use Rattle.cpu_opcodes.specs.Table.{opcodeTable};
-ghost use Rattle.cpu.specs.Quiet.{WithinSpan};
+ghost use Rattle.cpu.specs.Work.{WithinSpan};
 ghost use Rattle.r6501q_unseen.specs.Unseen.{Unseen};
 ghost use Rattle.r6501q_spans.specs.Spans.{onlyCpu, beginWork, noneWaiting, writesRegister, endsSpan};
 ghost use Rattle.r6501q_spans.specs.Spans.{continuedBy, committedBy, workAfter, memoryAfter, putWork, workPut};
@@ -15,8 +15,8 @@ ghost use Rattle.r6501q_spans.specs.Spans.{memoryPut, WorkedOn, outcomeW
 ghost use Rattle.r6501q_spans.specs.Ticked.{AloneSeen, tickedState};
 use counters::time::Clocks;
 use cpu::Outcome;
-use cpu::quiet::Work;
-use cpu::quiet::next_work;
+use cpu::work::Work;
+use cpu::work::next_work;
 use cpu_access::halt::Halt;
 use cpu_access::halt::halts;
 use cpu_access::stack::Write;
@@ -35,8 +35,8 @@ use r6501q_gaps::distances::to_change;
 use r6501q_gaps::distances::to_input;
 use r6501q_gaps::nearer;
 use r6501q_state::state::State;
+use r6501q_unseen::pass_unseen;
 use r6501q_unseen::unseen_clocks;
-use r6501q_unseen::work_unseen;
 use served::outcome_within;
 
 // The CPU at work in a span, and the byte that waits.
@@ -90,7 +90,7 @@ pub fn working_state(mut s: State, v: Working) -> State
     requires { ⌜ Unseen (v .work .gone .0) (s .last .ports) (s .peripherals) ⌝ }
     ensures { λ r. ⌜ r ≡ tickedState s v ⌝ }
 {
-    let peripherals = work_unseen(s.peripherals, s.last.ports, v.work.gone);
+    let peripherals = pass_unseen(s.peripherals, s.last.ports, v.work.gone);
     let waiting = v.waiting;
     let cpu = cpu_of(v.work.registers, v.work.wait, waiting);
     let clock = s.clock + v.work.gone.0;
@@ -140,15 +140,15 @@ fn continue_work(
     ensures { λ _. ⌜ now (memory .exit) ≡ committedBy halt (now (memory .entry)) worked ⌝ }
     ensures { λ _. ⌜ now (sums .exit) ≡ sumsAfter (now (sums .entry)) (now (memory .entry)) (now (memory .exit)) ⌝ }
 {
-    let written = worked.written;
-    let writes = pushes_of(written);
+    let writing = worked.writing;
+    let writes = pushes_of(writing);
     if ends_span(writes, halt) {
         return none_waiting(w);
     }
     commit(memory, sums, writes);
     Working {
         work: next_work(w, worked),
-        waiting: waiting_of(written),
+        waiting: waiting_of(writing),
     }
 }
 
@@ -182,8 +182,8 @@ fn begin_next(w: Work, worked: Worked) -> Working
     requires { ⌜ (w .gone .0 + w .wait + 1 ≤ 4294967295) × (w .leaps + 1 ≤ 4294967295) ⌝ }
     ensures { λ r. ⌜ r ≡ nextWorking w worked ⌝ }
 {
-    let written = worked.written;
-    let waiting = waiting_of(written);
+    let writing = worked.writing;
+    let waiting = waiting_of(writing);
     Working {
         work: next_work(w, worked),
         waiting: waiting,

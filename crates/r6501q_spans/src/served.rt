@@ -6,7 +6,7 @@ ghost use Rattle.r6501q_spans.specs.Spans.{steadyAt, steadyAsk, answered
 ghost use Rattle.cpu.specs.declared.Outcome.the-variants.{Asked};
 use cpu::Ask;
 use cpu::Outcome;
-use cpu::quiet::one_outcome;
+use cpu::work::one_outcome;
 use cpu_access::CpuRegisters;
 use r6501q_registers::addresses::SERIAL_DATA;
 use r6501q_registers::addresses::START_B;

@@ -42,7 +42,8 @@ use Rattle.r6501q_state.specs.Pins.{sensedAt, sensed}
 use Rattle.r6501q_state.specs.State.{fresh}
 use Rattle.r6501q_registers.specs.Read.{portValue, registerValue, afterRead}
 use Rattle.r6501q_registers.specs.Write.{startB, startA, entering, keptFlag, keptFlags, writeOf}
-use Rattle.r6501q_clock.specs.Clock.{withInputs, countA, countB, sentBy, heardBy, worked, readyOf, finished, clockOf}
+use Rattle.r6501q_clock.specs.Clock.{withInputs, countA, countB, sentBy, heardBy, peripheralsClock, readyOf, finished}
+use Rattle.r6501q_clock.specs.Clock.{clockOf}
 use Rattle.r6501q_clock.specs.Commit.{putWrite, committed}
 use Rattle.r6501q_state.specs.declared.state.Levels.{Levels}
 use Rattle.r6501q_state.specs.declared.state.State.{State}
@@ -59,7 +60,7 @@ use Rattle.r6501q_step.specs.R6501q.{World, plain, chip}
 use Rattle.r6501q_step.proofs.Halted.{toldBy, clockIn}
 use lib.ListN.{replicate}
 use Rattle.cpu_alu.specs.Shift.{incrementOf, setBitOf}
-use Rattle.bits.specs.Bits.{word}
+use Rattle.bits.specs.Bits.{word16}
 use Rattle.r6501q_step.proofs.Examples.{startWith}
 
 -- SP, P, the interrupt flags and enables, and the external levels of the ports; PC 0040h, nothing due, no wait
@@ -108,7 +109,7 @@ pub record AccessOrder : Type 0 where
   -- JSR with SP at its own last byte: the high byte of the target is the one that was just pushed
   pub call-over-itself : (l h : ℕ)
       → plains (chip Nowhere) 1 (startAt (readyAt 0x42 0 0 0 0xFFFFFFFF) (0x20 ∷ l ∷ h ∷ [])) .state .cpu .pc
-      ≡ word 0x00 l
+      ≡ word16 0x00 l
   -- INC 00h with PA0 held low from outside: the latch FFh is read, not the levels FEh; its byte is put on clock 5
   pub modify-by-latch : plains (chip Nowhere) 5
       (startAt (readyAt 0xFF 0 0 0 0xFFFFFFFE) (0xE6 ∷ 0x00 ∷ [])) .state .peripherals .ports .a ≡ 0x00
@@ -132,8 +133,8 @@ unfolding withBit setWhere flipWhere dueCount ticksOf inForce downA countsA cloc
     line shiftClock transmitterWithSccr decodeOf packed unpacked pushed memoryByte displacement flagsOf modeA modeB
     withInput driveA driveD drivenWord levelsOf rose fell edges withEdges resetOf sensedAt sensed fresh portValue
     registerValue afterRead startB startA entering keptFlag keptFlags writeOf wholeInstruction irqDue resetStart
-    nmiStart irqStart startOf bytePut processorOf withInputs countA countB sentBy heardBy worked readyOf finished
-    clockOf isWritten halts putWrite committed plainOf plains putRecord located byteAfter peripheralsRead
+    nmiStart irqStart startOf bytePut processorOf withInputs countA countB sentBy heardBy peripheralsClock readyOf
+    finished clockOf isWritten halts putWrite committed plainOf plains putRecord located byteAfter peripheralsRead
     peripheralsWritten valueRead performed inOrder completion storeAt modifyAccesses branchOn bitBranchAccesses jumpTo
     pushAccesses pullAccesses returnAccesses interruptReturnAccesses entryAccesses breakAccesses callAccesses
     operationAccesses withRead changedBy byteToStore branchTaken bitBranchTaken byteToPush withPulled withRegister

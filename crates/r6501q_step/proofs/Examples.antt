@@ -45,7 +45,8 @@ use Rattle.r6501q_state.specs.Pins.{sensedAt, sensed}
 use Rattle.r6501q_state.specs.State.{fresh}
 use Rattle.r6501q_registers.specs.Read.{portValue, registerValue, afterRead}
 use Rattle.r6501q_registers.specs.Write.{startB, startA, entering, keptFlag, keptFlags, writeOf}
-use Rattle.r6501q_clock.specs.Clock.{withInputs, countA, countB, sentBy, heardBy, worked, readyOf, finished, clockOf}
+use Rattle.r6501q_clock.specs.Clock.{withInputs, countA, countB, sentBy, heardBy, peripheralsClock, readyOf, finished}
+use Rattle.r6501q_clock.specs.Clock.{clockOf}
 use Rattle.r6501q_clock.specs.Commit.{putWrite, committed}
 use Rattle.r6501q_state.specs.declared.state.Levels.{Levels}
 use Rattle.r6501q_state.specs.declared.state.State.{State}
@@ -98,8 +99,8 @@ unfolding withBit setWhere flipWhere dueCount ticksOf inForce downA countsA cloc
     wrongParity statusAfter keptWith frameEnded lookTaken looked receiveTick shiftedAtRise byteEnded receiveRise
     receiverClock receiverWithSccr framed taken idleTick frameEnd nextPhase ticked bitTick sendTick transmitterClock
     line shiftClock transmitterWithSccr flagsOf modeA modeB withInput driveA driveD drivenWord levelsOf rose fell edges
-    withEdges resetOf sensedAt sensed fresh withInputs countA countB sentBy heardBy worked readyOf finished clockOf
-    halts putWrite committed bytePut processorOf plainOf plains putRecord
+    withEdges resetOf sensedAt sensed fresh withInputs countA countB sentBy heardBy peripheralsClock readyOf finished
+    clockOf halts putWrite committed bytePut processorOf plainOf plains putRecord
 p1-cleared clock = refl
 
 pub p1-clock : (clock : ℕ) (memory times words : List ℕ)
@@ -111,8 +112,8 @@ unfolding withBit setWhere flipWhere dueCount ticksOf inForce downA countsA cloc
     wrongParity statusAfter keptWith frameEnded lookTaken looked receiveTick shiftedAtRise byteEnded receiveRise
     receiverClock receiverWithSccr framed taken idleTick frameEnd nextPhase ticked bitTick sendTick transmitterClock
     line shiftClock transmitterWithSccr flagsOf modeA modeB withInput driveA driveD drivenWord levelsOf rose fell edges
-    withEdges resetOf sensedAt sensed fresh withInputs countA countB sentBy heardBy worked readyOf finished clockOf
-    halts putWrite committed bytePut processorOf plainOf plains putRecord
+    withEdges resetOf sensedAt sensed fresh withInputs countA countB sentBy heardBy peripheralsClock readyOf finished
+    clockOf halts putWrite committed bytePut processorOf plainOf plains putRecord
 p1-clock clock memory times words = refl
 
 pub p1-clocks : (n clock : ℕ) (memory times words : List ℕ)
@@ -155,12 +156,12 @@ unfolding withBit setWhere flipWhere dueCount ticksOf inForce downA countsA cloc
     line shiftClock transmitterWithSccr decodeOf packed unpacked pushed memoryByte displacement flagsOf modeA modeB
     withInput driveA driveD drivenWord levelsOf rose fell edges withEdges resetOf sensedAt sensed fresh portValue
     registerValue afterRead startB startA entering keptFlag keptFlags writeOf wholeInstruction irqDue resetStart
-    nmiStart irqStart startOf bytePut processorOf withInputs countA countB sentBy heardBy worked readyOf finished
-    clockOf halts putWrite committed plainOf plains putRecord located byteAfter peripheralsRead peripheralsWritten
-    valueRead performed inOrder completion storeAt modifyAccesses branchOn bitBranchAccesses jumpTo pushAccesses
-    pullAccesses returnAccesses interruptReturnAccesses entryAccesses breakAccesses callAccesses operationAccesses
-    withRead changedBy byteToStore branchTaken bitBranchTaken byteToPush withPulled withRegister withFlag
-    instructionAccesses resetAccesses interruptAccesses
+    nmiStart irqStart startOf bytePut processorOf withInputs countA countB sentBy heardBy peripheralsClock readyOf
+    finished clockOf halts putWrite committed plainOf plains putRecord located byteAfter peripheralsRead
+    peripheralsWritten valueRead performed inOrder completion storeAt modifyAccesses branchOn bitBranchAccesses jumpTo
+    pushAccesses pullAccesses returnAccesses interruptReturnAccesses entryAccesses breakAccesses callAccesses
+    operationAccesses withRead changedBy byteToStore branchTaken bitBranchTaken byteToPush withPulled withRegister
+    withFlag instructionAccesses resetAccesses interruptAccesses
 p2-loaded = refl
 
 pub p2-clocks : tabulate (λ k. bit 4 (plains (chip Nowhere) k (timerStart 0x18 0x1A) .state .peripherals .control .ifr))
@@ -174,12 +175,12 @@ unfolding withBit setWhere flipWhere dueCount ticksOf inForce downA countsA cloc
     line shiftClock transmitterWithSccr decodeOf packed unpacked pushed memoryByte displacement flagsOf modeA modeB
     withInput driveA driveD drivenWord levelsOf rose fell edges withEdges resetOf sensedAt sensed fresh portValue
     registerValue afterRead startB startA entering keptFlag keptFlags writeOf wholeInstruction irqDue resetStart
-    nmiStart irqStart startOf bytePut processorOf withInputs countA countB sentBy heardBy worked readyOf finished
-    clockOf halts putWrite committed plainOf plains putRecord located byteAfter peripheralsRead peripheralsWritten
-    valueRead performed inOrder completion storeAt modifyAccesses branchOn bitBranchAccesses jumpTo pushAccesses
-    pullAccesses returnAccesses interruptReturnAccesses entryAccesses breakAccesses callAccesses operationAccesses
-    withRead changedBy byteToStore branchTaken bitBranchTaken byteToPush withPulled withRegister withFlag
-    instructionAccesses resetAccesses interruptAccesses
+    nmiStart irqStart startOf bytePut processorOf withInputs countA countB sentBy heardBy peripheralsClock readyOf
+    finished clockOf halts putWrite committed plainOf plains putRecord located byteAfter peripheralsRead
+    peripheralsWritten valueRead performed inOrder completion storeAt modifyAccesses branchOn bitBranchAccesses jumpTo
+    pushAccesses pullAccesses returnAccesses interruptReturnAccesses entryAccesses breakAccesses callAccesses
+    operationAccesses withRead changedBy byteToStore branchTaken bitBranchTaken byteToPush withPulled withRegister
+    withFlag instructionAccesses resetAccesses interruptAccesses
 p2-clocks = refl
 
 pub p2-clocks-b : tabulate
@@ -193,12 +194,12 @@ unfolding withBit setWhere flipWhere dueCount ticksOf inForce downA countsA cloc
     line shiftClock transmitterWithSccr decodeOf packed unpacked pushed memoryByte displacement flagsOf modeA modeB
     withInput driveA driveD drivenWord levelsOf rose fell edges withEdges resetOf sensedAt sensed fresh portValue
     registerValue afterRead startB startA entering keptFlag keptFlags writeOf wholeInstruction irqDue resetStart
-    nmiStart irqStart startOf bytePut processorOf withInputs countA countB sentBy heardBy worked readyOf finished
-    clockOf halts putWrite committed plainOf plains putRecord located byteAfter peripheralsRead peripheralsWritten
-    valueRead performed inOrder completion storeAt modifyAccesses branchOn bitBranchAccesses jumpTo pushAccesses
-    pullAccesses returnAccesses interruptReturnAccesses entryAccesses breakAccesses callAccesses operationAccesses
-    withRead changedBy byteToStore branchTaken bitBranchTaken byteToPush withPulled withRegister withFlag
-    instructionAccesses resetAccesses interruptAccesses
+    nmiStart irqStart startOf bytePut processorOf withInputs countA countB sentBy heardBy peripheralsClock readyOf
+    finished clockOf halts putWrite committed plainOf plains putRecord located byteAfter peripheralsRead
+    peripheralsWritten valueRead performed inOrder completion storeAt modifyAccesses branchOn bitBranchAccesses jumpTo
+    pushAccesses pullAccesses returnAccesses interruptReturnAccesses entryAccesses breakAccesses callAccesses
+    operationAccesses withRead changedBy byteToStore branchTaken bitBranchTaken byteToPush withPulled withRegister
+    withFlag instructionAccesses resetAccesses interruptAccesses
 p2-clocks-b = refl
 
 -- ---- P6, "one low sub-interval at the receiver: no start.": PA7 low on clocks 1 and 2, a tick on each clock, while
@@ -227,8 +228,8 @@ unfolding withBit setWhere flipWhere dueCount ticksOf inForce downA countsA cloc
     wrongParity statusAfter keptWith frameEnded lookTaken looked receiveTick shiftedAtRise byteEnded receiveRise
     receiverClock receiverWithSccr framed taken idleTick frameEnd nextPhase ticked bitTick sendTick transmitterClock
     line shiftClock transmitterWithSccr flagsOf modeA modeB withInput driveA driveD drivenWord levelsOf rose fell edges
-    withEdges resetOf sensedAt sensed fresh withInputs countA countB sentBy heardBy worked readyOf finished clockOf
-    halts putWrite committed bytePut processorOf plainOf plains putRecord
+    withEdges resetOf sensedAt sensed fresh withInputs countA countB sentBy heardBy peripheralsClock readyOf finished
+    clockOf halts putWrite committed bytePut processorOf plainOf plains putRecord
 p6-low register received memory = refl
 
 pub p6-none : (register received : ℕ) (memory : List ℕ)
@@ -240,8 +241,8 @@ unfolding withBit setWhere flipWhere dueCount ticksOf inForce downA countsA cloc
     wrongParity statusAfter keptWith frameEnded lookTaken looked receiveTick shiftedAtRise byteEnded receiveRise
     receiverClock receiverWithSccr framed taken idleTick frameEnd nextPhase ticked bitTick sendTick transmitterClock
     line shiftClock transmitterWithSccr flagsOf modeA modeB withInput driveA driveD drivenWord levelsOf rose fell edges
-    withEdges resetOf sensedAt sensed fresh withInputs countA countB sentBy heardBy worked readyOf finished clockOf
-    halts putWrite committed bytePut processorOf plainOf plains putRecord
+    withEdges resetOf sensedAt sensed fresh withInputs countA countB sentBy heardBy peripheralsClock readyOf finished
+    clockOf halts putWrite committed bytePut processorOf plainOf plains putRecord
 p6-none register received memory = refl
 
 pub p6-status : (register received : ℕ) (memory : List ℕ)
@@ -252,8 +253,8 @@ unfolding withBit setWhere flipWhere dueCount ticksOf inForce downA countsA cloc
     wrongParity statusAfter keptWith frameEnded lookTaken looked receiveTick shiftedAtRise byteEnded receiveRise
     receiverClock receiverWithSccr framed taken idleTick frameEnd nextPhase ticked bitTick sendTick transmitterClock
     line shiftClock transmitterWithSccr flagsOf modeA modeB withInput driveA driveD drivenWord levelsOf rose fell edges
-    withEdges resetOf sensedAt sensed fresh withInputs countA countB sentBy heardBy worked readyOf finished clockOf
-    halts putWrite committed bytePut processorOf plainOf plains putRecord
+    withEdges resetOf sensedAt sensed fresh withInputs countA countB sentBy heardBy peripheralsClock readyOf finished
+    clockOf halts putWrite committed bytePut processorOf plainOf plains putRecord
 p6-status register received memory = refl
 
 -- ---- P5, "41h, 8 bits, no parity, latch 0: 176 clocks from start to idle."
@@ -280,12 +281,12 @@ unfolding withBit setWhere flipWhere dueCount ticksOf inForce downA countsA cloc
     line shiftClock transmitterWithSccr decodeOf packed unpacked pushed memoryByte displacement flagsOf modeA modeB
     withInput driveA driveD drivenWord levelsOf rose fell edges withEdges resetOf sensedAt sensed fresh portValue
     registerValue afterRead startB startA entering keptFlag keptFlags writeOf wholeInstruction irqDue resetStart
-    nmiStart irqStart startOf bytePut processorOf withInputs countA countB sentBy heardBy worked readyOf finished
-    clockOf halts putWrite committed plainOf plains putRecord located byteAfter peripheralsRead peripheralsWritten
-    valueRead performed inOrder completion storeAt modifyAccesses branchOn bitBranchAccesses jumpTo pushAccesses
-    pullAccesses returnAccesses interruptReturnAccesses entryAccesses breakAccesses callAccesses operationAccesses
-    withRead changedBy byteToStore branchTaken bitBranchTaken byteToPush withPulled withRegister withFlag
-    instructionAccesses resetAccesses interruptAccesses
+    nmiStart irqStart startOf bytePut processorOf withInputs countA countB sentBy heardBy peripheralsClock readyOf
+    finished clockOf halts putWrite committed plainOf plains putRecord located byteAfter peripheralsRead
+    peripheralsWritten valueRead performed inOrder completion storeAt modifyAccesses branchOn bitBranchAccesses jumpTo
+    pushAccesses pullAccesses returnAccesses interruptReturnAccesses entryAccesses breakAccesses callAccesses
+    operationAccesses withRead changedBy byteToStore branchTaken bitBranchTaken byteToPush withPulled withRegister
+    withFlag instructionAccesses resetAccesses interruptAccesses
 p5-start = refl
 
 -- after clock 194 one bit is left, and after clock 195 it is idle, with an under-run; the line's six edges are its
@@ -299,12 +300,12 @@ unfolding withBit setWhere flipWhere dueCount ticksOf inForce downA countsA cloc
     line shiftClock transmitterWithSccr decodeOf packed unpacked pushed memoryByte displacement flagsOf modeA modeB
     withInput driveA driveD drivenWord levelsOf rose fell edges withEdges resetOf sensedAt sensed fresh portValue
     registerValue afterRead startB startA entering keptFlag keptFlags writeOf wholeInstruction irqDue resetStart
-    nmiStart irqStart startOf bytePut processorOf withInputs countA countB sentBy heardBy worked readyOf finished
-    clockOf halts putWrite committed plainOf plains putRecord located byteAfter peripheralsRead peripheralsWritten
-    valueRead performed inOrder completion storeAt modifyAccesses branchOn bitBranchAccesses jumpTo pushAccesses
-    pullAccesses returnAccesses interruptReturnAccesses entryAccesses breakAccesses callAccesses operationAccesses
-    withRead changedBy byteToStore branchTaken bitBranchTaken byteToPush withPulled withRegister withFlag
-    instructionAccesses resetAccesses interruptAccesses
+    nmiStart irqStart startOf bytePut processorOf withInputs countA countB sentBy heardBy peripheralsClock readyOf
+    finished clockOf halts putWrite committed plainOf plains putRecord located byteAfter peripheralsRead
+    peripheralsWritten valueRead performed inOrder completion storeAt modifyAccesses branchOn bitBranchAccesses jumpTo
+    pushAccesses pullAccesses returnAccesses interruptReturnAccesses entryAccesses breakAccesses callAccesses
+    operationAccesses withRead changedBy byteToStore branchTaken bitBranchTaken byteToPush withPulled withRegister
+    withFlag instructionAccesses resetAccesses interruptAccesses
 p5-last-bit = refl
 
 pub p5-idle : plains (chip Nowhere) 195 senderStart .state .peripherals .transmitter ≡ idleTransmitter
@@ -316,12 +317,12 @@ unfolding withBit setWhere flipWhere dueCount ticksOf inForce downA countsA cloc
     line shiftClock transmitterWithSccr decodeOf packed unpacked pushed memoryByte displacement flagsOf modeA modeB
     withInput driveA driveD drivenWord levelsOf rose fell edges withEdges resetOf sensedAt sensed fresh portValue
     registerValue afterRead startB startA entering keptFlag keptFlags writeOf wholeInstruction irqDue resetStart
-    nmiStart irqStart startOf bytePut processorOf withInputs countA countB sentBy heardBy worked readyOf finished
-    clockOf halts putWrite committed plainOf plains putRecord located byteAfter peripheralsRead peripheralsWritten
-    valueRead performed inOrder completion storeAt modifyAccesses branchOn bitBranchAccesses jumpTo pushAccesses
-    pullAccesses returnAccesses interruptReturnAccesses entryAccesses breakAccesses callAccesses operationAccesses
-    withRead changedBy byteToStore branchTaken bitBranchTaken byteToPush withPulled withRegister withFlag
-    instructionAccesses resetAccesses interruptAccesses
+    nmiStart irqStart startOf bytePut processorOf withInputs countA countB sentBy heardBy peripheralsClock readyOf
+    finished clockOf halts putWrite committed plainOf plains putRecord located byteAfter peripheralsRead
+    peripheralsWritten valueRead performed inOrder completion storeAt modifyAccesses branchOn bitBranchAccesses jumpTo
+    pushAccesses pullAccesses returnAccesses interruptReturnAccesses entryAccesses breakAccesses callAccesses
+    operationAccesses withRead changedBy byteToStore branchTaken bitBranchTaken byteToPush withPulled withRegister
+    withFlag instructionAccesses resetAccesses interruptAccesses
 p5-idle = refl
 
 pub p5-edges : plains (chip Nowhere) 195 senderStart .outputClocks ≡ 19 ∷ 35 ∷ 51 ∷ 131 ∷ 147 ∷ 163 ∷ []
@@ -333,12 +334,12 @@ unfolding withBit setWhere flipWhere dueCount ticksOf inForce downA countsA cloc
     line shiftClock transmitterWithSccr decodeOf packed unpacked pushed memoryByte displacement flagsOf modeA modeB
     withInput driveA driveD drivenWord levelsOf rose fell edges withEdges resetOf sensedAt sensed fresh portValue
     registerValue afterRead startB startA entering keptFlag keptFlags writeOf wholeInstruction irqDue resetStart
-    nmiStart irqStart startOf bytePut processorOf withInputs countA countB sentBy heardBy worked readyOf finished
-    clockOf halts putWrite committed plainOf plains putRecord located byteAfter peripheralsRead peripheralsWritten
-    valueRead performed inOrder completion storeAt modifyAccesses branchOn bitBranchAccesses jumpTo pushAccesses
-    pullAccesses returnAccesses interruptReturnAccesses entryAccesses breakAccesses callAccesses operationAccesses
-    withRead changedBy byteToStore branchTaken bitBranchTaken byteToPush withPulled withRegister withFlag
-    instructionAccesses resetAccesses interruptAccesses
+    nmiStart irqStart startOf bytePut processorOf withInputs countA countB sentBy heardBy peripheralsClock readyOf
+    finished clockOf halts putWrite committed plainOf plains putRecord located byteAfter peripheralsRead
+    peripheralsWritten valueRead performed inOrder completion storeAt modifyAccesses branchOn bitBranchAccesses jumpTo
+    pushAccesses pullAccesses returnAccesses interruptReturnAccesses entryAccesses breakAccesses callAccesses
+    operationAccesses withRead changedBy byteToStore branchTaken bitBranchTaken byteToPush withPulled withRegister
+    withFlag instructionAccesses resetAccesses interruptAccesses
 p5-edges = refl
 
 -- ---- 02, U4: document 01's tape with the halt address 0000h, from fresh, with RES high on clock 1
@@ -366,8 +367,8 @@ unfolding withBit setWhere flipWhere dueCount ticksOf inForce downA countsA cloc
     line shiftClock transmitterWithSccr decodeOf packed unpacked pushed memoryByte displacement flagsOf modeA modeB
     withInput driveA driveD drivenWord levelsOf rose fell edges withEdges resetOf sensedAt sensed fresh portValue
     registerValue afterRead startB startA entering keptFlag keptFlags writeOf wholeInstruction irqDue resetStart
-    nmiStart irqStart startOf bytePut processorOf withInputs countA countB sentBy heardBy worked readyOf finished
-    clockOf isWritten halts putWrite committed plainOf plains putRecord located byteAfter peripheralsRead
+    nmiStart irqStart startOf bytePut processorOf withInputs countA countB sentBy heardBy peripheralsClock readyOf
+    finished clockOf isWritten halts putWrite committed plainOf plains putRecord located byteAfter peripheralsRead
     peripheralsWritten valueRead performed inOrder completion storeAt modifyAccesses branchOn bitBranchAccesses jumpTo
     pushAccesses pullAccesses returnAccesses interruptReturnAccesses entryAccesses breakAccesses callAccesses
     operationAccesses withRead changedBy byteToStore branchTaken bitBranchTaken byteToPush withPulled withRegister
@@ -384,14 +385,14 @@ unfolding withBit setWhere flipWhere dueCount ticksOf inForce downA countsA cloc
     line shiftClock transmitterWithSccr decodeOf packed unpacked pushed memoryByte displacement flagsOf modeA modeB
     withInput driveA driveD drivenWord levelsOf rose fell edges withEdges resetOf sensedAt sensed fresh portValue
     registerValue afterRead startB startA entering keptFlag keptFlags writeOf wholeInstruction irqDue resetStart
-    nmiStart irqStart startOf bytePut processorOf withInputs countA countB sentBy heardBy worked readyOf finished
-    clockOf isWritten halts putWrite committed plainOf plains putRecord eventsIn quietEnd trace leapCount doneIn eventIn
-    hasInput sameLevels levelsChange underflowsA underflowsB portsFresh controlFresh transmitterIdle receiverIdle
-    isReset resetChanges cpuStarts putsByte byteWaits eventOf located byteAfter peripheralsRead peripheralsWritten
-    valueRead performed inOrder completion storeAt modifyAccesses branchOn bitBranchAccesses jumpTo pushAccesses
-    pullAccesses returnAccesses interruptReturnAccesses entryAccesses breakAccesses callAccesses operationAccesses
-    withRead changedBy byteToStore branchTaken bitBranchTaken byteToPush withPulled withRegister withFlag
-    instructionAccesses resetAccesses interruptAccesses
+    nmiStart irqStart startOf bytePut processorOf withInputs countA countB sentBy heardBy peripheralsClock readyOf
+    finished clockOf isWritten halts putWrite committed plainOf plains putRecord eventsIn quietEnd trace leapCount
+    doneIn eventIn hasInput sameLevels levelsChange underflowsA underflowsB portsFresh controlFresh transmitterIdle
+    receiverIdle isReset resetChanges cpuStarts putsByte byteWaits eventOf located byteAfter peripheralsRead
+    peripheralsWritten valueRead performed inOrder completion storeAt modifyAccesses branchOn bitBranchAccesses jumpTo
+    pushAccesses pullAccesses returnAccesses interruptReturnAccesses entryAccesses breakAccesses callAccesses
+    operationAccesses withRead changedBy byteToStore branchTaken bitBranchTaken byteToPush withPulled withRegister
+    withFlag instructionAccesses resetAccesses interruptAccesses
 halt-leaps = refl
 
 -- 12 "also where that clock is the run's last", 0 where the run ends before it
@@ -404,8 +405,8 @@ unfolding withBit setWhere flipWhere dueCount ticksOf inForce downA countsA cloc
     line shiftClock transmitterWithSccr decodeOf packed unpacked pushed memoryByte displacement flagsOf modeA modeB
     withInput driveA driveD drivenWord levelsOf rose fell edges withEdges resetOf sensedAt sensed fresh portValue
     registerValue afterRead startB startA entering keptFlag keptFlags writeOf wholeInstruction irqDue resetStart
-    nmiStart irqStart startOf bytePut processorOf withInputs countA countB sentBy heardBy worked readyOf finished
-    clockOf isWritten halts putWrite committed plainOf plains putRecord located byteAfter peripheralsRead
+    nmiStart irqStart startOf bytePut processorOf withInputs countA countB sentBy heardBy peripheralsClock readyOf
+    finished clockOf isWritten halts putWrite committed plainOf plains putRecord located byteAfter peripheralsRead
     peripheralsWritten valueRead performed inOrder completion storeAt modifyAccesses branchOn bitBranchAccesses jumpTo
     pushAccesses pullAccesses returnAccesses interruptReturnAccesses entryAccesses breakAccesses callAccesses
     operationAccesses withRead changedBy byteToStore branchTaken bitBranchTaken byteToPush withPulled withRegister
@@ -421,8 +422,8 @@ unfolding withBit setWhere flipWhere dueCount ticksOf inForce downA countsA cloc
     line shiftClock transmitterWithSccr decodeOf packed unpacked pushed memoryByte displacement flagsOf modeA modeB
     withInput driveA driveD drivenWord levelsOf rose fell edges withEdges resetOf sensedAt sensed fresh portValue
     registerValue afterRead startB startA entering keptFlag keptFlags writeOf wholeInstruction irqDue resetStart
-    nmiStart irqStart startOf bytePut processorOf withInputs countA countB sentBy heardBy worked readyOf finished
-    clockOf isWritten halts putWrite committed plainOf plains putRecord located byteAfter peripheralsRead
+    nmiStart irqStart startOf bytePut processorOf withInputs countA countB sentBy heardBy peripheralsClock readyOf
+    finished clockOf isWritten halts putWrite committed plainOf plains putRecord located byteAfter peripheralsRead
     peripheralsWritten valueRead performed inOrder completion storeAt modifyAccesses branchOn bitBranchAccesses jumpTo
     pushAccesses pullAccesses returnAccesses interruptReturnAccesses entryAccesses breakAccesses callAccesses
     operationAccesses withRead changedBy byteToStore branchTaken bitBranchTaken byteToPush withPulled withRegister
@@ -439,8 +440,8 @@ unfolding withBit setWhere flipWhere dueCount ticksOf inForce downA countsA cloc
     line shiftClock transmitterWithSccr decodeOf packed unpacked pushed memoryByte displacement flagsOf modeA modeB
     withInput driveA driveD drivenWord levelsOf rose fell edges withEdges resetOf sensedAt sensed fresh portValue
     registerValue afterRead startB startA entering keptFlag keptFlags writeOf wholeInstruction irqDue resetStart
-    nmiStart irqStart startOf bytePut processorOf withInputs countA countB sentBy heardBy worked readyOf finished
-    clockOf isWritten halts putWrite committed plainOf plains putRecord located byteAfter peripheralsRead
+    nmiStart irqStart startOf bytePut processorOf withInputs countA countB sentBy heardBy peripheralsClock readyOf
+    finished clockOf isWritten halts putWrite committed plainOf plains putRecord located byteAfter peripheralsRead
     peripheralsWritten valueRead performed inOrder completion storeAt modifyAccesses branchOn bitBranchAccesses jumpTo
     pushAccesses pullAccesses returnAccesses interruptReturnAccesses entryAccesses breakAccesses callAccesses
     operationAccesses withRead changedBy byteToStore branchTaken bitBranchTaken byteToPush withPulled withRegister
@@ -457,8 +458,8 @@ unfolding withBit setWhere flipWhere dueCount ticksOf inForce downA countsA cloc
     line shiftClock transmitterWithSccr decodeOf packed unpacked pushed memoryByte displacement flagsOf modeA modeB
     withInput driveA driveD drivenWord levelsOf rose fell edges withEdges resetOf sensedAt sensed fresh portValue
     registerValue afterRead startB startA entering keptFlag keptFlags writeOf wholeInstruction irqDue resetStart
-    nmiStart irqStart startOf bytePut processorOf withInputs countA countB sentBy heardBy worked readyOf finished
-    clockOf isWritten halts putWrite committed plainOf plains putRecord located byteAfter peripheralsRead
+    nmiStart irqStart startOf bytePut processorOf withInputs countA countB sentBy heardBy peripheralsClock readyOf
+    finished clockOf isWritten halts putWrite committed plainOf plains putRecord located byteAfter peripheralsRead
     peripheralsWritten valueRead performed inOrder completion storeAt modifyAccesses branchOn bitBranchAccesses jumpTo
     pushAccesses pullAccesses returnAccesses interruptReturnAccesses entryAccesses breakAccesses callAccesses
     operationAccesses withRead changedBy byteToStore branchTaken bitBranchTaken byteToPush withPulled withRegister
@@ -474,8 +475,8 @@ unfolding withBit setWhere flipWhere dueCount ticksOf inForce downA countsA cloc
     line shiftClock transmitterWithSccr decodeOf packed unpacked pushed memoryByte displacement flagsOf modeA modeB
     withInput driveA driveD drivenWord levelsOf rose fell edges withEdges resetOf sensedAt sensed fresh portValue
     registerValue afterRead startB startA entering keptFlag keptFlags writeOf wholeInstruction irqDue resetStart
-    nmiStart irqStart startOf bytePut processorOf withInputs countA countB sentBy heardBy worked readyOf finished
-    clockOf isWritten halts putWrite committed plainOf plains putRecord located byteAfter peripheralsRead
+    nmiStart irqStart startOf bytePut processorOf withInputs countA countB sentBy heardBy peripheralsClock readyOf
+    finished clockOf isWritten halts putWrite committed plainOf plains putRecord located byteAfter peripheralsRead
     peripheralsWritten valueRead performed inOrder completion storeAt modifyAccesses branchOn bitBranchAccesses jumpTo
     pushAccesses pullAccesses returnAccesses interruptReturnAccesses entryAccesses breakAccesses callAccesses
     operationAccesses withRead changedBy byteToStore branchTaken bitBranchTaken byteToPush withPulled withRegister
@@ -493,8 +494,8 @@ unfolding withBit setWhere flipWhere dueCount ticksOf inForce downA countsA cloc
     line shiftClock transmitterWithSccr decodeOf packed unpacked pushed memoryByte displacement flagsOf modeA modeB
     withInput driveA driveD drivenWord levelsOf rose fell edges withEdges resetOf sensedAt sensed fresh portValue
     registerValue afterRead startB startA entering keptFlag keptFlags writeOf wholeInstruction irqDue resetStart
-    nmiStart irqStart startOf bytePut processorOf withInputs countA countB sentBy heardBy worked readyOf finished
-    clockOf isWritten halts putWrite committed plainOf plains putRecord located byteAfter peripheralsRead
+    nmiStart irqStart startOf bytePut processorOf withInputs countA countB sentBy heardBy peripheralsClock readyOf
+    finished clockOf isWritten halts putWrite committed plainOf plains putRecord located byteAfter peripheralsRead
     peripheralsWritten valueRead performed inOrder completion storeAt modifyAccesses branchOn bitBranchAccesses jumpTo
     pushAccesses pullAccesses returnAccesses interruptReturnAccesses entryAccesses breakAccesses callAccesses
     operationAccesses withRead changedBy byteToStore branchTaken bitBranchTaken byteToPush withPulled withRegister
@@ -510,8 +511,8 @@ unfolding withBit setWhere flipWhere dueCount ticksOf inForce downA countsA cloc
     line shiftClock transmitterWithSccr decodeOf packed unpacked pushed memoryByte displacement flagsOf modeA modeB
     withInput driveA driveD drivenWord levelsOf rose fell edges withEdges resetOf sensedAt sensed fresh portValue
     registerValue afterRead startB startA entering keptFlag keptFlags writeOf wholeInstruction irqDue resetStart
-    nmiStart irqStart startOf bytePut processorOf withInputs countA countB sentBy heardBy worked readyOf finished
-    clockOf isWritten halts putWrite committed plainOf plains putRecord located byteAfter peripheralsRead
+    nmiStart irqStart startOf bytePut processorOf withInputs countA countB sentBy heardBy peripheralsClock readyOf
+    finished clockOf isWritten halts putWrite committed plainOf plains putRecord located byteAfter peripheralsRead
     peripheralsWritten valueRead performed inOrder completion storeAt modifyAccesses branchOn bitBranchAccesses jumpTo
     pushAccesses pullAccesses returnAccesses interruptReturnAccesses entryAccesses breakAccesses callAccesses
     operationAccesses withRead changedBy byteToStore branchTaken bitBranchTaken byteToPush withPulled withRegister
@@ -531,8 +532,8 @@ unfolding withBit setWhere flipWhere dueCount ticksOf inForce downA countsA cloc
     line shiftClock transmitterWithSccr decodeOf packed unpacked pushed memoryByte displacement flagsOf modeA modeB
     withInput driveA driveD drivenWord levelsOf rose fell edges withEdges resetOf sensedAt sensed fresh portValue
     registerValue afterRead startB startA entering keptFlag keptFlags writeOf wholeInstruction irqDue resetStart
-    nmiStart irqStart startOf bytePut processorOf withInputs countA countB sentBy heardBy worked readyOf finished
-    clockOf isWritten halts putWrite committed plainOf plains putRecord located byteAfter peripheralsRead
+    nmiStart irqStart startOf bytePut processorOf withInputs countA countB sentBy heardBy peripheralsClock readyOf
+    finished clockOf isWritten halts putWrite committed plainOf plains putRecord located byteAfter peripheralsRead
     peripheralsWritten valueRead performed inOrder completion storeAt modifyAccesses branchOn bitBranchAccesses jumpTo
     pushAccesses pullAccesses returnAccesses interruptReturnAccesses entryAccesses breakAccesses callAccesses
     operationAccesses withRead changedBy byteToStore branchTaken bitBranchTaken byteToPush withPulled withRegister
@@ -562,8 +563,8 @@ unfolding withBit setWhere flipWhere dueCount ticksOf inForce downA countsA cloc
     line shiftClock transmitterWithSccr decodeOf packed unpacked pushed memoryByte displacement flagsOf modeA modeB
     withInput driveA driveD drivenWord levelsOf rose fell edges withEdges resetOf sensedAt sensed fresh portValue
     registerValue afterRead startB startA entering keptFlag keptFlags writeOf wholeInstruction irqDue resetStart
-    nmiStart irqStart startOf bytePut processorOf withInputs countA countB sentBy heardBy worked readyOf finished
-    clockOf isWritten halts putWrite committed plainOf plains putRecord located byteAfter peripheralsRead
+    nmiStart irqStart startOf bytePut processorOf withInputs countA countB sentBy heardBy peripheralsClock readyOf
+    finished clockOf isWritten halts putWrite committed plainOf plains putRecord located byteAfter peripheralsRead
     peripheralsWritten valueRead performed inOrder completion storeAt modifyAccesses branchOn bitBranchAccesses jumpTo
     pushAccesses pullAccesses returnAccesses interruptReturnAccesses entryAccesses breakAccesses callAccesses
     operationAccesses withRead changedBy byteToStore branchTaken bitBranchTaken byteToPush withPulled withRegister

@@ -24,7 +24,8 @@ use Rattle.r6501q_state.specs.Control.{modeA, modeB}
 use Rattle.r6501q_state.specs.Pins.{driveA, driveD, drivenWord, levelsOf, rose, fell, edges, withEdges, resetOf}
 use Rattle.r6501q_state.specs.Pins.{sensedAt, sensed}
 use Rattle.r6501q_cpu.specs.Processor.{processorOf}
-use Rattle.r6501q_clock.specs.Clock.{withInputs, inputsSet, countA, countB, sentBy, heardBy, worked, readyOf, finished}
+use Rattle.r6501q_clock.specs.Clock.{withInputs, inputsSet, countA, countB, sentBy, heardBy, peripheralsClock, readyOf}
+use Rattle.r6501q_clock.specs.Clock.{finished}
 use Rattle.r6501q_clock.specs.Clock.{clockOf}
 use Rattle.r6501q_clock.specs.Commit.{putWrite, committed}
 use Rattle.r6501q_gaps.specs.Events.{hasInput, sameLevels, levelsChange, underflowsA, underflowsB, portsFresh}
@@ -102,7 +103,8 @@ module _ (halt : Halt) (memory times words : List ℕ) where
   unfolding withBit setWhere flipWhere dueCount ticksOf inForce downA countsA clockA reloadB downB clockB
       transmitterAsynchronous receiverAsynchronous receiverShifting holdsA receiverClock transmitterClock modeA modeB
       driveA driveD drivenWord levelsOf rose fell edges withEdges resetOf sensedAt sensed withInputs countA countB
-      sentBy heardBy worked readyOf finished clockOf putWrite committed processorOf plainOf putRecord byteWaits
+      sentBy heardBy peripheralsClock readyOf finished clockOf putWrite committed processorOf plainOf putRecord
+      byteWaits
   at-underflow ifr clock = rw (unwritten halt noWrites refl)
 
   counted-down : (count ifr clock : ℕ) → eqb count 0 ≡ false
@@ -110,7 +112,8 @@ module _ (halt : Halt) (memory times words : List ℕ) where
   unfolding withBit setWhere flipWhere dueCount ticksOf inForce downA countsA clockA reloadB downB clockB
       transmitterAsynchronous receiverAsynchronous receiverShifting holdsA receiverClock transmitterClock modeA modeB
       driveA driveD drivenWord levelsOf rose fell edges withEdges resetOf sensedAt sensed withInputs countA countB
-      sentBy heardBy worked readyOf finished clockOf putWrite committed processorOf plainOf putRecord byteWaits
+      sentBy heardBy peripheralsClock readyOf finished clockOf putWrite committed processorOf plainOf putRecord
+      byteWaits
   counted-down count ifr clock some = rw (some, unwritten halt noWrites refl)
 
   -- the next clock
@@ -166,8 +169,8 @@ module _ (halt : Halt) (memory times words : List ℕ) where
       receiverIdle isReset resetChanges cpuStarts putsByte eventOf withBit setWhere flipWhere dueCount ticksOf inForce
       downA countsA clockA reloadB downB clockB transmitterAsynchronous receiverAsynchronous receiverShifting holdsA
       receiverClock transmitterClock modeA modeB driveA driveD drivenWord levelsOf rose fell edges withEdges resetOf
-      sensedAt sensed withInputs countA countB sentBy heardBy worked readyOf finished clockOf putWrite committed
-      processorOf plainOf putRecord byteWaits
+      sensedAt sensed withInputs countA countB sentBy heardBy peripheralsClock readyOf finished clockOf putWrite
+      committed processorOf plainOf putRecord byteWaits
   event-at ifr clock = refl
 
   event-after : (clock : ℕ) → eventIn (r6501q halt) (heldIn (heldWith 0xFFFF 0x30 clock)) ≡ true
@@ -175,8 +178,8 @@ module _ (halt : Halt) (memory times words : List ℕ) where
       receiverIdle isReset resetChanges cpuStarts putsByte eventOf withBit setWhere flipWhere dueCount ticksOf inForce
       downA countsA clockA reloadB downB clockB transmitterAsynchronous receiverAsynchronous receiverShifting holdsA
       receiverClock transmitterClock modeA modeB driveA driveD drivenWord levelsOf rose fell edges withEdges resetOf
-      sensedAt sensed withInputs countA countB sentBy heardBy worked readyOf finished clockOf putWrite committed
-      processorOf plainOf putRecord byteWaits
+      sensedAt sensed withInputs countA countB sentBy heardBy peripheralsClock readyOf finished clockOf putWrite
+      committed processorOf plainOf putRecord byteWaits
   event-after clock = refl
 
   in-gap : (count clock : ℕ) → 0 < count → 0 < gapOf 1 (heldWith count 0 clock) [] .0
@@ -185,8 +188,8 @@ module _ (halt : Halt) (memory times words : List ℕ) where
       isReset resetChanges cpuStarts putsByte eventOf withBit setWhere flipWhere dueCount ticksOf inForce downA countsA
       clockA reloadB downB clockB transmitterAsynchronous receiverAsynchronous receiverShifting holdsA receiverClock
       transmitterClock modeA modeB driveA driveD drivenWord levelsOf rose fell edges withEdges resetOf sensedAt sensed
-      withInputs countA countB sentBy heardBy worked readyOf finished clockOf putWrite committed processorOf plainOf
-      putRecord byteWaits
+      withInputs countA countB sentBy heardBy peripheralsClock readyOf finished clockOf putWrite committed processorOf
+      plainOf putRecord byteWaits
   in-gap count clock some = omega (arith, some)
 
   no-event : (count clock : ℕ) → 0 < count → eventIn (r6501q halt) (heldIn (heldWith count 0 clock)) ≡ false
@@ -197,7 +200,8 @@ module _ (halt : Halt) (memory times words : List ℕ) where
   unfolding doneIn withBit setWhere flipWhere dueCount ticksOf inForce downA countsA clockA reloadB downB clockB
       transmitterAsynchronous receiverAsynchronous receiverShifting holdsA receiverClock transmitterClock modeA modeB
       driveA driveD drivenWord levelsOf rose fell edges withEdges resetOf sensedAt sensed withInputs countA countB
-      sentBy heardBy worked readyOf finished clockOf putWrite committed processorOf plainOf putRecord byteWaits
+      sentBy heardBy peripheralsClock readyOf finished clockOf putWrite committed processorOf plainOf putRecord
+      byteWaits
   done-at count ifr clock = by-test (eqb count 0) refl
     where
       by-test : (t : Bool) → eqb count 0 ≡ t → doneIn (r6501q halt) (heldIn (heldWith count ifr clock)) ≡ true

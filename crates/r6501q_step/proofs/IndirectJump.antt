@@ -43,7 +43,8 @@ use Rattle.r6501q_state.specs.Pins.{sensedAt, sensed}
 use Rattle.r6501q_state.specs.State.{fresh}
 use Rattle.r6501q_registers.specs.Read.{portValue, registerValue, afterRead}
 use Rattle.r6501q_registers.specs.Write.{startB, startA, entering, keptFlag, keptFlags, writeOf}
-use Rattle.r6501q_clock.specs.Clock.{withInputs, countA, countB, sentBy, heardBy, worked, readyOf, finished, clockOf}
+use Rattle.r6501q_clock.specs.Clock.{withInputs, countA, countB, sentBy, heardBy, peripheralsClock, readyOf, finished}
+use Rattle.r6501q_clock.specs.Clock.{clockOf}
 use Rattle.r6501q_clock.specs.Commit.{putWrite, committed}
 use Rattle.r6501q_state.specs.declared.state.Levels.{Levels}
 use Rattle.r6501q_state.specs.declared.state.State.{State}
@@ -59,7 +60,7 @@ use Rattle.r6501q_gaps.specs.Events.{putsByte, eventOf}
 use Rattle.r6501q_step.specs.R6501q.{World, plain, chip}
 use Rattle.r6501q_step.proofs.Halted.{toldBy, clockIn}
 use lib.ListN.{replicate}
-use Rattle.bits.specs.Bits.{word}
+use Rattle.bits.specs.Bits.{word16}
 use Rattle.r6501q_step.proofs.Examples.{startWith, running}
 
 -- JMP (02FFh) at 0040h; the bytes at 0200h, at 02FFh, and at 0300h in the next page
@@ -70,7 +71,7 @@ jumpMemory first last next =
 
 pub indirect-jump : (first last next : ℕ)
     → plains (chip Nowhere) 1 (startWith (running 0) (jumpMemory first last next) [] [] [] []) .state .cpu
-    ≡ record { a = 0; x = 0; y = 0; sp = 0xFF; p = 0x04; pc = word first last; wait = 4; waiting = Nothing }
+    ≡ record { a = 0; x = 0; y = 0; sp = 0xFF; p = 0x04; pc = word16 first last; wait = 4; waiting = Nothing }
 unfolding withBit setWhere flipWhere dueCount ticksOf inForce downA countsA clockA lowerA upperA loadCounterA reloadB
     downB clockB lowerB upperB copyB loadCounterB turnToC transmitterAsynchronous receiverAsynchronous receiverShifting
     holdsA keepsTransmitter keepsReceiver parityBit frameBits sentBits pace startDetected withLevel receivedByte
@@ -79,10 +80,10 @@ unfolding withBit setWhere flipWhere dueCount ticksOf inForce downA countsA cloc
     line shiftClock transmitterWithSccr decodeOf packed unpacked pushed memoryByte displacement flagsOf modeA modeB
     withInput driveA driveD drivenWord levelsOf rose fell edges withEdges resetOf sensedAt sensed fresh portValue
     registerValue afterRead startB startA entering keptFlag keptFlags writeOf wholeInstruction irqDue resetStart
-    nmiStart irqStart startOf bytePut processorOf withInputs countA countB sentBy heardBy worked readyOf finished
-    clockOf halts putWrite committed plainOf plains putRecord located byteAfter peripheralsRead peripheralsWritten
-    valueRead performed inOrder completion storeAt modifyAccesses branchOn bitBranchAccesses jumpTo pushAccesses
-    pullAccesses returnAccesses interruptReturnAccesses entryAccesses breakAccesses callAccesses operationAccesses
-    withRead changedBy byteToStore branchTaken bitBranchTaken byteToPush withPulled withRegister withFlag
-    instructionAccesses resetAccesses interruptAccesses
+    nmiStart irqStart startOf bytePut processorOf withInputs countA countB sentBy heardBy peripheralsClock readyOf
+    finished clockOf halts putWrite committed plainOf plains putRecord located byteAfter peripheralsRead
+    peripheralsWritten valueRead performed inOrder completion storeAt modifyAccesses branchOn bitBranchAccesses jumpTo
+    pushAccesses pullAccesses returnAccesses interruptReturnAccesses entryAccesses breakAccesses callAccesses
+    operationAccesses withRead changedBy byteToStore branchTaken bitBranchTaken byteToPush withPulled withRegister
+    withFlag instructionAccesses resetAccesses interruptAccesses
 indirect-jump first last next = refl

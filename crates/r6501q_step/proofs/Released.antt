@@ -29,7 +29,8 @@ use Rattle.r6501q_cpu.specs.Processor.{resetStart, startOf, processorOf}
 use Rattle.r6501q_state.specs.Control.{modeA, modeB}
 use Rattle.r6501q_state.specs.Pins.{driveA, driveD, drivenWord, levelsOf, rose, fell, edges, withEdges, resetOf}
 use Rattle.r6501q_state.specs.Pins.{sensedAt, sensed}
-use Rattle.r6501q_clock.specs.Clock.{withInputs, countA, countB, sentBy, heardBy, worked, workedState, readyOf}
+use Rattle.r6501q_clock.specs.Clock.{withInputs, countA, countB, sentBy, heardBy, peripheralsClock}
+use Rattle.r6501q_clock.specs.Clock.{withPeripheralsClock, readyOf}
 use Rattle.r6501q_clock.specs.Clock.{finished, recorded, clockOf}
 use Rattle.r6501q_clock.specs.Copies.{withExternal}
 use Rattle.r6501q_clock.specs.declared.Clocked.{Clocked}
@@ -119,7 +120,7 @@ given-levels codes code e res =
 abbrev firstClock : Levels → List ℕ → Bool → Clocked
 firstClock l memory free =
     recorded (drivenWord freshPeripherals) free
-    (processorOf (workedState (highLevels .ports) (sensed (withExternal released 1 l))) memory)
+    (processorOf (withPeripheralsClock (highLevels .ports) (sensed (withExternal released 1 l))) memory)
 
 first-fresh : (codes memory : List ℕ) (free : Bool)
     → clockOf fresh codes memory free ≡ firstClock (withInputs freshLevels codes) memory free
@@ -139,9 +140,9 @@ clock-same codes codes' memory free e =
 -- it is done: the reset entry starts, or RES is low again, and no drive changes
 done-at : (halt : Halt) (ports : ℕ) (nmi res : Bool) (memory : List ℕ) (free : Bool)
     → isDone (clockOutcome halt memory (firstClock (levelsAt ports nmi res) memory free)) ≡ true
-unfolding sensed sensedAt levelsOf withEdges resetOf worked countA countB sentBy heardBy processorOf startOf resetStart
-    resetAccesses performed peripheralsRead drivenWord driveA driveD finished clockA countsA downA clockB downB setWhere
-    flipWhere modeA modeB inForce holdsA transmitterClock receiverClock ticksOf transmitterAsynchronous
+unfolding sensed sensedAt levelsOf withEdges resetOf peripheralsClock countA countB sentBy heardBy processorOf startOf
+    resetStart resetAccesses performed peripheralsRead drivenWord driveA driveD finished clockA countsA downA clockB
+    downB setWhere flipWhere modeA modeB inForce holdsA transmitterClock receiverClock ticksOf transmitterAsynchronous
     receiverAsynchronous receiverShifting byteWaits
 done-at halt ports nmi true memory free = refl
 done-at halt ports nmi false memory free = refl

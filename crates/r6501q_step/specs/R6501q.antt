@@ -8,7 +8,7 @@ use Rattle.leaps.specs.Leaps.{System}
 use Rattle.cpu_access.specs.declared.stack.Writes.{Writes}
 use Rattle.cpu_access.specs.declared.halt.Halt.{Halt}
 use Rattle.cpu_access.specs.Halt.{halts}
-use Rattle.leaps.specs.Chip.{Chip, ClockEnd, ClockOutcome, stopped, ended}
+use Rattle.leaps.specs.Chip.{ChipRules, ClockEnd, ClockOutcome, stopped, ended}
 use Rattle.leaps.specs.World as leaps
 use Rattle.leaps.specs.Lists.{Machine}
 use Rattle.leaps.specs.Calls as calls
@@ -47,7 +47,7 @@ clockOutcome halt memory (Stopped number) = stopped number
 clockOutcome halt memory (Done e) = ended (endOf halt memory e)
 
 -- by the halt address, or none, that "all calls of a list are given"
-abbrev pub r6501q : Halt → Chip State
+abbrev pub r6501q : Halt → ChipRules State
 r6501q halt = record {
   limits = r6501qLimits;
   wellFormed = wellFormed;

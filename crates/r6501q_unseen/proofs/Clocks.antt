@@ -16,12 +16,12 @@ use Rattle.r6501q_state.specs.declared.state.Peripherals.{Peripherals}
 use Rattle.r6501q_state.specs.Copies.{withCounterA, withCounterB}
 use Rattle.r6501q_state.specs.Control.{modeA}
 use Rattle.r6501q_state.specs.Pins.{rose, driveA, driveD, drivenWord}
-use Rattle.r6501q_clock.specs.Clock.{countA, countB, sentBy, heardBy, worked}
+use Rattle.r6501q_clock.specs.Clock.{countA, countB, sentBy, heardBy, peripheralsClock}
 use Rattle.r6501q_gaps.specs.Gaps.{clocksOf, runningA, runningB}
-use Rattle.r6501q_gaps.proofs.Quiet.{no-rise, above-zero, counted-b-quiet, worked-quiet}
+use Rattle.r6501q_gaps.proofs.Quiet.{no-rise, above-zero, counted-b-quiet, peripherals-quiet}
 use Rattle.r6501q_unseen.specs.Ticks.{underflowsIn, counterAfter, unseenSends, sentAfter, unseenListens}
 use Rattle.r6501q_unseen.specs.Ticks.{heardAfter, underflowUnseen, unseenTicks}
-use Rattle.r6501q_unseen.specs.Unseen.{workedFor, ticksNext, ticksIn, SameSeen, Unseen}
+use Rattle.r6501q_unseen.specs.Unseen.{peripheralsClocks, ticksNext, ticksIn, SameSeen, Unseen}
 use Rattle.r6501q_unseen.proofs.CounterA.{stepA, counter-more, counter-same, ticks-closed, ticks-fewer}
 use Rattle.r6501q_unseen.proofs.CounterA.{ticks-within}
 use Rattle.r6501q_unseen.proofs.Transmission.{send-tick, send-less, send-more, send-none, send-drive}
@@ -65,10 +65,10 @@ stepped-quiet false c e = refl
 
 quiet-clock : (ports : ℕ) (p : Peripherals) → ticksNext ports p ≡ false
     → (runningB (p .control) ≡ true → 0 < p .counterb .count)
-    → worked p ports ports ≡ quietStep ports p
+    → peripheralsClock p ports ports ≡ quietStep ports p
 unfolding ticksNext
 quiet-clock ports p e b =
-    worked-quiet p ports (above-zero (runningA (p .control) ports) (p .countera .count) e) b
+    peripherals-quiet p ports (above-zero (runningA (p .control) ports) (p .countera .count) e) b
     ∙ rw (stepped-quiet (runningA (p .control) ports) (p .countera) e)
 
 -- with a tick that cannot be seen
@@ -134,8 +134,8 @@ heard-tick ports p h =
     )
 
 tick-clock : (ticks ports : ℕ) (p : Peripherals) → ticksNext ports p ≡ true → Hidden (suc ticks) ports p
-    → (runningB (p .control) ≡ true → 0 < p .counterb .count) → worked p ports ports ≡ tickStep ports p
-unfolding worked
+    → (runningB (p .control) ≡ true → 0 < p .counterb .count) → peripheralsClock p ports ports ≡ tickStep ports p
+unfolding peripheralsClock
 tick-clock ticks ports p e h b =
     let a = withCounterA p (stepA (runningA (p .control) ports) (p .countera)) in
     let c = withCounterB a (passB (p .counterb) (runningB (p .control)) (clocksOf 1)) in
@@ -213,15 +213,15 @@ hidden-less ticks ports p h = record {
 }
 
 -- the closed form of n clocks whose ticks cannot be seen, and in which B does not underflow
-pub worked-closed : (n ports : ℕ) (p : Peripherals) → Hidden (ticksIn n ports p) ports p
+pub peripherals-closed : (n ports : ℕ) (p : Peripherals) → Hidden (ticksIn n ports p) ports p
     → (runningB (p .control) ≡ true → n ≤ p .counterb .count)
-    → workedFor n ports p ≡ afterClocks n (ticksIn n ports p) ports p
-unfolding workedFor ticksIn
-worked-closed zero ports p = λ h b. sym (after-none ports p)
-worked-closed (suc n) ports p = by-test (λ q. worked-closed n ports q) (ticksNext ports p) refl
+    → peripheralsClocks n ports p ≡ afterClocks n (ticksIn n ports p) ports p
+unfolding peripheralsClocks ticksIn
+peripherals-closed zero ports p = λ h b. sym (after-none ports p)
+peripherals-closed (suc n) ports p = by-test (λ q. peripherals-closed n ports q) (ticksNext ports p) refl
   where
     Closed : Type 0
-    Closed = workedFor (suc n) ports p ≡ afterClocks (suc n) (ticksIn (suc n) ports p) ports p
+    Closed = peripheralsClocks (suc n) ports p ≡ afterClocks (suc n) (ticksIn (suc n) ports p) ports p
 
     above-b : (runningB (p .control) ≡ true → suc n ≤ p .counterb .count) → runningB (p .control) ≡ true
         → 0 < p .counterb .count
@@ -233,28 +233,28 @@ worked-closed (suc n) ports p = by-test (λ q. worked-closed n ports q) (ticksNe
 
     by-test : ((q : Peripherals) → Hidden (ticksIn n ports q) ports q
         → (runningB (q .control) ≡ true → n ≤ q .counterb .count)
-        → workedFor n ports q ≡ afterClocks n (ticksIn n ports q) ports q)
+        → peripheralsClocks n ports q ≡ afterClocks n (ticksIn n ports q) ports q)
         → (t : Bool) → ticksNext ports p ≡ t → Hidden (ticksIn (suc n) ports p) ports p
         → (runningB (p .control) ≡ true → suc n ≤ p .counterb .count) → Closed
     by-test step false e h b =
-        let w : worked p ports ports ≡ quietStep ports p = quiet-clock ports p e (above-b b) in
+        let w : peripheralsClock p ports ports ≡ quietStep ports p = quiet-clock ports p e (above-b b) in
         let ticks : ticksIn (suc n) ports p ≡ ticksIn n ports (quietStep ports p) = rw (e, w) (zero-add _) in
         let fewer : Hidden (ticksIn n ports (quietStep ports p)) ports p = rw ticks at h in
         let rest : Hidden (ticksIn n ports (quietStep ports p)) ports (quietStep ports p) =
         record { flag = fewer .flag; sends = fewer .sends; listens = fewer .listens } in
-        ap (workedFor n ports) w
+        ap (peripheralsClocks n ports) w
         ∙ step (quietStep ports p) rest (left-b b)
         ∙ after-quiet n (ticksIn n ports (quietStep ports p)) ports p
         ∙ ap (λ (t : ℕ). afterClocks (suc n) t ports p) (sym ticks)
     by-test step true e h b =
-        let fewer : Hidden (suc (ticksIn n ports (worked p ports ports))) ports p =
-        let d : ticksIn (suc n) ports p ≡ suc (ticksIn n ports (worked p ports ports)) = rw e (omega arith) in
+        let fewer : Hidden (suc (ticksIn n ports (peripheralsClock p ports ports))) ports p =
+        let d : ticksIn (suc n) ports p ≡ suc (ticksIn n ports (peripheralsClock p ports ports)) = rw e (omega arith) in
         rw d at h in
-        let w : worked p ports ports ≡ tickStep ports p = tick-clock _ ports p e fewer (above-b b) in
+        let w : peripheralsClock p ports ports ≡ tickStep ports p = tick-clock _ ports p e fewer (above-b b) in
         let ticks : ticksIn (suc n) ports p ≡ suc (ticksIn n ports (tickStep ports p)) = rw (e, w) (omega arith) in
         let here : Hidden (suc (ticksIn n ports (tickStep ports p))) ports p = rw ticks at h in
         let rest : Hidden (ticksIn n ports (tickStep ports p)) ports (tickStep ports p) = hidden-less _ ports p here in
-        ap (workedFor n ports) w
+        ap (peripheralsClocks n ports) w
         ∙ step (tickStep ports p) rest (left-b b)
         ∙ after-tick n (ticksIn n ports (tickStep ports p)) ports p (let k = here .listens in omega arith)
         ∙ ap (λ (t : ℕ). afterClocks (suc n) t ports p) (sym ticks)
@@ -274,11 +274,11 @@ pub unseen : (n ports : ℕ) (p : Peripherals) → ticksIn n ports p ≤ unseenT
     → (runningB (p .control) ≡ true → n ≤ p .counterb .count) → Unseen n ports p
 unseen n ports p t b = record { same = same; countB = b; ticks = t }
   where
-    same : (k : ℕ) → k ≤ n → SameSeen p (workedFor k ports p)
+    same : (k : ℕ) → k ≤ n → SameSeen p (peripheralsClocks k ports p)
     same k h =
         let fewer : Hidden (ticksIn k ports p) ports p =
         hidden (ticksIn k ports p) ports p (let f = ticks-fewer k n ports p h in omega arith) in
-        let closed = worked-closed k ports p fewer (λ r. let m = b r in omega arith) in
+        let closed = peripherals-closed k ports p fewer (λ r. let m = b r in omega arith) in
         rw closed (seen-same k (ticksIn k ports p) ports p fewer)
 
 -- fewer clocks are unseen too
@@ -294,8 +294,8 @@ pub hidden-in : (n ports : ℕ) (p : Peripherals) → Unseen n ports p → Hidde
 hidden-in n ports p u = hidden (ticksIn n ports p) ports p (u .ticks)
 
 pub unseen-closed : (n ports : ℕ) (p : Peripherals) → Unseen n ports p
-    → workedFor n ports p ≡ afterClocks n (ticksIn n ports p) ports p
-unseen-closed n ports p u = worked-closed n ports p (hidden-in n ports p u) (u .countB)
+    → peripheralsClocks n ports p ≡ afterClocks n (ticksIn n ports p) ports p
+unseen-closed n ports p u = peripherals-closed n ports p (hidden-in n ports p u) (u .countB)
 
 -- the clocks before the tick that follows those which cannot be seen, and before B's underflow
 pub unseen-before : (n ports : ℕ) (p : Peripherals)

@@ -12,11 +12,11 @@ use Rattle.counters.specs.declared.a.CounterA.{CounterA}
 use Rattle.counters.specs.declared.a.CountedA.{CountedA}
 use Rattle.counters.specs.Counters.{clockA, countsA, downA, runsA, atA, countedA}
 use Rattle.r6501q_state.specs.declared.state.Peripherals.{Peripherals}
-use Rattle.r6501q_clock.specs.Clock.{countA, countB, sentBy, heardBy, worked}
+use Rattle.r6501q_clock.specs.Clock.{countA, countB, sentBy, heardBy, peripheralsClock}
 use Rattle.r6501q_gaps.specs.Gaps.{runningA}
 use Rattle.r6501q_gaps.proofs.Quiet.{no-rise}
 use Rattle.r6501q_unseen.specs.Ticks.{underflowsIn, countAfter, counterAfter}
-use Rattle.r6501q_unseen.specs.Unseen.{workedFor, ticksNext, ticksIn}
+use Rattle.r6501q_unseen.specs.Unseen.{peripheralsClocks, ticksNext, ticksIn}
 
 -- ---- a reload begins a period
 
@@ -98,8 +98,9 @@ next-count n c = by-test (eqb (c .count) 0) refl
 abbrev pub stepA : Bool → CounterA → CounterA
 stepA running c = cond running (downA c .counter) c
 
-pub stepped-a : (p : Peripherals) (x : ℕ) → worked p x x .countera ≡ stepA (runningA (p .control) x) (p .countera)
-unfolding worked countA countB sentBy heardBy clockA runningA runsA
+pub stepped-a : (p : Peripherals) (x : ℕ) → peripheralsClock p x x .countera
+    ≡ stepA (runningA (p .control) x) (p .countera)
+unfolding peripheralsClock countA countB sentBy heardBy clockA runningA runsA
 stepped-a p x = rw (no-rise 4 x) (cond-counter (runningA (p .control) x) (p .countera) (downA (p .countera)))
   where
     cond-counter : (t : Bool) (c : CounterA) (d : CountedA)
@@ -107,8 +108,8 @@ stepped-a p x = rw (no-rise 4 x) (cond-counter (runningA (p .control) x) (p .cou
     cond-counter true c d = refl
     cond-counter false c d = refl
 
-pub stepped-running : (p : Peripherals) (x : ℕ) → runningA (worked p x x .control) x ≡ runningA (p .control) x
-unfolding worked countA countB sentBy heardBy runningA
+pub stepped-running : (p : Peripherals) (x : ℕ) → runningA (peripheralsClock p x x .control) x ≡ runningA (p .control) x
+unfolding peripheralsClock countA countB sentBy heardBy runningA
 stepped-running p x = refl
 
 down-latch : (c : CounterA) → downA c .counter .latch ≡ c .latch
@@ -145,7 +146,7 @@ pub ticks-closed : (n ports : ℕ) (p : Peripherals)
 unfolding ticksIn ticksNext
 ticks-closed zero ports p = sym (none-in-none (p .countera) (runningA (p .control) ports))
 ticks-closed (suc n) ports p =
-    rw (ticks-closed n ports (worked p ports ports), stepped-running p ports, stepped-a p ports)
+    rw (ticks-closed n ports (peripheralsClock p ports ports), stepped-running p ports, stepped-a p ports)
     (by-test (runningA (p .control) ports))
   where
     by-test : (t : Bool)
@@ -160,22 +161,22 @@ unfolding ticksIn
 ticks-fewer zero n ports p h = omega arith
 ticks-fewer (suc k) zero ports p h = absurd (omega arith)
 ticks-fewer (suc k) (suc n) ports p h =
-    let less = ticks-fewer k n ports (worked p ports ports) (omega arith) in omega arith
+    let less = ticks-fewer k n ports (peripheralsClock p ports ports) (omega arith) in omega arith
 
 -- the counter and whether it runs
 pub counter-closed : (n ports : ℕ) (p : Peripherals)
-    → workedFor n ports p .countera ≡ counterAfter n (runningA (p .control) ports) (p .countera)
-unfolding workedFor
+    → peripheralsClocks n ports p .countera ≡ counterAfter n (runningA (p .control) ports) (p .countera)
+unfolding peripheralsClocks
 counter-closed zero ports p = sym (counter-same (runningA (p .control) ports) (p .countera))
 counter-closed (suc n) ports p =
-    counter-closed n ports (worked p ports ports)
+    counter-closed n ports (peripheralsClock p ports ports)
     ∙ rw (stepped-running p ports, stepped-a p ports) (counter-more n (runningA (p .control) ports) (p .countera))
 
 pub running-closed : (n ports : ℕ) (p : Peripherals)
-    → runningA (workedFor n ports p .control) ports ≡ runningA (p .control) ports
-unfolding workedFor
+    → runningA (peripheralsClocks n ports p .control) ports ≡ runningA (p .control) ports
+unfolding peripheralsClocks
 running-closed zero ports p = refl
-running-closed (suc n) ports p = running-closed n ports (worked p ports ports) ∙ stepped-running p ports
+running-closed (suc n) ports p = running-closed n ports (peripheralsClock p ports ports) ∙ stepped-running p ports
 
 -- clocks that end before an underflow have only those before it
 pub ticks-within : (n ticks : ℕ) (c : CounterA) → n ≤ c .count + ticks * (c .latch + 1) → underflowsIn n c ≤ ticks

@@ -13,23 +13,24 @@ use Rattle.counters.specs.declared.b.CounterB.{CounterB}
 use Rattle.counters.specs.Counters.{passA, passB}
 use Rattle.counters.proofs.Gaps.{pass-add-a, pass-add-b}
 use Rattle.r6501q_state.specs.declared.state.Peripherals.{Peripherals}
-use Rattle.r6501q_clock.specs.Clock.{countA, sentBy, heardBy, worked}
+use Rattle.r6501q_clock.specs.Clock.{countA, sentBy, heardBy, peripheralsClock}
 use Rattle.r6501q_gaps.specs.Gaps.{clocksOf, runningA, runningB, passCounters}
-use Rattle.r6501q_gaps.proofs.Quiet.{not-at-zero, counted-b-quiet, worked-quiet}
+use Rattle.r6501q_gaps.proofs.Quiet.{not-at-zero, counted-b-quiet, peripherals-quiet}
 use Rattle.r6501q_gaps.proofs.Passing.{zero-a, zero-b}
-use Rattle.r6501q_unseen.proofs.TickClocks.{worked-add, ticks-add}
-use Rattle.r6501q_unseen.specs.Unseen.{workedFor, ticksNext, ticksIn, Unseen}
+use Rattle.r6501q_unseen.proofs.TickClocks.{peripherals-add, ticks-add}
+use Rattle.r6501q_unseen.specs.Unseen.{peripheralsClocks, ticksNext, ticksIn, Unseen}
 
 -- ---- one clock more
 
-pub worked-one : (n ports : ℕ) (p : Peripherals) → workedFor (n + 1) ports p ≡ worked (workedFor n ports p) ports ports
-unfolding workedFor
-worked-one n ports p = worked-add n 1 ports p
+pub peripherals-one : (n ports : ℕ) (p : Peripherals) → peripheralsClocks (n + 1) ports p
+    ≡ peripheralsClock (peripheralsClocks n ports p) ports ports
+unfolding peripheralsClocks
+peripherals-one n ports p = peripherals-add n 1 ports p
 
 pub ticks-one : (n ports : ℕ) (p : Peripherals)
-    → ticksIn (n + 1) ports p ≡ ticksIn n ports p + digit (ticksNext ports (workedFor n ports p))
-unfolding workedFor ticksIn
-ticks-one n ports p = ticks-add n 1 ports p ∙ rw (add-zero (digit (ticksNext ports (workedFor n ports p))))
+    → ticksIn (n + 1) ports p ≡ ticksIn n ports p + digit (ticksNext ports (peripheralsClocks n ports p))
+unfolding peripheralsClocks ticksIn
+ticks-one n ports p = ticks-add n 1 ports p ∙ rw (add-zero (digit (ticksNext ports (peripheralsClocks n ports p))))
 
 -- ---- the count of a counter that runs, with clocks passed
 
@@ -47,37 +48,38 @@ passed-b c running n e = rw e
 
 -- counter B has a gap of one clock passed, whatever counter A does
 counter-b-next : (p : Peripherals) (ports : ℕ) → (runningB (p .control) ≡ true → 0 < p .counterb .count)
-    → worked p ports ports .counterb ≡ passB (p .counterb) (runningB (p .control)) (clocksOf 1)
-unfolding worked countA sentBy heardBy runningB
+    → peripheralsClock p ports ports .counterb ≡ passB (p .counterb) (runningB (p .control)) (clocksOf 1)
+unfolding peripheralsClock countA sentBy heardBy runningB
 counter-b-next p ports h =
     ap (λ (q : Peripherals). q .counterb) (counted-b-quiet (countA p ports ports .peripherals) ports h)
 
 module _ (n ports : ℕ) (p : Peripherals) (u : Unseen n ports p) where
   -- counter B has the clocks passed
   pub unseen-counter-b : (k : ℕ) → k ≤ n
-      → workedFor k ports p .counterb ≡ passB (p .counterb) (runningB (p .control)) (clocksOf k)
-  unfolding workedFor
+      → peripheralsClocks k ports p .counterb ≡ passB (p .counterb) (runningB (p .control)) (clocksOf k)
+  unfolding peripheralsClocks
   unseen-counter-b zero h = sym (zero-b (p .counterb) (runningB (p .control)))
   unseen-counter-b (suc k) h =
-      let here = workedFor k ports p in
+      let here = peripheralsClocks k ports p in
       let same = u .same k (omega arith) .control in
       let so-far = unseen-counter-b k (omega arith) in
       let count : runningB (p .control) ≡ true → 0 < here .counterb .count =
       λ e. omega (arith, u .countB e, ap (λ (c : CounterB). c .count) so-far, passed-b (p .counterb) _ k e) in
-      ap (λ (q : Peripherals). q .counterb) (rw (add-one k) at (worked-one k ports p))
+      ap (λ (q : Peripherals). q .counterb) (rw (add-one k) at (peripherals-one k ports p))
       ∙ counter-b-next here ports (λ e. count (ap runningB (sym same) ∙ e))
       ∙ rw (so-far, same, pass-add-b (p .counterb) (runningB (p .control)) k 1, add-one k)
 
   module _ (k : ℕ) (h : k ≤ n) where
     -- the modes stay, so a counter that runs goes on
-    pub unseen-running-a : runningA (workedFor k ports p .control) ports ≡ runningA (p .control) ports
+    pub unseen-running-a : runningA (peripheralsClocks k ports p .control) ports ≡ runningA (p .control) ports
     unseen-running-a = rw (u .same k h .control)
 
-    pub unseen-running-b : runningB (workedFor k ports p .control) ≡ runningB (p .control)
+    pub unseen-running-b : runningB (peripheralsClocks k ports p .control) ≡ runningB (p .control)
     unseen-running-b = rw (u .same k h .control)
 
     -- counter B does not underflow in the clocks ahead
-    pub unseen-left-b : runningB (workedFor k ports p .control) ≡ true → n - k ≤ workedFor k ports p .counterb .count
+    pub unseen-left-b : runningB (peripheralsClocks k ports p .control) ≡ true
+        → n - k ≤ peripheralsClocks k ports p .counterb .count
     unseen-left-b e =
         let runs = sym unseen-running-b ∙ e in
         omega (
@@ -101,15 +103,17 @@ no-tick ports p h = not-at-zero (runningA (p .control) ports) (p .countera .coun
 
 -- ---- clocks without an underflow
 
-pub worked-passes : (n ports : ℕ) (p : Peripherals) → (runningA (p .control) ports ≡ true → n ≤ p .countera .count)
-    → (runningB (p .control) ≡ true → n ≤ p .counterb .count) → workedFor n ports p ≡ passCounters p ports (clocksOf n)
-unfolding workedFor
-worked-passes zero ports p a b =
+pub peripherals-pass : (n ports : ℕ) (p : Peripherals) → (runningA (p .control) ports ≡ true → n ≤ p .countera .count)
+    → (runningB (p .control) ≡ true → n ≤ p .counterb .count) → peripheralsClocks n ports p
+    ≡ passCounters p ports (clocksOf n)
+unfolding peripheralsClocks
+peripherals-pass zero ports p a b =
     rw (zero-a (p .countera) (runningA (p .control) ports), zero-b (p .counterb) (runningB (p .control)))
-worked-passes (suc n) ports p a b =
+peripherals-pass (suc n) ports p a b =
     let one : 1 + n ≡ suc n = omega arith in
-    rw (worked-quiet p ports (λ e. omega (arith, a e)) (λ e. omega (arith, b e)))
-    (worked-passes n ports (passCounters p ports (clocksOf 1)) (λ e. omega (arith, a e, passed-a (p .countera) _ 1 e))
+    rw (peripherals-quiet p ports (λ e. omega (arith, a e)) (λ e. omega (arith, b e)))
+    (peripherals-pass n ports (passCounters p ports (clocksOf 1))
+    (λ e. omega (arith, a e, passed-a (p .countera) _ 1 e))
     (λ e. omega (arith, b e, passed-b (p .counterb) _ 1 e))
     ∙ rw (
       pass-add-a (p .countera) (runningA (p .control) ports) 1 n,
@@ -123,7 +127,7 @@ unfolding ticksIn
 none-ticks zero ports p a b = refl
 none-ticks (suc n) ports p a b =
     let first = no-tick ports p (λ e. omega (arith, a e)) in
-    rw (first, worked-quiet p ports (λ e. omega (arith, a e)) (λ e. omega (arith, b e)), zero-add)
+    rw (first, peripherals-quiet p ports (λ e. omega (arith, a e)) (λ e. omega (arith, b e)), zero-add)
     (none-ticks n ports (passCounters p ports (clocksOf 1)) (λ e. omega (arith, a e, passed-a (p .countera) _ 1 e))
     (λ e. omega (arith, b e, passed-b (p .counterb) _ 1 e)))
 
@@ -133,7 +137,7 @@ pub first-tick : (ports : ℕ) (p : Peripherals) → runningA (p .control) ports
     → ticksIn (p .countera .count + 1) ports p ≡ 1
 first-tick ports p a b =
     let n = p .countera .count in
-    let passed = worked-passes n ports p (λ e. omega arith) b in
+    let passed = peripherals-pass n ports p (λ e. omega arith) b in
     let left : passCounters p ports (clocksOf n) .countera .count ≡ 0 = omega (arith, passed-a (p .countera) _ n a) in
     ticks-one n ports p
     ∙ rw (none-ticks n ports p (λ e. omega arith) b, passed, at-ticks ports (passCounters p ports (clocksOf n)) a left)
@@ -142,4 +146,5 @@ first-tick ports p a b =
 pub ticks-most : (n ports : ℕ) (p : Peripherals) → ticksIn n ports p ≤ n
 unfolding ticksIn
 ticks-most zero ports p = omega arith
-ticks-most (suc n) ports p = omega (arith, digit-le (ticksNext ports p), ticks-most n ports (worked p ports ports))
+ticks-most (suc n) ports p =
+    omega (arith, digit-le (ticksNext ports p), ticks-most n ports (peripheralsClock p ports ports))

@@ -10,10 +10,10 @@ use Rattle.bits.specs.Bits.{digit}
 use Rattle.counters.specs.declared.a.CounterA.{CounterA}
 use Rattle.counters.specs.Counters.{downA}
 use Rattle.r6501q_state.specs.declared.state.Peripherals.{Peripherals}
-use Rattle.r6501q_clock.specs.Clock.{worked}
+use Rattle.r6501q_clock.specs.Clock.{peripheralsClock}
 use Rattle.r6501q_gaps.specs.Gaps.{runningA}
 use Rattle.r6501q_unseen.specs.declared.Ticking.{Ticking}
-use Rattle.r6501q_unseen.specs.Unseen.{workedFor, ticksNext, ticksIn, onTick, tickingOf}
+use Rattle.r6501q_unseen.specs.Unseen.{peripheralsClocks, ticksNext, ticksIn, onTick, tickingOf}
 use Rattle.r6501q_unseen.proofs.CounterA.{stepped-a, stepped-running, running-closed}
 
 abbrev tickingA : CounterA → Ticking
@@ -79,44 +79,45 @@ ticking-a ports p e = rw e
 
 -- where counter A runs, `ticking_of` has every tick
 pub on-tick-runs : (g ports : ℕ) (p : Peripherals) → runningA (p .control) ports ≡ true
-    → ticksNext ports (workedFor g ports p) ≡ onTick (tickingOf ports p) (g + 1)
-unfolding workedFor ticksNext
+    → ticksNext ports (peripheralsClocks g ports p) ≡ onTick (tickingOf ports p) (g + 1)
+unfolding peripheralsClocks ticksNext
 on-tick-runs zero ports p e = rw (e, ticking-a ports p e) (on-first (p .countera))
 on-tick-runs (suc g) ports p e =
-    let runs : runningA (worked p ports ports .control) ports ≡ true = stepped-running p ports ∙ e in
-    on-tick-runs g ports (worked p ports ports) runs
-    ∙ rw (ticking-a ports (worked p ports ports) runs, ticking-a ports p e, stepped-a p ports, e)
+    let runs : runningA (peripheralsClock p ports ports .control) ports ≡ true = stepped-running p ports ∙ e in
+    on-tick-runs g ports (peripheralsClock p ports ports) runs
+    ∙ rw (ticking-a ports (peripheralsClock p ports ports) runs, ticking-a ports p e, stepped-a p ports, e)
     (on-next g (p .countera))
 
 -- and where it does not, none
 pub on-tick-none : (g ports : ℕ) (p : Peripherals) → runningA (p .control) ports ≡ false → g + 1 < 4294967295
-    → ticksNext ports (workedFor g ports p) ≡ onTick (tickingOf ports p) (g + 1)
+    → ticksNext ports (peripheralsClocks g ports p) ≡ onTick (tickingOf ports p) (g + 1)
 unfolding ticksNext onTick tickingOf
 on-tick-none g ports p e h = rw (running-closed g ports p, e, lt-leb 4294967295 (g + 1) h)
 
 -- the clocks with a tick, of clocks passed together
 pub on-tick : (g ports : ℕ) (p : Peripherals) → g + 1 < 4294967295
-    → ticksNext ports (workedFor g ports p) ≡ onTick (tickingOf ports p) (g + 1)
+    → ticksNext ports (peripheralsClocks g ports p) ≡ onTick (tickingOf ports p) (g + 1)
 on-tick g ports p h = by-test (runningA (p .control) ports) refl
   where
     by-test : (t : Bool) → runningA (p .control) ports ≡ t
-        → ticksNext ports (workedFor g ports p) ≡ onTick (tickingOf ports p) (g + 1)
+        → ticksNext ports (peripheralsClocks g ports p) ≡ onTick (tickingOf ports p) (g + 1)
     by-test true e = on-tick-runs g ports p e
     by-test false e = on-tick-none g ports p e h
 
 -- ---- sums
 
-pub worked-add : (m n ports : ℕ) (p : Peripherals) → workedFor (m + n) ports p ≡ workedFor n ports (workedFor m ports p)
-unfolding workedFor
-worked-add zero n ports p = rw (zero-add n)
-worked-add (suc m) n ports p =
-    let e : suc m + n ≡ suc (m + n) = omega arith in rw e (worked-add m n ports (worked p ports ports))
+pub peripherals-add : (m n ports : ℕ) (p : Peripherals) → peripheralsClocks (m + n) ports p
+    ≡ peripheralsClocks n ports (peripheralsClocks m ports p)
+unfolding peripheralsClocks
+peripherals-add zero n ports p = rw (zero-add n)
+peripherals-add (suc m) n ports p =
+    let e : suc m + n ≡ suc (m + n) = omega arith in rw e (peripherals-add m n ports (peripheralsClock p ports ports))
 
 pub ticks-add : (m n ports : ℕ) (p : Peripherals)
-    → ticksIn (m + n) ports p ≡ ticksIn m ports p + ticksIn n ports (workedFor m ports p)
-unfolding workedFor ticksIn
+    → ticksIn (m + n) ports p ≡ ticksIn m ports p + ticksIn n ports (peripheralsClocks m ports p)
+unfolding peripheralsClocks ticksIn
 ticks-add zero n ports p = rw (zero-add n) (sym (zero-add _))
 ticks-add (suc m) n ports p =
     let e : suc m + n ≡ suc (m + n) = omega arith in
-    let rest = ticks-add m n ports (worked p ports ports) in
+    let rest = ticks-add m n ports (peripheralsClock p ports ports) in
     rw e (omega arith)

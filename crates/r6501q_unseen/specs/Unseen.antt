@@ -7,15 +7,15 @@ use lib.Dec.{leb, eqb}
 use Rattle.bits.specs.Bits.{digit}
 use Rattle.r6501q_state.specs.declared.state.Peripherals.{Peripherals}
 use Rattle.r6501q_state.specs.Pins.{drivenWord}
-use Rattle.r6501q_clock.specs.Clock.{worked}
+use Rattle.r6501q_clock.specs.Clock.{peripheralsClock}
 use Rattle.r6501q_gaps.specs.Gaps.{runningA, runningB}
 use Rattle.r6501q_unseen.specs.declared.Ticking.{Ticking}
 use Rattle.r6501q_unseen.specs.Ticks.{unseenTicks}
 
 -- steps 2 and 3 of n clocks, one after the other
-unfoldable pub workedFor : ℕ → ℕ → Peripherals → Peripherals
-workedFor zero ports p = p
-workedFor (suc n) ports p = workedFor n ports (worked p ports ports)
+unfoldable pub peripheralsClocks : ℕ → ℕ → Peripherals → Peripherals
+peripheralsClocks zero ports p = p
+peripheralsClocks (suc n) ports p = peripheralsClocks n ports (peripheralsClock p ports ports)
 
 -- the next clock has a tick: counter A counts, down from 0000h
 unfoldable pub ticksNext : ℕ → Peripherals → Bool
@@ -24,7 +24,7 @@ ticksNext ports p = runningA (p .control) ports && eqb (p .countera .count) 0
 -- how many of the next n clocks have one
 unfoldable pub ticksIn : ℕ → ℕ → Peripherals → ℕ
 ticksIn zero ports p = 0
-ticksIn (suc n) ports p = digit (ticksNext ports p) + ticksIn n ports (worked p ports ports)
+ticksIn (suc n) ports p = digit (ticksNext ports p) + ticksIn n ports (peripheralsClock p ports ports)
 
 -- all that the CPU, the pins and the records can see, but for the two counters' counts
 pub record SameSeen (p q : Peripherals) : Type 0 where
@@ -36,7 +36,7 @@ pub record SameSeen (p q : Peripherals) : Type 0 where
 -- of n clocks nothing is seen, and counter B does not underflow in them; nor have they more ticks than have a closed
 -- form
 pub record Unseen (n ports : ℕ) (p : Peripherals) : Type 0 where
-  pub same : (k : ℕ) → k ≤ n → SameSeen p (workedFor k ports p)
+  pub same : (k : ℕ) → k ≤ n → SameSeen p (peripheralsClocks k ports p)
   pub countB : runningB (p .control) ≡ true → n ≤ p .counterb .count
   pub ticks : ticksIn n ports p ≤ unseenTicks ports p
 

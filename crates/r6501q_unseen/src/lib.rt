@@ -9,7 +9,7 @@ ghost use mathlib.Core.Bool.{true};
 ghost use Prim.Native.Nat.{_≤_, _<_};
 ghost use Rattle.r6501q_gaps.specs.Gaps.{runningB};
 ghost use Rattle.r6501q_unseen.specs.Ticks.{mostTicks, underflowUnseen, unseenTicks};
-ghost use Rattle.r6501q_unseen.specs.Unseen.{workedFor, ticksIn, Unseen, tickingOf, onTick};
+ghost use Rattle.r6501q_unseen.specs.Unseen.{peripheralsClocks, ticksIn, Unseen, tickingOf, onTick};
 use counter::clocks_before;
 use counter::counter_after;
 use counter::underflows_in;
@@ -95,9 +95,9 @@ pub fn ticks_in(p: Peripherals, ports: u32, n: Clocks) -> u32
 }
 
 // Steps 2 and 3 of unseen clocks, all at once.
-pub fn work_unseen(mut p: Peripherals, ports: u32, n: Clocks) -> Peripherals
+pub fn pass_unseen(mut p: Peripherals, ports: u32, n: Clocks) -> Peripherals
     requires { ⌜ Unseen (n .0) ports p ⌝ }
-    ensures { λ r. ⌜ r ≡ workedFor (n .0) ports p ⌝ }
+    ensures { λ r. ⌜ r ≡ peripheralsClocks (n .0) ports p ⌝ }
 {
     let sccr = p.control.sccr;
     let ticks = ticks_in(p, ports, n);

@@ -31,8 +31,8 @@ use Rattle.record_text.specs.Lines.{
   recordLine,
   recordLines,
   endLine,
-  Written,
-  written,
+  Filled,
+  filled,
   putOf,
 }
 
@@ -44,39 +44,39 @@ sets-append (x ∷ xs) ys l i =
     let e : i + suc (length xs) ≡ suc i + length xs = omega arith in
     rw e (sets-append xs ys (set l i x) (suc i))
 
-pub put-append : (xs ys : List ℕ) (w : Written) → putOf ys (putOf xs w) ≡ putOf (xs ++ ys) w
+pub put-append : (xs ys : List ℕ) (w : Filled) → putOf ys (putOf xs w) ≡ putOf (xs ++ ys) w
 put-append xs ys w =
     let e : w .place + length xs + length ys ≡ w .place + length (xs ++ ys) = omega (arith, length-append xs ys) in
     rw (e, sets-append xs ys (w .text) (w .place))
 
-put-none : (w : Written) → putOf [] w ≡ w
+put-none : (w : Filled) → putOf [] w ≡ w
 put-none w = rw (add-zero (w .place))
 
 -- four in a row, and five
-pub put-four : (a b c d : List ℕ) (w : Written)
+pub put-four : (a b c d : List ℕ) (w : Filled)
     → putOf d (putOf c (putOf b (putOf a w))) ≡ putOf (a ++ (b ++ (c ++ d))) w
 put-four a b c d w =
     put-append c d (putOf b (putOf a w)) ∙ put-append b (c ++ d) (putOf a w) ∙ put-append a (b ++ (c ++ d)) w
 
-pub put-five : (a b c d e : List ℕ) (w : Written)
+pub put-five : (a b c d e : List ℕ) (w : Filled)
     → putOf e (putOf d (putOf c (putOf b (putOf a w)))) ≡ putOf (a ++ (b ++ (c ++ (d ++ e)))) w
 put-five a b c d e w = put-append d e (putOf c (putOf b (putOf a w))) ∙ put-four a b c (d ++ e) w
 
 -- where a put leaves off, and the text's length
-pub place-of : {v w : Written} → v ≡ w → v .place ≡ w .place
-place-of e = ap (λ (u : Written). u .place) e
+pub place-of : {v w : Filled} → v ≡ w → v .place ≡ w .place
+place-of e = ap (λ (u : Filled). u .place) e
 
-put-kept : {v : Written} (characters : List ℕ) (w : Written) → v ≡ putOf characters w
+put-kept : {v : Filled} (characters : List ℕ) (w : Filled) → v ≡ putOf characters w
     → length (v .text) ≡ length (w .text)
-put-kept characters w e = ap (λ (u : Written). length (u .text)) e ∙ length-sets (w .text) (w .place) characters
+put-kept characters w e = ap (λ (u : Filled). length (u .text)) e ∙ length-sets (w .text) (w .place) characters
 
 -- what is put from the start of a text on can be read off it
-pub put-taken : (characters text₀ text : List ℕ) (place : ℕ) → written place text ≡ putOf characters (written 0 text₀)
+pub put-taken : (characters text₀ text : List ℕ) (place : ℕ) → filled place text ≡ putOf characters (filled 0 text₀)
     → length characters ≤ length text₀
     → take place text ≡ characters
 put-taken characters text₀ text place e h =
     let n : place ≡ length characters = omega (arith, place-of e) in
-    rw (n, ap (λ (u : Written). u .text) e, sets-eq characters text₀ 0 (omega arith))
+    rw (n, ap (λ (u : Filled). u .text) e, sets-eq characters text₀ 0 (omega arith))
     (take-append-seam characters (drop (0 + length characters) text₀))
 
 -- a store before all the others
@@ -95,7 +95,7 @@ put-next cs l at i h =
     rw (add-one i, take-suc cs i 0 h, ← sets-append (take i cs) (getD cs i 0 ∷ []) l at, n)
 
 pub put-all : (cs l text : List ℕ) (at i : ℕ) → length cs ≤ i → i ≤ length cs → text ≡ sets l at (take i cs)
-    → written (at + i) text ≡ putOf cs (written at l)
+    → filled (at + i) text ≡ putOf cs (filled at l)
 put-all cs l text at i h h' e =
     let n : i ≡ length cs = omega arith in
     rw (e, n, take-length cs)
@@ -142,7 +142,7 @@ module _ (base count n at : ℕ) (text₀ : List ℕ) where
       rw e (spelling-next (left - 1) rest text (rw one at s))
 
   pub spelled : (left rest : ℕ) (text : List ℕ) → left ≤ 0 → Spelling base count n at text₀ left rest text
-      → written (at + count) text ≡ putOf (digitsOf base count n) (written at text₀)
+      → filled (at + count) text ≡ putOf (digitsOf base count n) (filled at text₀)
   unfolding digitsOf
   spelled left rest text h s =
       let none : left ≡ 0 = omega arith in
@@ -223,8 +223,8 @@ lines-length (clock ∷ times) (word ∷ words) =
 
 -- the loop over the records: those before i are put
 pub record Listing (times words : List ℕ) (at : ℕ) (text₀ : List ℕ) (place : ℕ) (text : List ℕ) (i : ℕ) : Type 0 where
-  pub put : putOf (recordLines (drop i times) (drop i words)) (written place text)
-      ≡ putOf (recordLines times words) (written at text₀)
+  pub put : putOf (recordLines (drop i times) (drop i words)) (filled place text)
+      ≡ putOf (recordLines times words) (filled at text₀)
   pub room : place ≤ at + 20 * i
   pub within : i ≤ length times
   pub kept : length text ≡ length text₀
@@ -248,19 +248,19 @@ module _ (times words : List ℕ) (same : length times ≡ length words) where
 
     pub listing-on : (place i place' : ℕ) (text text' : List ℕ) → i < length times
         → Listing times words at text₀ place text i
-        → written place' text' ≡ putOf (recordLine (getD times i 0) (getD words i 0)) (written place text)
+        → filled place' text' ≡ putOf (recordLine (getD times i 0) (getD words i 0)) (filled place text)
         → Listing times words at text₀ place' text' (i + 1)
     listing-on place i place' text text' h l e =
         let line = recordLine (getD times i 0) (getD words i 0) in
         let later = recordLines (drop (i + 1) times) (drop (i + 1) words) in
         record {
-          put = ap (putOf later) e ∙ put-append line later (written place text) ∙ rw (← lines-next i h) (l .put);
+          put = ap (putOf later) e ∙ put-append line later (filled place text) ∙ rw (← lines-next i h) (l .put);
           room = omega (arith, l .room, place-of e, record-length (getD times i 0) (getD words i 0));
           within = omega arith;
-          kept = put-kept line (written place text) e ∙ l .kept;
+          kept = put-kept line (filled place text) e ∙ l .kept;
         }
 
     pub listed : (place i : ℕ) (text : List ℕ) → length times ≤ i → Listing times words at text₀ place text i
-        → written place text ≡ putOf (recordLines times words) (written at text₀)
+        → filled place text ≡ putOf (recordLines times words) (filled at text₀)
     listed place i text h l =
-        sym (put-none (written place text)) ∙ ap (λ cs. putOf cs (written place text)) (sym (lines-end i h)) ∙ l .put
+        sym (put-none (filled place text)) ∙ ap (λ cs. putOf cs (filled place text)) (sym (lines-end i h)) ∙ l .put

@@ -54,14 +54,14 @@ recordLines (clock ∷ times) (word ∷ words) = recordLine clock word ++ record
 unfoldable pub outcomeLines : List ℕ → List ℕ → ℕ → ℕ → List ℕ
 outcomeLines times words done number = recordLines times words ++ endLine done number
 
--- a lent text, of which the characters before `place` are written
-pub record Written : Type 0 where
+-- a lent text, of which the characters before `place` are filled in
+pub record Filled : Type 0 where
   pub place : ℕ
   pub text : List ℕ
 
-abbrev pub written : ℕ → List ℕ → Written
-written place text = record { place = place; text = text }
+abbrev pub filled : ℕ → List ℕ → Filled
+filled place text = record { place = place; text = text }
 
--- characters written behind those that are; what stands behind them stays
-abbrev pub putOf : List ℕ → Written → Written
-putOf characters w = written (w .place + length characters) (sets (w .text) (w .place) characters)
+-- characters put behind those that are; what stands behind them stays
+abbrev pub putOf : List ℕ → Filled → Filled
+putOf characters w = filled (w .place + length characters) (sets (w .text) (w .place) characters)

@@ -14,7 +14,7 @@ ghost use Rattle.record_text.specs.Lines.{
   recordLines,
   endLine,
   outcomeLines,
-  written,
+  filled,
   putOf,
 };
 
@@ -47,7 +47,7 @@ fn digit_count(n: u32) -> usize
 
 fn put_characters(characters: &[u8], text: &mut [u8], at: usize) -> usize
     requires { ⌜ at + length (now characters) ≤ length (now text) ⌝ }
-    ensures { λ r. ⌜ written r (now (text .exit)) ≡ putOf (now (characters .entry)) (written at (now (text .entry))) ⌝ }
+    ensures { λ r. ⌜ filled r (now (text .exit)) ≡ putOf (now (characters .entry)) (filled at (now (text .entry))) ⌝ }
 {
     let mut i = 0;
     while i < characters.len() {
@@ -61,7 +61,7 @@ fn put_characters(characters: &[u8], text: &mut [u8], at: usize) -> usize
 fn put_digits(n: u32, base: u32, count: usize, text: &mut [u8], at: usize) -> usize
     requires { ⌜ (0 < base) × (base ≤ 16) ⌝ }
     requires { ⌜ at + count ≤ length (now text) ⌝ }
-    ensures { λ r. ⌜ written r (now (text .exit)) ≡ putOf (digitsOf base count n) (written at (now (text .entry))) ⌝ }
+    ensures { λ r. ⌜ filled r (now (text .exit)) ≡ putOf (digitsOf base count n) (filled at (now (text .entry))) ⌝ }
 {
     let mut left = count;
     let mut rest = n;
@@ -75,14 +75,14 @@ fn put_digits(n: u32, base: u32, count: usize, text: &mut [u8], at: usize) -> us
 
 fn put_decimal(n: u32, text: &mut [u8], at: usize) -> usize
     requires { ⌜ at + length (decimalOf n) ≤ length (now text) ⌝ }
-    ensures { λ r. ⌜ written r (now (text .exit)) ≡ putOf (decimalOf n) (written at (now (text .entry))) ⌝ }
+    ensures { λ r. ⌜ filled r (now (text .exit)) ≡ putOf (decimalOf n) (filled at (now (text .entry))) ⌝ }
 {
     put_digits(n, 10, digit_count(n), text, at)
 }
 
 fn put_word(word: u32, text: &mut [u8], at: usize) -> usize
     requires { ⌜ at + 8 ≤ length (now text) ⌝ }
-    ensures { λ r. ⌜ written r (now (text .exit)) ≡ putOf (hexWord word) (written at (now (text .entry))) ⌝ }
+    ensures { λ r. ⌜ filled r (now (text .exit)) ≡ putOf (hexWord word) (filled at (now (text .entry))) ⌝ }
 {
     put_digits(word, 16, 8, text, at)
 }
@@ -90,7 +90,7 @@ fn put_word(word: u32, text: &mut [u8], at: usize) -> usize
 // The line of a record.
 fn put_record(clock: u32, word: u32, text: &mut [u8], at: usize) -> usize
     requires { ⌜ at + 20 ≤ length (now text) ⌝ }
-    ensures { λ r. ⌜ written r (now (text .exit)) ≡ putOf (recordLine clock word) (written at (now (text .entry))) ⌝ }
+    ensures { λ r. ⌜ filled r (now (text .exit)) ≡ putOf (recordLine clock word) (filled at (now (text .entry))) ⌝ }
 {
     let after_clock = put_decimal(clock, text, at);
     let after_space = put_characters(b" ", text, after_clock);
@@ -102,8 +102,8 @@ fn put_record(clock: u32, word: u32, text: &mut [u8], at: usize) -> usize
 fn put_records(times: &[u32], words: &[u32], text: &mut [u8], at: usize) -> usize
     requires { ⌜ length (now times) ≡ length (now words) ⌝ }
     requires { ⌜ at + 20 * length (now times) ≤ length (now text) ⌝ }
-    ensures { λ r. ⌜ written r (now (text .exit))
-        ≡ putOf (recordLines (now (times .entry)) (now (words .entry))) (written at (now (text .entry))) ⌝ }
+    ensures { λ r. ⌜ filled r (now (text .exit))
+        ≡ putOf (recordLines (now (times .entry)) (now (words .entry))) (filled at (now (text .entry))) ⌝ }
 {
     let mut place = at;
     let mut i = 0;
@@ -117,7 +117,7 @@ fn put_records(times: &[u32], words: &[u32], text: &mut [u8], at: usize) -> usiz
 // The end line: the clocks done, and the number that ended them, or 0.
 pub fn put_end(done: u32, number: u8, text: &mut [u8], at: usize) -> usize
     requires { ⌜ at + 20 ≤ length (now text) ⌝ }
-    ensures { λ r. ⌜ written r (now (text .exit)) ≡ putOf (endLine done number) (written at (now (text .entry))) ⌝ }
+    ensures { λ r. ⌜ filled r (now (text .exit)) ≡ putOf (endLine done number) (filled at (now (text .entry))) ⌝ }
     ensures { λ r. ⌜ r ≤ length (now (text .exit)) ⌝ }
 {
     let after_end = put_characters(b"end ", text, at);
@@ -131,8 +131,8 @@ pub fn put_end(done: u32, number: u8, text: &mut [u8], at: usize) -> usize
 pub fn put_outcome(times: &[u32], words: &[u32], done: u32, number: u8, text: &mut [u8]) -> usize
     requires { ⌜ length (now times) ≡ length (now words) ⌝ }
     requires { ⌜ 20 * (length (now times) + 1) ≤ length (now text) ⌝ }
-    ensures { λ r. ⌜ written r (now (text .exit))
-        ≡ putOf (outcomeLines (now (times .entry)) (now (words .entry)) done number) (written 0 (now (text .entry))) ⌝ }
+    ensures { λ r. ⌜ filled r (now (text .exit))
+        ≡ putOf (outcomeLines (now (times .entry)) (now (words .entry)) done number) (filled 0 (now (text .entry))) ⌝ }
     ensures { λ r. ⌜ r ≤ length (now (text .exit)) ⌝ }
 {
     let place = put_records(times, words, text, 0);

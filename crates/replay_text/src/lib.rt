@@ -10,7 +10,7 @@ ghost use mathlib.Core.Path.{_≡_};
 ghost use Prim.Native.Nat.{_≤_};
 ghost use lib.ListN.{length, take};
 ghost use Rattle.memory.specs.Memory.{memorySpan};
-ghost use Rattle.record_text.specs.Lines.{written, putOf};
+ghost use Rattle.record_text.specs.Lines.{filled, putOf};
 ghost use Rattle.replay_text.specs.Replay.{tapeLength, ranOf, replayOf};
 
 // The most characters of a tape; what follows them on standard input plays no part.
@@ -29,8 +29,8 @@ pub const TEXT_LENGTH: usize = LINE_LENGTH * (RECORDS + 1);
 fn run_loaded(memory: &mut [u8], text: &mut [u8]) -> usize
     requires { ⌜ length (now memory) ≡ memorySpan ⌝ }
     requires { ⌜ 2020 ≤ length (now text) ⌝ }
-    ensures { λ r. ⌜ written r (now (text .exit))
-        ≡ putOf (ranOf (now (memory .entry))) (written 0 (now (text .entry))) ⌝ }
+    ensures { λ r. ⌜ filled r (now (text .exit))
+        ≡ putOf (ranOf (now (memory .entry))) (filled 0 (now (text .entry))) ⌝ }
     ensures { λ r. ⌜ r ≤ length (now (text .exit)) ⌝ }
 {
     let inputclocks = [1u32; 1];
@@ -60,8 +60,8 @@ fn run_loaded(memory: &mut [u8], text: &mut [u8]) -> usize
 // Replays a tape, and puts what is to be printed into `text`; gives how many characters it is.
 pub fn replay(tape: &[u8], text: &mut [u8]) -> usize
     requires { ⌜ 2020 ≤ length (now text) ⌝ }
-    ensures { λ r. ⌜ written r (now (text .exit))
-        ≡ putOf (replayOf (now (tape .entry))) (written 0 (now (text .entry))) ⌝ }
+    ensures { λ r. ⌜ filled r (now (text .exit))
+        ≡ putOf (replayOf (now (tape .entry))) (filled 0 (now (text .entry))) ⌝ }
     ensures { λ r. ⌜ r ≤ length (now (text .exit)) ⌝ }
 {
     let mut memory = [0u8; MEMORY_SPAN];
@@ -75,8 +75,8 @@ pub fn replay(tape: &[u8], text: &mut [u8]) -> usize
 // Replays what stands on standard input: its first characters are the tape.
 pub fn replay_input(input: &[u8], text: &mut [u8]) -> usize
     requires { ⌜ 2020 ≤ length (now text) ⌝ }
-    ensures { λ r. ⌜ written r (now (text .exit))
-        ≡ putOf (replayOf (take tapeLength (now (input .entry)))) (written 0 (now (text .entry))) ⌝ }
+    ensures { λ r. ⌜ filled r (now (text .exit))
+        ≡ putOf (replayOf (take tapeLength (now (input .entry)))) (filled 0 (now (text .entry))) ⌝ }
     ensures { λ r. ⌜ r ≤ length (now (text .exit)) ⌝ }
 {
     if input.len() <= TAPE_LENGTH {

@@ -36,7 +36,7 @@ mod scenario; // scenario.rt: the parts of a scenario's text
 const TEXT_LENGTH: usize = LINE_LENGTH * (RECORDS + 1);
 
 // What a scenario comes to: the clocks done, the records written, and the number that ended it, or 0.
-struct Outcome {
+struct ScenarioEnd {
     done: u32,
     written: usize,
     number: u8,
@@ -110,7 +110,7 @@ fn run_clocks(
     codes: &[u8],
     times: &mut [u32],
     words: &mut [u32],
-) -> Outcome
+) -> ScenarioEnd
     requires { ⌜ length (now clocks) ≡ length (now codes) ⌝ }
     requires { ⌜ length (now times) ≡ length (now words) ⌝ }
     ensures { λ r. ⌜ r .written ≤ length (now (times .entry)) ⌝ }
@@ -120,7 +120,7 @@ fn run_clocks(
     while done < limit {
         p = single_clock(p, memory, clocks, codes, times, words);
         if p.stop != 0 {
-            return Outcome {
+            return ScenarioEnd {
                 done: done,
                 written: p.written,
                 number: p.stop,
@@ -128,7 +128,7 @@ fn run_clocks(
         }
         done += 1;
     }
-    Outcome {
+    ScenarioEnd {
         done: done,
         written: p.written,
         number: 0,
@@ -143,7 +143,7 @@ fn print_refused(number: u8) {
 }
 
 // The lines of a scenario's outcome.
-fn print_outcome(outcome: Outcome, times: &[u32], words: &[u32])
+fn print_outcome(outcome: ScenarioEnd, times: &[u32], words: &[u32])
     requires { ⌜ (outcome .written ≤ length (now times)) × (outcome .written ≤ length (now words))
         × (outcome .written ≤ 64) ⌝ }
 {

@@ -15,7 +15,7 @@ use crate::line::bad;
 use crate::line::byte_at;
 use crate::line::ends;
 use crate::line::next_byte;
-use crate::line::next_word;
+use crate::line::next_word16;
 use crate::line::start;
 use crate::memories::byte_of;
 use crate::memories::cleared;
@@ -60,7 +60,7 @@ fn registers_at(line: &[u8], c: Cursor) -> Registers {
     let y = next_byte(line, x.rest);
     let sp = next_byte(line, y.rest);
     let p = next_byte(line, sp.rest);
-    let pc = next_word(line, p.rest);
+    let pc = next_word16(line, p.rest);
     let rest = pc.rest;
     Registers {
         cpu: Cpu {
@@ -79,7 +79,7 @@ fn registers_at(line: &[u8], c: Cursor) -> Registers {
 
 // ` aaaavv`. A register's address is not right.
 fn placed_at(line: &[u8], c: Cursor) -> Placed {
-    let address = next_word(line, c);
+    let address = next_word16(line, c);
     let value = byte_at(line, address.rest);
     let rest = value.rest;
     let write = Write {

@@ -22,7 +22,7 @@ pub struct Byte {
     pub rest: Cursor,
 }
 
-pub struct Word {
+pub struct Word16 {
     pub value: u16,
     pub rest: Cursor,
 }
@@ -136,12 +136,12 @@ pub(crate) fn byte_at(line: &[u8], c: Cursor) -> Byte
 }
 
 // Four digits.
-pub(crate) fn word_at(line: &[u8], c: Cursor) -> Word
+pub(crate) fn word16_at(line: &[u8], c: Cursor) -> Word16
     ensures { λ r. ⌜ (r .rest .good ≡ true → Read (now (line .entry)) (c .place) 4 (r .value) (r .rest .place)) ⌝ }
 {
     let read = digits(line, c, 4);
     let rest = read.rest;
-    Word {
+    Word16 {
         value: (read.value % 0x10000) as u16,
         rest: rest,
     }
@@ -153,8 +153,8 @@ pub(crate) fn next_byte(line: &[u8], c: Cursor) -> Byte {
 }
 
 // Four digits behind a space.
-pub(crate) fn next_word(line: &[u8], c: Cursor) -> Word {
-    word_at(line, after(line, c, b' '))
+pub(crate) fn next_word16(line: &[u8], c: Cursor) -> Word16 {
+    word16_at(line, after(line, c, b' '))
 }
 
 // Whether the whole line was read, and all of it as it has to be.

@@ -32,26 +32,26 @@ mod totals;
 const TEXT_LENGTH: usize = 655360;
 
 // The group at hand, and what those before it come to.
-struct Progress {
+struct GroupsSoFar {
     group: Group,
     totals: Totals,
 }
 
 // One line more.
-fn take_line(p: Progress, line: &[u8], by_opcode: &mut [u64; 256]) -> Progress {
+fn take_line(p: GroupsSoFar, line: &[u8], by_opcode: &mut [u64; 256]) -> GroupsSoFar {
     let group = p.group;
     let totals = p.totals;
     if line.len() == 0 {
         return p;
     }
     if line[0] != GROUP_MARK {
-        return Progress {
+        return GroupsSoFar {
             group: group.take(line),
             totals: totals,
         };
     }
     let closed = totals.close(group, by_opcode);
-    Progress {
+    GroupsSoFar {
         group: open(line),
         totals: closed,
     }
@@ -67,7 +67,7 @@ fn line_end(text: &[u8], from: usize) -> usize
 
 // All lines of a file; its last group ends with it.
 fn take_text(totals: Totals, text: &[u8], by_opcode: &mut [u64; 256]) -> Totals {
-    let mut p = Progress {
+    let mut p = GroupsSoFar {
         group: unknown(),
         totals: totals,
     };

@@ -8,7 +8,7 @@ use Rattle.cpu_access.specs.declared.Fetched.{Fetched}
 use Rattle.cpu_access.specs.declared.Got.{Got}
 use Rattle.cpu_access.specs.declared.stack.Writes.{Writes}
 use Rattle.cpu_access.specs.Bus.{fetchOf}
-use Rattle.cpu_access.specs.Stack.{pushWord, readAfter}
+use Rattle.cpu_access.specs.Stack.{pushAddress, readAfter}
 use Rattle.cpu.specs.Instruction.{outcomeOf, writesAsked, callTo, subroutineCall}
 use borrow.Author.Needs.{needs}
 use Rattle.cpu.proofs.call.Statement.{statement}
@@ -16,7 +16,7 @@ use Rattle.cpu.proofs.call.Tie as tie
 
 -- the low byte l, the pushes w and the high byte h, each as it should be
 called-as : (answers memory : List ℕ) (r : CpuRegisters) (n : ℕ) (b : Bus) (l : Fetched) (w : Writes) (h : Got)
-    → l ≡ fetchOf answers memory (r .pc) b → w ≡ pushWord (r .sp) (l .pc)
+    → l ≡ fetchOf answers memory (r .pc) b → w ≡ pushAddress (r .sp) (l .pc)
     → h ≡ readAfter answers memory w (l .pc) (l .bus)
     → outcomeOf (writesAsked (l .bus) w) (callTo r n l w h) ≡ subroutineCall answers memory r n b
 unfolding subroutineCall
@@ -39,10 +39,10 @@ returns c =
     )
     (called-as (now (at .answers)) (now (at .memory)) (at .registers) (at .length) (at .bus)
     (c .before .before .before .before .before .before .before .before .before .before .before .before .fetch .result)
-    (c .before .before .before .before .before .before .before .before .before .before .push-word .result)
+    (c .before .before .before .before .before .before .before .before .before .before .push-address .result)
     (c .before .before .before .before .before .before .before .before .before .read-after .result)
     (c .before .before .before .before .before .before .before .before .before .before .before .before .fetch .ensures)
-    (c .before .before .before .before .before .before .before .before .before .before .push-word .ensures)
+    (c .before .before .before .before .before .before .before .before .before .before .push-address .ensures)
     (c .before .before .before .before .before .before .before .before .before .read-after .ensures))
 
 pub call-spec : {M : Type 1} → statement M

@@ -3,8 +3,8 @@ use borrow.Author.Needs.{needs}
 use Rattle.cpu.proofs.carried_out.Statement.{statement}
 use Rattle.cpu.proofs.carried_out.Tie as tie
 
-work-requires : tie.Need-work-requires
-work-requires c κs = rw (c .before .operand-of .ensures) (search needs)
+operate-requires : tie.Need-operate-requires
+operate-requires c κs = rw (c .before .operand-of .ensures) (search needs)
 
 returns : tie.Need-returns
 unfolding carriedOut
@@ -15,7 +15,7 @@ returns c =
       ← (c .before .before .before .operand-byte .ensures),
       ← (c .before .before .operand-of .ensures),
       ← (c .before .with-pc .ensures),
-      ← (c .work .ensures),
+      ← (c .operate .ensures),
     )
 
 pub carried-out-spec : {M : Type 1} → statement M
@@ -26,5 +26,5 @@ carried-out-spec =
     (λ c κs. search needs)
     (λ c κs. search needs)
     (λ c κs. search needs)
-    work-requires
+    operate-requires
     returns)

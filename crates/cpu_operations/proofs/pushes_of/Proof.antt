@@ -15,5 +15,5 @@ pushes-of-spec =
     (λ c. search needs)
     (λ c κs. search needs)
     (λ c. rw (c .no-writes .ensures, c .before .enum-told .given .1) refl)
-    (λ c. rw (c .before .written .given .1) refl)
+    (λ c. rw (c .before .writing .given .1) refl)
     (λ c. rw (c .no-writes2 .ensures, c .before .enum-told2 .given .1) refl))

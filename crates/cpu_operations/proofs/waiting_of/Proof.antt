@@ -14,4 +14,4 @@ waiting-of-spec =
     (λ c. search needs)
     (λ c. rw (c .enum-told .given .1) refl)
     (λ c. rw (c .enum-told2 .given .1) refl)
-    (λ c. rw (c .before .written .given .1) refl))
+    (λ c. rw (c .before .writing .given .1) refl))

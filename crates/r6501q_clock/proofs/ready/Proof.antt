@@ -6,7 +6,11 @@ use Rattle.r6501q_clock.proofs.ready.Tie as tie
 returns : tie.Need-returns
 unfolding readyOf
 returns c =
-    rw (← (c .before .before .before .apply-inputs .ensures), ← (c .before .sense .ensures), ← (c .work .ensures))
+    rw (
+      ← (c .before .before .before .apply-inputs .ensures),
+      ← (c .before .sense .ensures),
+      ← (c .clock-peripherals .ensures),
+    )
 
 pub ready-spec : {M : Type 1} → statement M
 ready-spec =

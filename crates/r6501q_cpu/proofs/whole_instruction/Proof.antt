@@ -8,7 +8,7 @@ use borrow.Author.Needs.{needs}
 use Rattle.cpu.specs.Sequence.{undefinedStop}
 use Rattle.r6501q_cpu.specs.declared.Processed.the-variants.{Stopped}
 use Rattle.r6501q_cpu.specs.Asking.{instructionFrom, answeredInstruction}
-use Rattle.r6501q_cpu.proofs.Asks.{turn-over, turn-answered}
+use Rattle.r6501q_cpu.proofs.Asks.{round-over, round-answered}
 use Rattle.r6501q_cpu.proofs.whole_instruction.Statement.{statement}
 use Rattle.r6501q_cpu.proofs.whole_instruction.Tie as tie
 
@@ -28,16 +28,16 @@ loop-holds c = (omega arith, refl, refl)
 array-share-prefix-answers : tie.Need-array-share-prefix-answers Inv-loop μ-loop
 array-share-prefix-answers c = rw (c .before .loop .inv .1) (c .before .loop .inv .0)
 
-slice-aggregate-take-turn : tie.Need-slice-aggregate-take-turn Inv-loop μ-loop
-slice-aggregate-take-turn c =
+slice-aggregate-one-round : tie.Need-slice-aggregate-one-round Inv-loop μ-loop
+slice-aggregate-one-round c =
     sym (length-take-le _ _ (rw (c .before .before .loop .inv .1) (c .before .before .loop .inv .0)))
 
 returns : tie.Need-returns Inv-loop μ-loop
 returns c =
     let at = c .before .before .before .before .before .before .loop in
     let left : 0 < 6 - at .count = omega arith in
-    let over = sym (c .before .before .before .take-turn .ensures) ∙ c .before .turned .given .1 in
-    sym (turn-over _ _ _ _ _ _ _ left over) ∙ at .inv .2
+    let over = sym (c .before .before .before .one-round .ensures) ∙ c .before .round .given .1 in
+    sym (round-over _ _ _ _ _ _ _ left over) ∙ at .inv .2
 
 array-write-answers : tie.Need-array-write-answers Inv-loop μ-loop
 array-write-answers c = omega arith
@@ -53,11 +53,11 @@ loop-again c =
     let at = c .before .before .before .before .before .before .before .loop in
     let left : 6 - at .count ≡ suc (6 - suc (at .count)) = omega arith in
     let room : at .count < length (at .answers) = rw (at .inv .1) (omega arith) in
-    let asked = sym (c .before .before .before .before .take-turn .ensures) ∙ c .before .before .turned2 .given .1 in (
+    let asked = sym (c .before .before .before .before .one-round .ensures) ∙ c .before .before .round2 .given .1 in (
       omega arith,
-      rw (length-set (at .answers) (at .count) (c .before .before .turned2 .given .0 .0 .value)) (at .inv .1),
+      rw (length-set (at .answers) (at .count) (c .before .before .round2 .given .0 .0 .value)) (at .inv .1),
       rw (add-one (at .count), take-suc-set (at .answers) (at .count) _ room)
-          (sym (turn-answered _ _ _ _ _ _ _ _ left asked) ∙ at .inv .2),
+          (sym (round-answered _ _ _ _ _ _ _ _ left asked) ∙ at .inv .2),
     )
 
 returns-2 : tie.Need-returns-2 Inv-loop μ-loop
@@ -72,7 +72,7 @@ whole-instruction-spec =
     μ-loop
     loop-holds
     array-share-prefix-answers
-    slice-aggregate-take-turn
+    slice-aggregate-one-round
     (λ c κs. search needs)
     (λ c. search needs)
     returns

@@ -9,17 +9,18 @@ use borrow.Author.Needs.{needs}
 use Rattle.page_sums.specs.PageSums.{SixteenBits, sumsAfter}
 use Rattle.page_sums.proofs.Sums.{sums-kept, sums-then, sums-length}
 use Rattle.bits.proofs.Cond.{and-left}
-use Rattle.cpu.specs.Quiet.{WithinSpan}
+use Rattle.cpu.specs.Work.{WithinSpan}
 use Rattle.r6501q_spans.proofs.Ends.{either-false}
-use Rattle.r6501q_fast.specs.Attempts.{Tries, InTurn, none}
-use Rattle.r6501q_fast.proofs.Turns.{starts-within, try-within, try-goes, try-less, shared-most, start-fits}
-use Rattle.r6501q_fast.proofs.Turns.{two-fit}
+use Rattle.r6501q_fast.specs.Attempts.{Tries, ByInstructions, none}
+use Rattle.r6501q_fast.proofs.Instructions.{starts-within, try-within, try-goes, try-less, shared-most}
+use Rattle.r6501q_fast.proofs.Instructions.{start-fits}
+use Rattle.r6501q_fast.proofs.Instructions.{two-fit}
 use Rattle.r6501q_fast.proofs.run_opcodes.Statement.{statement}
 use Rattle.r6501q_fast.proofs.run_opcodes.Tie as tie
 
 abbrev Inv-loop : tie.InvT-loop
 Inv-loop span ticking memory₀ sums₀ halt w₀ shared₀ on₀ memory sums w shared on =
-    WithinSpan w (span .0) × InTurn halt (span .0) ticking w₀ memory₀ w memory shared
+    WithinSpan w (span .0) × ByInstructions halt (span .0) ticking w₀ memory₀ w memory shared
     × (sums ≡ sumsAfter sums₀ memory₀ memory) × (length memory ≡ length memory₀)
 
 abbrev μ-loop : tie.MeasureT-loop

@@ -1,7 +1,7 @@
 use mathlib.Core.Path.{refl}
 use native.Mathlib.Omega.{arith}
 use borrow.Author.Needs.{needs}
-use Rattle.r6501q_fast.proofs.Turns.{shared-two}
+use Rattle.r6501q_fast.proofs.Instructions.{shared-two}
 use Rattle.r6501q_fast.proofs.with_shared.Statement.{statement}
 use Rattle.r6501q_fast.proofs.with_shared.Tie as tie
 

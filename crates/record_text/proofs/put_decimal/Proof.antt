@@ -1,7 +1,7 @@
 use native.Mathlib.Omega.{arith}
 use mathlib.Core.Path.{ap, _∙_}
 use lib.ListN.{length}
-use Rattle.record_text.specs.Lines.{digitsOf, digitCount, decimalOf, written, putOf}
+use Rattle.record_text.specs.Lines.{digitsOf, digitCount, decimalOf, filled, putOf}
 use Rattle.record_text.proofs.Laws.{digits-length}
 use borrow.Author.Needs.{needs}
 use Rattle.record_text.proofs.put_decimal.Statement.{statement}

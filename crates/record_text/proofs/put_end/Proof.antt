@@ -2,7 +2,7 @@ use native.Mathlib.Omega.{arith}
 use mathlib.Core.Path.{ap, _∙_}
 use mathlib.Core.List.{[], _∷_}
 use denote.Ref.{now}
-use Rattle.record_text.specs.Lines.{decimalOf, endLine, written, putOf}
+use Rattle.record_text.specs.Lines.{decimalOf, endLine, filled, putOf}
 use Rattle.record_text.proofs.Laws.{place-of, put-five, decimal-length, byte-length, end-length}
 use borrow.Author.Needs.{needs}
 use Rattle.record_text.proofs.put_end.Statement.{statement}
@@ -75,7 +75,7 @@ returns c =
     .before .before .before .before .before .before .before .before .before .before .before .before .before .before
     .before .before .before .args .done)) (32 ∷ []) (decimalOf (c .before .before .before .before .before .before
     .before .before .before .before .before .before .before .before .before .before .before .before .before .before
-    .before .before .before .before .args .number)) (10 ∷ []) (written (c .before .before .before .before .before
+    .before .before .before .before .args .number)) (10 ∷ []) (filled (c .before .before .before .before .before
     .before .before .before .before .before .before .before .before .before .before .before .before .before .before
     .before .before .before .before .before .args .at) (now (c .before .before .before .before .before .before
     .before .before .before .before .before .before .before .before .before .before .before .before .before

@@ -1,7 +1,7 @@
 use native.Mathlib.Omega.{arith}
 use mathlib.Core.Path.{ap, _∙_}
 use denote.Ref.{now}
-use Rattle.record_text.specs.Lines.{recordLines, endLine, outcomeLines, written, putOf}
+use Rattle.record_text.specs.Lines.{recordLines, endLine, outcomeLines, filled, putOf}
 use Rattle.record_text.proofs.Laws.{place-of, put-append, lines-length}
 use borrow.Author.Needs.{needs}
 use Rattle.record_text.proofs.put_outcome.Statement.{statement}
@@ -29,7 +29,7 @@ returns c = (
       .before .before .before .args .words))) (endLine (c .before .before .before .before .before .before .before
       .before .before .before .before .args .done)
       (c .before .before .before .before .before .before .before .before .before .before .before .args .number))
-      (written 0 (now (c .before .before .before .before .before .before .before .before .before .before .before
+      (filled 0 (now (c .before .before .before .before .before .before .before .before .before .before .before
       .args .text))),
   c .before .before .put-end .ensures .1,
 )

@@ -2,7 +2,7 @@ use native.Mathlib.Omega.{arith}
 use mathlib.Core.Path.{ap, _∙_}
 use mathlib.Core.List.{[], _∷_}
 use denote.Ref.{now}
-use Rattle.record_text.specs.Lines.{decimalOf, hexWord, recordLine, written, putOf}
+use Rattle.record_text.specs.Lines.{decimalOf, hexWord, recordLine, filled, putOf}
 use Rattle.record_text.proofs.Laws.{place-of, put-four, decimal-length, word-length}
 use borrow.Author.Needs.{needs}
 use Rattle.record_text.proofs.put_record.Statement.{statement}
@@ -56,7 +56,7 @@ returns c =
     ∙ put-four (decimalOf (c .before .before .before .before .before .before .before .before .before .before .before
     .before .before .before .before .before .before .before .before .args .clock)) (32 ∷ []) (hexWord
     (c .before .before .before .before .before .before .before .before .before .before .before .before .before .before
-    .before .before .before .before .before .args .word)) (10 ∷ []) (written (c .before .before .before .before
+    .before .before .before .before .before .args .word)) (10 ∷ []) (filled (c .before .before .before .before
     .before .before .before .before .before .before .before .before .before .before .before .before .before .before
     .before .args .at) (now (c .before .before .before .before .before .before .before .before .before .before
     .before .before .before .before .before .before .before .before .before .args .text)))

@@ -1,6 +1,6 @@
 use mathlib.Core.Path.{ap, _∙_}
 use denote.Ref.{now}
-use Rattle.record_text.specs.Lines.{written, putOf}
+use Rattle.record_text.specs.Lines.{filled, putOf}
 use Rattle.replay_text.specs.Replay.{zeroMemory}
 use Rattle.replay_text.proofs.Laws.{replay-refused, replay-ran}
 use borrow.Author.Needs.{needs}
@@ -11,7 +11,7 @@ returns : tie.Need-returns
 unfolding zeroMemory
 returns c = (
   c .before .before .put-end .ensures .0
-      ∙ ap (λ lines. putOf lines (written 0 (now (c .before .before .before .before .before .before .before
+      ∙ ap (λ lines. putOf lines (filled 0 (now (c .before .before .before .before .before .before .before
       .before .before .before .before .args .text)))) (replay-refused (now (c .before .before .before .before
       .before .before .before .before .before .before .before .args .tape))
       (c .before .before .before .before .before .before .before .load .last .1 .0)
@@ -25,7 +25,7 @@ returns-2 : tie.Need-returns-2
 unfolding zeroMemory
 returns-2 c = (
   c .before .before .before .run-loaded .ensures .0
-      ∙ ap (λ lines. putOf lines (written 0 (now (c .before .before .before .before .before .before .before
+      ∙ ap (λ lines. putOf lines (filled 0 (now (c .before .before .before .before .before .before .before
       .before .before .before .before .before .before .args .text)))) (replay-ran (now (c .before .before
       .before .before .before .before .before .before .before .before .before .before .before .args .tape))
       (c .before .before .before .before .before .before .before .before .before .load .last .1 .0)

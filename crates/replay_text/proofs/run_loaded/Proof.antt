@@ -2,7 +2,7 @@ use mathlib.Core.Path.{refl, sym, ap, _∙_}
 use native.Mathlib.Omega.{arith}
 use denote.Ref.{now}
 use lib.Seq.{length-take-le}
-use Rattle.record_text.specs.Lines.{written, putOf}
+use Rattle.record_text.specs.Lines.{filled, putOf}
 use Rattle.replay_text.proofs.Laws.{written-clocks, written-words, lines-of-run}
 use borrow.Author.Needs.{needs}
 use Rattle.replay_text.proofs.run_loaded.Statement.{statement}
@@ -48,7 +48,7 @@ put-outcome-requires c κs =
 returns : tie.Need-returns
 returns c = (
   c .before .before .put-outcome .ensures .0
-      ∙ ap (λ lines. putOf lines (written 0 (now (c .before .before .before .before .before .before .before
+      ∙ ap (λ lines. putOf lines (filled 0 (now (c .before .before .before .before .before .before .before
       .before .before .before .before .before .before .before .before .before .before .before .before .args
       .text)))) (lines-of-run (now (c .before .before .before .before .before .before .before .before .before
       .before .before .before .before .before .before .before .before .before .before .args .memory))

@@ -5,7 +5,11 @@ use Rattle.cpu_access.proofs.modes.at_indirect.Tie as tie
 
 returns : tie.Need-returns
 returns c =
-    rw (c .place-at .ensures, c .before .before .read-word .ensures, c .before .before .before .second-address .ensures)
+    rw (
+      c .place-at .ensures,
+      c .before .before .read-address .ensures,
+      c .before .before .before .second-address .ensures,
+    )
     refl
 
 pub at-indirect-spec : {M : Type 1} → statement M

@@ -33,17 +33,17 @@ returns-6 c =
 returns-7 : tie.Need-returns-7
 unfolding locateOf
 returns-7 c =
-    rw (c .before .before .enum-told7 .given .1, ← (c .before .fetch-word .ensures), ← (c .at-absolute .ensures))
+    rw (c .before .before .enum-told7 .given .1, ← (c .before .fetch-address .ensures), ← (c .at-absolute .ensures))
 
 returns-8 : tie.Need-returns-8
 unfolding locateOf
 returns-8 c =
-    rw (c .before .before .enum-told8 .given .1, ← (c .before .fetch-word2 .ensures), ← (c .at-indexed .ensures))
+    rw (c .before .before .enum-told8 .given .1, ← (c .before .fetch-address2 .ensures), ← (c .at-indexed .ensures))
 
 returns-9 : tie.Need-returns-9
 unfolding locateOf
 returns-9 c =
-    rw (c .before .before .enum-told9 .given .1, ← (c .before .fetch-word3 .ensures), ← (c .at-indexed2 .ensures))
+    rw (c .before .before .enum-told9 .given .1, ← (c .before .fetch-address3 .ensures), ← (c .at-indexed2 .ensures))
 
 returns-10 : tie.Need-returns-10
 unfolding locateOf
@@ -58,7 +58,7 @@ returns-11 c =
 returns-12 : tie.Need-returns-12
 unfolding locateOf
 returns-12 c =
-    rw (c .before .before .enum-told12 .given .1, ← (c .before .fetch-word4 .ensures), ← (c .at-indirect .ensures))
+    rw (c .before .before .enum-told12 .given .1, ← (c .before .fetch-address4 .ensures), ← (c .at-indirect .ensures))
 
 returns-13 : tie.Need-returns-13
 unfolding locateOf

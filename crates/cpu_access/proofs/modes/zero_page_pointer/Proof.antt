@@ -6,7 +6,7 @@ use Rattle.cpu_access.proofs.modes.zero_page_pointer.Tie as tie
 
 returns : tie.Need-returns
 unfolding zeroPagePointer
-returns c = rw (c .read-word .ensures, c .before .wrapping-add-u8 .ensures) refl
+returns c = rw (c .read-address .ensures, c .before .wrapping-add-u8 .ensures) refl
 
 pub zero-page-pointer-spec : {M : Type 1} → statement M
 zero-page-pointer-spec =

@@ -13,7 +13,7 @@ returns : tie.Need-returns
 unfolding branched
 returns c =
     rw (
-      c .quiet .ensures,
+      c .read-only .ensures,
       c .before .with-pc .ensures,
       c .before .before .digit8 .ensures,
       c .before .before .before .before .if1 .taken,
@@ -21,7 +21,7 @@ returns c =
 
 returns-2 : tie.Need-returns-2
 unfolding branched
-returns-2 c = rw (c .quiet2 .ensures, c .before .if1 .left) refl
+returns-2 c = rw (c .read-only2 .ensures, c .before .if1 .left) refl
 
 pub branched-spec : {M : Type 1} → statement M
 branched-spec =

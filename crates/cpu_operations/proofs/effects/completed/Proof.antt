@@ -5,12 +5,12 @@ use borrow.Author.Needs.{needs}
 use Rattle.cpu_operations.proofs.effects.completed.Statement.{statement}
 use Rattle.cpu_operations.proofs.effects.completed.Tie as tie
 
-add-quiet : tie.Need-add-quiet
-add-quiet c = omega (arith, c .before .digit8 .ensures, digit-le (c .before .before .before .args .o .crossed))
+add-read-only : tie.Need-add-read-only
+add-read-only c = omega (arith, c .before .digit8 .ensures, digit-le (c .before .before .before .args .o .crossed))
 
 returns : tie.Need-returns
 unfolding completed
-returns c = rw (← (c .before .before .digit8 .ensures), ← (c .quiet .ensures))
+returns c = rw (← (c .before .before .digit8 .ensures), ← (c .read-only .ensures))
 
 pub completed-spec : {M : Type 1} → statement M
-completed-spec = tie.close (tie.spec (λ c κs. search needs) add-quiet (λ c κs. search needs) returns)
+completed-spec = tie.close (tie.spec (λ c κs. search needs) add-read-only (λ c κs. search needs) returns)

@@ -11,4 +11,4 @@ jumped-spec =
     (tie.spec
     (λ c κs. search needs)
     (λ c κs. search needs)
-    (λ c. rw (c .quiet .ensures, c .before .with-pc .ensures) refl))
+    (λ c. rw (c .read-only .ensures, c .before .with-pc .ensures) refl))

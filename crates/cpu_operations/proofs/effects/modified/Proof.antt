@@ -11,7 +11,7 @@ modified-spec =
     (tie.spec
     (λ c κs. search needs)
     (λ c κs. search needs)
-    (λ c. rw (c .quiet .ensures, c .before .into-a .ensures, c .before .before .before .if1 .taken) refl)
+    (λ c. rw (c .read-only .ensures, c .before .into-a .ensures, c .before .before .before .if1 .taken) refl)
     (λ c κs. search needs)
     (λ c κs. search needs)
     (λ c. rw (c .stored .ensures, c .before .with-status .ensures, c .before .before .before .if1 .left) refl))

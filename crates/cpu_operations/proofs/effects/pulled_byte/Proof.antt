@@ -14,7 +14,7 @@ pulled-byte-spec =
     (λ c κs. search needs)
     (λ c κs. search needs)
     (λ c. rw (
-      c .quiet .ensures,
+      c .read-only .ensures,
       c .before .with-pulled .ensures,
       c .before .before .with-sp .ensures,
       c .before .before .before .before .pull .ensures,

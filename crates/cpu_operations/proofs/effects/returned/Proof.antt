@@ -15,9 +15,9 @@ returned-spec =
     (λ c κs. search needs)
     (λ c κs. search needs)
     (λ c. rw (
-      c .quiet .ensures,
+      c .read-only .ensures,
       c .before .with-pc .ensures,
       c .before .before .with-sp .ensures,
       c .before .before .before .next-address .ensures,
-      c .before .before .before .before .before .pull-word .ensures,
+      c .before .before .before .before .before .pull-address .ensures,
     ) refl))

@@ -17,11 +17,11 @@ returned-from-interrupt-spec =
     (λ c κs. search needs)
     (λ c κs. search needs)
     (λ c. rw (
-      c .quiet .ensures,
+      c .read-only .ensures,
       c .before .with-pc .ensures,
       c .before .before .with-status .ensures,
       c .before .before .before .with-sp .ensures,
-      c .before .before .before .before .before .pull-word .ensures,
+      c .before .before .before .before .before .pull-address .ensures,
       c .before .before .before .before .before .before .unpack .ensures,
       c .before .before .before .before .before .before .before .before .pull .ensures,
     ) refl))

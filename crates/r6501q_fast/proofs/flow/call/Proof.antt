@@ -25,7 +25,7 @@ returns c =
         ← (c .before .before .before .before .before .before .before .before .before .before .before .before .idle
             .ensures),
         ← (c .before .before .before .before .before .before .before .before .before .fetch .ensures),
-        ← (c .before .before .before .before .before .before .before .push-word .ensures),
+        ← (c .before .before .before .before .before .before .before .push-address .ensures),
         ← (c .before .before .before .before .read-after .ensures),
         ← (c .before .before .before .ends-span .ensures),
         left,
@@ -35,7 +35,7 @@ returns c =
           ← (c .before .before .before .before .before .before .before .before .before .before .before .before
               .idle .ensures),
           ← (c .before .before .before .before .before .before .before .before .before .fetch .ensures),
-          ← (c .before .before .before .before .before .before .before .push-word .ensures),
+          ← (c .before .before .before .before .before .before .before .push-address .ensures),
           ← (c .before .before .before .before .read-after .ensures),
           ← (c .before .before .before .ends-span .ensures),
           left,
@@ -57,7 +57,7 @@ returns-2 c =
         ← (c .before .before .before .before .before .before .before .before .before .before .before .before .before
             .before .before .before .before .before .before .before .before .fetch .ensures),
         ← (c .before .before .before .before .before .before .before .before .before .before .before .before .before
-            .before .before .before .before .before .before .push-word .ensures),
+            .before .before .before .before .before .before .push-address .ensures),
         ← (c .before .before .before .before .before .before .before .before .before .before .before .before .before
             .before .before .before .read-after .ensures),
         ← (c .before .before .before .before .before .before .before .before .before .before .before .before .before
@@ -78,7 +78,7 @@ returns-2 c =
           ← (c .before .before .before .before .before .before .before .before .before .before .before .before
               .before .before .before .before .before .before .before .before .before .fetch .ensures),
           ← (c .before .before .before .before .before .before .before .before .before .before .before .before
-              .before .before .before .before .before .before .before .push-word .ensures),
+              .before .before .before .before .before .before .before .push-address .ensures),
           ← (c .before .before .before .before .before .before .before .before .before .before .before .before
               .before .before .before .before .read-after .ensures),
           ← (c .before .before .before .before .before .before .before .before .before .before .before .before

@@ -4,7 +4,11 @@ use borrow.Author.Needs.{needs}
 
 returns : tie.Need-returns
 returns c =
-    rw (← (c .before .before .before .idle .ensures), ← (c .before .fetch-word .ensures), ← (c .at-indirect .ensures))
+    rw (
+      ← (c .before .before .before .idle .ensures),
+      ← (c .before .fetch-address .ensures),
+      ← (c .at-indirect .ensures),
+    )
 
 pub indirect-spec : {M : Type 1} → statement M
 indirect-spec =

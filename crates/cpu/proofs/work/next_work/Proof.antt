@@ -1,6 +1,6 @@
 use borrow.Author.Needs.{needs}
-use Rattle.cpu.proofs.quiet.next_work.Statement.{statement}
-use Rattle.cpu.proofs.quiet.next_work.Tie as tie
+use Rattle.cpu.proofs.work.next_work.Statement.{statement}
+use Rattle.cpu.proofs.work.next_work.Tie as tie
 
 returns : tie.Need-returns
 returns c = rw (← (c .before .before .before .one-less .ensures))

@@ -2,11 +2,11 @@ use borrow.Author.Needs.{needs}
 use denote.Ref.{now}
 use mathlib.Core.Path.{ap, _∙_}
 use native.Mathlib.Omega.{arith}
-use Rattle.cpu.specs.declared.quiet.Work.{Work}
+use Rattle.cpu.specs.declared.work.Work.{Work}
 use Rattle.cpu.specs.Instruction.{instructionOf}
-use Rattle.cpu.proofs.Kept.{none-quiet}
-use Rattle.cpu.proofs.quiet.one_outcome.Statement.{statement}
-use Rattle.cpu.proofs.quiet.one_outcome.Tie as tie
+use Rattle.cpu.proofs.Kept.{none-started}
+use Rattle.cpu.proofs.work.one_outcome.Statement.{statement}
+use Rattle.cpu.proofs.work.one_outcome.Tie as tie
 
 run-instructions-requires : tie.Need-run-instructions-requires
 run-instructions-requires c κs = (record { gone = omega arith; leaps = omega arith }, c .before .before .before .pre)
@@ -17,7 +17,7 @@ returns c =
     let done = c .run-instructions .ensures in
     done .1
     ∙ ap (λ (w : Work). instructionOf (w .registers) (now (at .answers)) (now (at .memory)))
-    (none-quiet (now (at .answers)) (now (at .memory))
+    (none-started (now (at .answers)) (now (at .memory))
     (record { registers = at .registers; wait = 0; gone = record { 0 = 0 }; leaps = 0 }) (done .0))
 
 pub one-outcome-spec : {M : Type 1} → statement M

@@ -3,13 +3,13 @@ use denote.Ref.{now}
 use mathlib.Core.Path.{sym, _∙_}
 use Prim.Native.Nat.{_+_, _-_}
 use native.Mathlib.Omega.{arith}
-use Rattle.cpu.specs.Quiet.{WithinSpan, Quietly, none}
-use Rattle.cpu.proofs.Kept.{goes-on, goes-quietly}
-use Rattle.cpu.proofs.quiet.run_instructions.Statement.{statement}
-use Rattle.cpu.proofs.quiet.run_instructions.Tie as tie
+use Rattle.cpu.specs.Work.{WithinSpan, ReadOnly, none}
+use Rattle.cpu.proofs.Kept.{goes-on, one-more-goes}
+use Rattle.cpu.proofs.work.run_instructions.Statement.{statement}
+use Rattle.cpu.proofs.work.run_instructions.Tie as tie
 
 abbrev Inv-loop : tie.InvT-loop
-Inv-loop span answers memory entries at₀ at = WithinSpan at (span .0) × Quietly (span .0) answers memory at₀ at
+Inv-loop span answers memory entries at₀ at = WithinSpan at (span .0) × ReadOnly (span .0) answers memory at₀ at
 
 abbrev μ-loop : tie.MeasureT-loop
 μ-loop span answers memory entries at₀ at = span .0 - at .gone .0
@@ -41,7 +41,7 @@ next-work-requires c κs =
     let at = c .before .before .before .before .before .before .before .before .before .loop in
     let on = goes-on (c .before .before .before .before .before .before .before .before .before .before .before
     .before .before .args .span .0 - at .at .gone .0) (at .at .wait)
-    (c .before .before .before .before .before .before .outcome3 .given .0 .0 .written)
+    (c .before .before .before .before .before .before .outcome3 .given .0 .0 .writing)
     (rw (c .before .writes-nothing .ensures) at (c .if1 .left)) in
     (omega (arith, on .0, at .inv .0 .gone), omega (arith, on .0, at .inv .0 .gone, at .inv .0 .leaps))
 
@@ -50,7 +50,7 @@ loop-less c =
     let at = c .before .before .before .before .before .before .before .before .before .before .loop in
     let on = goes-on (c .before .before .before .before .before .before .before .before .before .before .before
     .before .before .before .args .span .0 - at .at .gone .0) (at .at .wait)
-    (c .before .before .before .before .before .before .before .outcome3 .given .0 .0 .written)
+    (c .before .before .before .before .before .before .before .outcome3 .given .0 .0 .writing)
     (rw (c .before .before .writes-nothing .ensures) at (c .before .if1 .left)) in
     rw (c .next-work .ensures) (omega (arith, on .0, at .inv .0 .gone))
 
@@ -60,7 +60,7 @@ loop-again c =
     c .before .before .before .before .before .before .before .before .before .before .before .before .before .before in
     let at = c .before .before .before .before .before .before .before .before .before .before .loop in
     rw (c .next-work .ensures)
-    (goes-quietly (root .args .span .0) (now (root .args .answers)) (now (root .args .memory)) (root .args .start)
+    (one-more-goes (root .args .span .0) (now (root .args .answers)) (now (root .args .memory)) (root .args .start)
     (at .at) _ (at .inv .0) (at .inv .1)
     (rw (c .before .before .writes-nothing .ensures) at (c .before .if1 .left)) (sym (c .before .before .before
     .before .before .before .before .before .before .instruction .ensures)

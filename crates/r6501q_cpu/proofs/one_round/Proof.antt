@@ -1,10 +1,10 @@
-use Rattle.r6501q_cpu.specs.Asking.{turnOf}
+use Rattle.r6501q_cpu.specs.Asking.{roundOf}
 use borrow.Author.Needs.{needs}
-use Rattle.r6501q_cpu.proofs.take_turn.Statement.{statement}
-use Rattle.r6501q_cpu.proofs.take_turn.Tie as tie
+use Rattle.r6501q_cpu.proofs.one_round.Statement.{statement}
+use Rattle.r6501q_cpu.proofs.one_round.Tie as tie
 
 returns : tie.Need-returns
-unfolding turnOf
+unfolding roundOf
 returns c =
     rw (
       ← (c .before .before .before .before .registers-of .ensures),
@@ -13,7 +13,7 @@ returns c =
     )
 
 returns-2 : tie.Need-returns-2
-unfolding turnOf
+unfolding roundOf
 returns-2 c =
     rw (
       c .answer .ensures,
@@ -23,7 +23,7 @@ returns-2 c =
     )
 
 returns-3 : tie.Need-returns-3
-unfolding turnOf
+unfolding roundOf
 returns-3 c =
     rw (
       c .next-state .ensures,
@@ -32,8 +32,8 @@ returns-3 c =
       c .before .before .outcome3 .given .1,
     )
 
-pub take-turn-spec : {M : Type 1} → statement M
-take-turn-spec =
+pub one-round-spec : {M : Type 1} → statement M
+one-round-spec =
     tie.close
     (tie.spec
     (λ c κs. search needs)

@@ -11,10 +11,11 @@ use Rattle.bits.proofs.Cond.{and-right, digit-le}
 use Rattle.r6501q_unseen.specs.declared.Ticking.{Ticking}
 use Rattle.r6501q_unseen.specs.Unseen.{onTick}
 use Rattle.cpu_access.specs.declared.halt.Halt.{Halt}
-use Rattle.cpu.specs.declared.quiet.Work.{Work}
-use Rattle.cpu.specs.Quiet.{WithinSpan}
+use Rattle.cpu.specs.declared.work.Work.{Work}
+use Rattle.cpu.specs.Work.{WithinSpan}
 use Rattle.r6501q_fast.specs.declared.Attempt.{Attempt}
-use Rattle.r6501q_fast.specs.Attempts.{Instructed, pushing, storing, Tries, unchanged, whole, InTurn, none, more}
+use Rattle.r6501q_fast.specs.Attempts.{Instructed, pushing, storing, Tries, unchanged, whole, ByInstructions}
+use Rattle.r6501q_fast.specs.Attempts.{none, more}
 use Rattle.r6501q_fast.specs.Attempts.{sharedBy}
 
 pub starts-within : (on : Bool) (w : Work) (span : ℕ) → (on && ltb (w .wait) (span - w .gone .0)) ≡ true
@@ -54,8 +55,8 @@ module _ (halt : Halt) (span : ℕ) (ticking : Ticking) (start : Work) (memory�
       record { gone = omega (arith, fits, long); leaps = omega (arith, room .leaps, long) }
 
   pub try-goes : (w : Work) (memory : List ℕ) (shared : ℕ) (t : Attempt) (memory' : List ℕ)
-      → InTurn halt span ticking start memory₀ w memory shared → Tries halt span w memory t memory'
-      → InTurn halt span ticking start memory₀ (t .work) memory'
+      → ByInstructions halt span ticking start memory₀ w memory shared → Tries halt span w memory t memory'
+      → ByInstructions halt span ticking start memory₀ (t .work) memory'
       (cond (t .succeeded) (shared + sharedBy ticking (w .gone .0 + w .wait + 1) (t .work .gone .0)) shared)
   try-goes w memory shared t memory' so-far unchanged = so-far
   try-goes w memory shared t memory' so-far (whole i) = more so-far i
@@ -69,7 +70,7 @@ module _ (halt : Halt) (span : ℕ) (ticking : Ticking) (start : Work) (memory�
 
   -- an instruction acts on one clock, or on two, and takes as many at least
   pub shared-most : {w : Work} {memory : List ℕ} {shared : ℕ}
-      → InTurn halt span ticking start memory₀ w memory shared → shared + start .gone .0 ≤ w .gone .0
+      → ByInstructions halt span ticking start memory₀ w memory shared → shared + start .gone .0 ≤ w .gone .0
   unfolding sharedBy
   shared-most none = omega arith
   shared-most (more {v} so-far (pushing worked inside e z q)) =

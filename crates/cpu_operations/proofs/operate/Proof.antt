@@ -1,12 +1,12 @@
 use mathlib.Core.Path.{refl}
-use Rattle.cpu_operations.specs.Operations.{workOf}
+use Rattle.cpu_operations.specs.Operations.{operateOf}
 use borrow.Author.Needs.{needs}
-use Rattle.cpu_operations.proofs.work.Statement.{statement}
-use Rattle.cpu_operations.proofs.work.Tie as tie
+use Rattle.cpu_operations.proofs.operate.Statement.{statement}
+use Rattle.cpu_operations.proofs.operate.Tie as tie
 
-pub work-spec : {M : Type 1} → statement M
-unfolding workOf
-work-spec =
+pub operate-spec : {M : Type 1} → statement M
+unfolding operateOf
+operate-spec =
     tie.close
     (tie.spec
     (λ c. search needs)

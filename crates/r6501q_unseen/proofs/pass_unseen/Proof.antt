@@ -3,8 +3,8 @@ use Rattle.r6501q_unseen.proofs.Transmission.{sends-within, sends-most}
 use Rattle.r6501q_unseen.specs.Unseen.{ticksIn}
 use native.Mathlib.Omega.{arith}
 use borrow.Author.Needs.{needs}
-use Rattle.r6501q_unseen.proofs.work_unseen.Statement.{statement}
-use Rattle.r6501q_unseen.proofs.work_unseen.Tie as tie
+use Rattle.r6501q_unseen.proofs.pass_unseen.Statement.{statement}
+use Rattle.r6501q_unseen.proofs.pass_unseen.Tie as tie
 
 sent-after-requires : tie.Need-sent-after-requires
 sent-after-requires c κs =
@@ -40,8 +40,8 @@ returns c =
       c .before .before .before .before .before .before .before .ticks-in .ensures,
     )
 
-pub work-unseen-spec : {M : Type 1} → statement M
-work-unseen-spec =
+pub pass-unseen-spec : {M : Type 1} → statement M
+pass-unseen-spec =
     tie.close
     (tie.spec
     (λ c κs. search needs)

@@ -4,7 +4,7 @@ ghost use mathlib.Core.Path.{_≡_};
 ghost use Prim.Native.Nat.{_+_, _-_, _≤_};
 ghost use Rattle.cpu_opcodes.specs.Table.{opcodeTable};
 ghost use Rattle.cpu.specs.Instruction.{instructionOf};
-ghost use Rattle.cpu.specs.Quiet.{WithinSpan, nextWork, Quietly};
+ghost use Rattle.cpu.specs.Work.{WithinSpan, nextWork, ReadOnly};
 use crate::Outcome;
 use crate::instruction;
 use counters::time::Clocks;
@@ -22,7 +22,7 @@ pub struct Work {
 }
 
 // Where the instructions that write nothing end, and the outcome of the one that comes next.
-pub struct QuietEnd {
+pub struct WorkEnd {
     pub at: Work,
     pub outcome: Outcome,
 }
@@ -49,10 +49,10 @@ pub fn run_instructions(
     answers: &[u8],
     memory: &[u8],
     entries: &[u16],
-) -> QuietEnd
+) -> WorkEnd
     requires { ⌜ WithinSpan start (span .0) ⌝ }
     requires { ⌜ now entries ≡ opcodeTable ⌝ }
-    ensures { λ r. ⌜ Quietly (span .0) (now (answers .entry)) (now (memory .entry)) start (r .at) ⌝ }
+    ensures { λ r. ⌜ ReadOnly (span .0) (now (answers .entry)) (now (memory .entry)) start (r .at) ⌝ }
     ensures { λ r. ⌜ r .outcome ≡ instructionOf (r .at .registers) (now (answers .entry)) (now (memory .entry)) ⌝ }
 {
     let mut at = start;
@@ -60,21 +60,21 @@ pub fn run_instructions(
         let outcome = instruction(at.registers, answers, memory, entries);
         match outcome {
             Outcome::Stopped(number) => {
-                return QuietEnd {
+                return WorkEnd {
                     at: at,
                     outcome: Outcome::Stopped(number),
                 };
             }
             Outcome::Asked(ask) => {
-                return QuietEnd {
+                return WorkEnd {
                     at: at,
                     outcome: Outcome::Asked(ask),
                 };
             }
             Outcome::Done(worked) => {
-                let written = worked.written;
-                if (span.0 - at.gone.0 <= at.wait as u32) | !writes_nothing(written) {
-                    return QuietEnd {
+                let writing = worked.writing;
+                if (span.0 - at.gone.0 <= at.wait as u32) | !writes_nothing(writing) {
+                    return WorkEnd {
                         at: at,
                         outcome: Outcome::Done(worked),
                     };

@@ -3,9 +3,9 @@ use mathlib.Core.Path.{_≡_}
 use mathlib.Core.List.{List}
 use Prim.Native.Nat.{ℕ, _+_, _-_, _≤_, _<_}
 use Rattle.cpu_operations.specs.declared.Worked.{Worked}
-use Rattle.cpu_operations.specs.declared.Written.the-variants.{Nothing}
+use Rattle.cpu_operations.specs.declared.Writing.the-variants.{Nothing}
 use Rattle.cpu.specs.declared.Outcome.the-variants.{Done}
-use Rattle.cpu.specs.declared.quiet.Work.{Work}
+use Rattle.cpu.specs.declared.work.Work.{Work}
 use Rattle.cpu.specs.Instruction.{instructionOf}
 
 -- what is gone lies in the span, and each leap took a clock at least
@@ -23,8 +23,8 @@ nextWork w worked = record {
 }
 
 -- what is reached from `start` by instructions that write nothing, each of which starts within the span
-pub data Quietly (span : ℕ) (answers memory : List ℕ) (start : Work) : Work → Type 0 where
-  none : Quietly span answers memory start start
-  more : {w : Work} (worked : Worked) → Quietly span answers memory start w → w .gone .0 + w .wait < span
-      → instructionOf (w .registers) answers memory ≡ Done worked → worked .written ≡ Nothing
-      → Quietly span answers memory start (nextWork w worked)
+pub data ReadOnly (span : ℕ) (answers memory : List ℕ) (start : Work) : Work → Type 0 where
+  none : ReadOnly span answers memory start start
+  more : {w : Work} (worked : Worked) → ReadOnly span answers memory start w → w .gone .0 + w .wait < span
+      → instructionOf (w .registers) answers memory ≡ Done worked → worked .writing ≡ Nothing
+      → ReadOnly span answers memory start (nextWork w worked)

@@ -1,10 +1,10 @@
-use Rattle.r6501q_clock.specs.Clock.{worked}
+use Rattle.r6501q_clock.specs.Clock.{peripheralsClock}
 use borrow.Author.Needs.{needs}
-use Rattle.r6501q_clock.proofs.work.Statement.{statement}
-use Rattle.r6501q_clock.proofs.work.Tie as tie
+use Rattle.r6501q_clock.proofs.clock_peripherals.Statement.{statement}
+use Rattle.r6501q_clock.proofs.clock_peripherals.Tie as tie
 
 returns : tie.Need-returns
-unfolding worked
+unfolding peripheralsClock
 returns c =
     rw (
       ← (c .before .before .before .before .count-a .ensures),
@@ -13,7 +13,7 @@ returns c =
       ← (c .receive .ensures),
     )
 
-pub work-spec : {M : Type 1} → statement M
-work-spec =
+pub clock-peripherals-spec : {M : Type 1} → statement M
+clock-peripherals-spec =
     tie.close
     (tie.spec (λ c κs. search needs) (λ c κs. search needs) (λ c κs. search needs) (λ c κs. search needs) returns)
