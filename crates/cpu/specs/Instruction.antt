@@ -1,6 +1,6 @@
 -- One whole instruction as the code works it, with the answers so far: the opcode, the operand's place, its byte, the
 -- operation. What is to be believed of an instruction stands in `Sequence.antt`; this is the same, asked
--- (`instruction-asked`).
+-- (`instruction-asked` of `cpu/proofs/Sequence.antt`).
 use mathlib.Core.Bool.{Bool, true, false, cond}
 use mathlib.Core.List.{List}
 use Prim.Native.Nat.{ℕ, _+_, _*_}

@@ -89,7 +89,7 @@ module _ {P : Type 0} (file : RegisterFile P) where
   performed memory p before (writes a v t) =
       performed memory (peripheralsWritten p a v) (before ++ (writeAt a v ∷ [])) t
 
--- the writes as a clock hands them on: no instruction makes more than three (`done-fits`)
+-- the writes as a clock hands them on: no instruction makes more than three (`done-fits` of `cpu/proofs/Laws.antt`)
 unfoldable pub inOrder : List Write → Writes
 inOrder [] = noWrites
 inOrder (a ∷ []) = oneWrite a

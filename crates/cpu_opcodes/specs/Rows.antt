@@ -1,6 +1,7 @@
 -- The instruction set of source document 001, A.3, by mnemonic: the opcode, the operation under its kind, the
--- addressing mode and the length of each instruction. The 6502's table stands where the matrix there is misaligned
--- (rows D and F) or misprints BBS.
+-- addressing mode and the length of each instruction. The 6502's table stands in the 17 cells that the matrix there
+-- misprints: BBS as BBR in the lower half (8Fh to FFh), D4h to D6h and F4h to F6h shifted, and 31h, 71h and 91h as
+-- (IND, Y) where they are (IND), Y.
 use mathlib.Core.List.{List, [], _∷_, _++_}
 use Prim.Native.Nat.{ℕ, _+_, _*_}
 use Rattle.cpu_opcodes.specs.declared.Entry.{Entry}

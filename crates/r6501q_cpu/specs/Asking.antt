@@ -37,7 +37,7 @@ registersAfter p w = eachWrite putRegister w p
 
 -- An answer: the register's value as the writes so far leave it, and the effect of the read. The writes come again with
 -- the end of the instruction, so that they are looked at here and not kept; reads' effects and writes commute
--- (`read-write-commute`).
+-- (`read-write-commute` of `r6501q_registers/proofs/Order.antt`).
 unfoldable pub answerOf : Peripherals → ℕ → Ask → Reading
 answerOf p levels ask = record {
   value = registerValue (registersAfter p (ask .writes)) levels (ask .latch) (ask .address);
@@ -72,7 +72,8 @@ afterRound goOn (Over x) = x
 afterRound goOn (Answered r) = goOn r
 
 -- Each question is answered in turn, and the instruction worked on with the answer. No instruction asks more than five
--- times (`asks-end`): what stands for a sixth question, `spent`, is never met, and may be anything (`bound-unmet`).
+-- times (`asks-end` of `cpu/proofs/Laws.antt`): what stands for a sixth question, `spent`, is never met, and may be
+-- anything (`bound-unmet` of `r6501q_cpu/proofs/Asks.antt`).
 unfoldable pub instructionFrom : Processed → ℕ → State → Peripherals → List ℕ → List ℕ → Processed
 instructionFrom spent zero s p answers memory = spent
 instructionFrom spent (suc n) s p answers memory =

@@ -87,7 +87,7 @@ unfoldable pub wholeInstruction : State → List ℕ → Processed
 wholeInstruction s memory = processedAfter s (performedIn s memory (instructionAccesses (registersOf (s .cpu))))
 
 -- The opcode is the byte at PC: a register's, a port's by step 1's levels, or the memory's. The instruction is
--- undefined just where this opcode is (`undefined-opcode`, `defined-opcode`).
+-- undefined just where this opcode is (`undefined-opcode`, `defined-opcode` of `r6501q_cpu/proofs/Undefined.antt`).
 unfoldable pub opcodeAt : State → List ℕ → ℕ
 opcodeAt s memory =
     cond (isRegister (s .cpu .pc)) (registerValue (s .peripherals) (s .last .ports) false (s .cpu .pc))

@@ -23,7 +23,7 @@ unfoldable pub hasInput : List ℕ → Bool
 hasInput [] = false
 hasInput (code ∷ codes) = true
 
--- two levels of the 34 pins are the same (`same-levels`, `levels-same`)
+-- two levels of the 34 pins are the same (`same-levels`, `levels-same` of `r6501q_gaps/proofs/Same.antt`)
 unfoldable pub sameLevels : Levels → Levels → Bool
 sameLevels a b = eqb (a .ports) (b .ports) && Bool·beq (a .nmi) (b .nmi) && Bool·beq (a .res) (b .res)
 
@@ -58,7 +58,7 @@ unfoldable pub receiverIdle : Receiver → Bool
 receiverIdle r = eqb (r .subinterval) 0 && not (r .half) && eqb (r .left) 0 && eqb (r .register) 0
 
 -- RES low changes no field: those, and "drops NMI due, sets wait to 0 and makes reset due", and 02, U6: "drops a
--- waiting byte" (`reset-same`, `same-reset`)
+-- waiting byte" (`reset-same`, `same-reset` of `r6501q_gaps/proofs/Same.antt`)
 unfoldable pub isReset : State → Bool
 isReset s =
     eqb (s .cpu .wait) 0 && not (byteWaits (s .cpu .waiting)) && s .due .reset && not (s .due .nmi)
