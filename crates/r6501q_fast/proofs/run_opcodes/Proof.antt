@@ -348,7 +348,7 @@ next-start-requires : tie.Need-next-start-requires Inv-loop μ-loop
 next-start-requires c κs =
     let loop = c .before .before .before .before .before .before .before .before .before .loop in
     let root =
-    c .before .before .before .before .before .before .before .before .before .before .before .before .before in
+    c .before .before .before .before .before .before .before .before .before .before .before .before .before .before in
     start-fits (loop .w) (root .args .span .0)
     (starts-within (loop .on) (loop .w) (root .args .span .0) (c .before .before .before .before .before .if2 .taken))
     (root .pre .1 .0)
@@ -357,7 +357,8 @@ with-shared-requires : tie.Need-with-shared-requires Inv-loop μ-loop
 with-shared-requires c κs =
     let loop = c .before .before .before .before .before .before .before .before .before .before .loop in
     let root =
-    c .before .before .before .before .before .before .before .before .before .before .before .before .before .before in
+    c .before .before .before .before .before .before .before .before .before .before .before .before .before .before
+    .before in
     let at = root .args in
     let most = shared-most (at .halt) (at .span .0) (at .ticking)
     (c .before .before .before .before .before .before .before .before .before .before .before .same-work .result)

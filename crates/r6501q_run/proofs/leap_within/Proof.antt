@@ -15,11 +15,11 @@ use Rattle.r6501q_run.proofs.leap_within.Statement.{statement}
 use Rattle.r6501q_run.proofs.leap_within.Tie as tie
 
 abbrev Inv-loop : tie.InvT-loop
-Inv-loop at span memory₀ sums₀ inputclocks entries halt ticking v₀ shared₀ on₀ memory sums v shared on =
+Inv-loop at span memory₀ sums₀ inputclocks entries halt before ticking v₀ shared₀ on₀ memory sums v shared on =
     Within halt at inputclocks (span .0) memory₀ memory v shared × (sums ≡ sumsAfter sums₀ memory₀ memory)
 
 abbrev μ-loop : tie.MeasureT-loop
-μ-loop at span memory₀ sums₀ inputclocks entries halt ticking v₀ shared₀ on₀ memory sums v shared on =
+μ-loop at span memory₀ sums₀ inputclocks entries halt before ticking v₀ shared₀ on₀ memory sums v shared on =
     cond on (span .0 - v .work .gone .0 + 1) 0
 
 loop-holds : tie.Need-loop-holds Inv-loop μ-loop
@@ -99,7 +99,7 @@ loop-again c =
     (ticks-of (at .span .0) _ _ (ticking .result) (ticking .ensures) (loop .inv .0 .begun .short))
     (loop .memory) _ (loop .v) (loop .shared) _ (loop .inv .0) (done .ensures .0) in (
       next,
-      sums-then 0 (now (at .sums)) (now (at .memory)) (loop .memory) (done .last .1 .1 .1 .0) (loop .inv .1)
+      sums-then 0 (now (at .sums)) (now (at .memory)) (loop .memory) (done .last .1 .1 .1 .1 .0) (loop .inv .1)
           (done .ensures .1),
     )
 

@@ -8,8 +8,8 @@ use Rattle.r6501q_run.proofs.Ticked.{shares-at-most}
 use Rattle.r6501q_run.proofs.steps_on.Statement.{statement}
 use Rattle.r6501q_run.proofs.steps_on.Tie as tie
 
-add-t20 : tie.Need-add-t20
-add-t20 c =
+add-t21 : tie.Need-add-t21
+add-t21 c =
     let room =
     c .before .before .before .before .before .before .before .before .before .before .before .before .before .before
     .run-working .ensures .1 .0 in
@@ -41,9 +41,9 @@ returns c =
         room = ran .ensures .1 .0 .0;
         fewer = ran .ensures .1 .0 .1;
         kept = ran .kept .1 .1 .1 .0;
-        keeps = once .kept .1 .1 .0;
+        keeps = once .kept .1 .1 .1 .0;
       },
-      sums-then 0 (now (at .sums)) (now (at .memory)) (ran .last .1 .1 .1 .0) (once .last .1 .1 .0) (ran .ensures .1 .1)
+      sums-then 0 (now (at .sums)) (now (at .memory)) (ran .last .1 .1 .1 .0) (once .last .1 .1 .1 .0) (ran .ensures .1 .1)
           (once .ensures .1),
     )
 
@@ -56,7 +56,7 @@ steps-on-spec =
     (λ c κs.
     c .before .before .before .before .before .before .before .before .before .before .before .before .before .before
     .before .before .before .before .pre .1 .0 .1)
-    add-t20
+    add-t21
     (λ c. search needs)
     (λ c. search needs)
     returns)
