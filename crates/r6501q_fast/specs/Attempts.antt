@@ -49,11 +49,6 @@ use Rattle.r6501q_spans.specs.Spans.{endsSpan, putWork}
 use Rattle.r6501q_fast.specs.declared.Attempt.{Attempt}
 use Rattle.r6501q_fast.specs.declared.RanOn.{RanOn}
 
--- the next instruction starts within the span, and each leap took a clock at least
-pub record Starts (w : Work) (span : ℕ) : Type 0 where
-  pub gone : w .gone .0 + w .wait < span
-  pub leaps : w .leaps ≤ w .gone .0
-
 -- one instruction whole: one that leaves no byte waiting, its pushes in memory; or a store, on whose last clock, within
 -- the span too, its byte is put. Neither writes to a register or at the halt address.
 pub data Instructed (halt : Halt) (span : ℕ) (w : Work) (memory : List ℕ) : Work → List ℕ → Type 0 where
