@@ -105,8 +105,7 @@ storedWhole w r n = record { succeeded = true; work = putWork (nextWork w (worke
 abbrev pub asksFor : Place → Bool
 asksFor p = p .bus .missing || isRegister (p .address)
 
--- a store is left to the clock's own rules: at a register, at the halt address, or where its last clock lies behind the
--- span
+-- a store is left to `work_once`: at a register, at the halt address, or where its last clock lies behind the span
 abbrev pub storeLeft : Halt → ℕ → Work → Write → ℕ → Bool
 storeLeft halt span w x n = endsSpan halt (oneWrite x) || ltb (span - w .gone .0) (w .wait + n)
 

@@ -145,9 +145,9 @@ fn with_shared(ticking: Ticking, shared: u32, start: u32, succeeded: bool, gone:
     shared
 }
 
-// The instructions that start in a span, one after the other, up to the first that is left to the clock's own rules:
-// one that reads a register, writes to one or at the halt address, BRK, an undefined opcode, or a store whose last
-// clock lies behind the span. The match stands in the loop itself, so that the work stays in the host's registers; and
+// The instructions that start in a span, one after the other, up to the first that is left to `work_once`: one that
+// reads a register, writes to one or at the halt address, BRK, an undefined opcode, a store whose last clock lies behind
+// the span, or one whose bytes may be at a register's address. The match stands in the loop itself, so that the work stays in the host's registers; and
 // the memory's length is looked at before it, so that no access within asks again.
 pub fn run_opcodes(
     start: Work,

@@ -1,5 +1,5 @@
 // The opcodes by the rows of the code matrix (source document 001, A.3): an opcode's high digit chooses its row. Each
-// defined opcode but BRK is tried; any other is left to the clock's own rules.
+// defined opcode but BRK is tried; any other is left to `work_once`.
 ghost use mathlib.Core.Path.{_≡_};
 ghost use mathlib.Core.Bool.{false};
 ghost use Prim.Native.Nat.{_+_, _≤_, _<_};

@@ -1,4 +1,4 @@
--- An instruction of a span, and a byte put in it, is a leap of the run.
+-- A step of the CPU in a span is done, or nothing happens; after the leaps of a span the run ahead is the same.
 use mathlib.Core.Path.{_≡_, refl, sym}
 use mathlib.Core.Bool.{Bool, true, false, _&&_, not, cond}
 use mathlib.Core.List.{List, []}

@@ -49,7 +49,7 @@ tickedTo at v shared = record {
   leaps = at .leaps + (leapsTo at v - shared);
 }
 
--- what `tickedTo` asks
+-- what `spanned_to` asks
 pub record EndFits (at : Leaped) (v : Working) (shared : ℕ) : Type 0 where
   pub clock : at .progress .state .clock + v .work .gone .0 ≤ 4294967295
   pub left : v .work .gone .0 ≤ at .left .0

@@ -26,7 +26,8 @@ knownWork r w n = record { known = true; worked = record { registers = r; writin
 abbrev pub unknownWork : CpuRegisters → Direct
 unknownWork r = record { known = false; worked = record { registers = r; writing = Nothing; length = 1 } }
 
--- the three bytes from PC on lie in memory; they begin with the opcode of the entry, and with the register's address a
+-- the three bytes from PC on lie in memory; the first is the opcode of the entry, which takes 7 clocks at most, the
+-- second is a, a register's address
 pub record Encoded (r : CpuRegisters) (memory : List ℕ) (e : Entry) (a : ℕ) : Type 0 where
   pub first : isRegister (r .pc) ≡ false
   pub second : isRegister (nextAddress (r .pc)) ≡ false

@@ -59,8 +59,8 @@ endsSpan halt w = writesRegister w || halts halt w
 
 -- ---- reads of registers
 
--- a read of the register has no effect, and what it reads as stays in a span: neither the data received, 17h, nor the
--- counters, up to 1Eh
+-- a read of the register has no effect, and what it reads as stays in a span; left out are 17h to 1Eh: the data
+-- received, the counters, and 1Bh between them
 unfoldable pub steadyAt : ℕ → Bool
 steadyAt a = ltb a serialDataAddress || ltb startBAddress a
 

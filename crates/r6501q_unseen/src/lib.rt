@@ -73,7 +73,7 @@ fn before_b(p: Peripherals, room: Clocks) -> Clocks
 
 // How many of the next clocks are unseen, at most some. Any number of which that holds would be right: this one ends
 // before an underflow of B, before a tick that sets IFR4 or inverts PA4's latch, and before one at which a bit that is
-// sent, a start or a frame that is received ends.
+// sent, a start or a frame that is received ends, data is taken to be sent, or a bit is shifted.
 pub fn unseen_clocks(p: Peripherals, ports: u32, room: Clocks) -> Clocks
     ensures { λ r. ⌜ (r .0 ≤ room .0) × (r .0 ≤ 2147483647) × Unseen (r .0) ports p ⌝ }
 {
