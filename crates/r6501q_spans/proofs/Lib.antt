@@ -1,4 +1,2 @@
 pub mod Ends
-pub mod Steady
-pub mod Known
 pub mod Ticked

@@ -55,11 +55,13 @@ use Rattle.r6501q_unseen.specs.Unseen.{peripheralsClocks, ticksIn, SameSeen, Un
 use Rattle.r6501q_unseen.proofs.TickClocks.{peripherals-add}
 use Rattle.r6501q_unseen.proofs.Laws.{peripherals-one, none-ticks, unseen-left-b, peripherals-pass}
 use Rattle.r6501q_spans.specs.declared.Working.{Working}
-use Rattle.r6501q_spans.specs.Spans.{onlyCpu, noneWaiting, writesRegister, putWork, steadyAsk, steadyAnswer}
-use Rattle.r6501q_spans.specs.Spans.{answeredOnce, outcomeWithin, nextWorking}
+use Rattle.r6501q_spans.specs.Spans.{onlyCpu, noneWaiting, writesRegister, putWork}
+use Rattle.r6501q_span_reads.specs.Served.{steadyAsk, steadyAnswer}
+use Rattle.r6501q_span_reads.specs.Served.{answeredOnce, outcomeWithin}
+use Rattle.r6501q_spans.specs.Spans.{nextWorking}
 use Rattle.r6501q_spans.specs.Ticked.{AloneSeen, tickedState}
 use Rattle.r6501q_spans.proofs.Ends.{either-false}
-use Rattle.r6501q_spans.proofs.Steady.{isDone, steady-answer}
+use Rattle.r6501q_span_reads.proofs.Steady.{isDone, steady-answer}
 
 -- ---- no write at a register's address
 

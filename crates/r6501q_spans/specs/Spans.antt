@@ -1,15 +1,12 @@
 -- Spans: clocks in which nothing but the CPU does what can be seen.
 use mathlib.Core.Path.{_≡_}
 use mathlib.Core.Bool.{Bool, false, _&&_, _||_, not, cond}
-use mathlib.Core.List.{List, [], _∷_}
+use mathlib.Core.List.{List}
 use Prim.Native.Nat.{ℕ, _+_, _-_}
 use lib.Dec.{ltb, leb, eqb}
 use Rattle.cpu_alu.specs.Status.{packed, unpacked}
 use Rattle.r6501q_state.specs.declared.state.State.{State}
 use Rattle.r6501q_state.specs.Control.{pending}
-use Rattle.r6501q_registers.specs.Addresses.{serialDataAddress, startBAddress}
-use Rattle.r6501q_registers.specs.Read.{registerValue}
-use Rattle.cpu_access.specs.declared.CpuRegisters.{CpuRegisters}
 use Rattle.cpu_access.specs.declared.stack.Write.{Write}
 use Rattle.cpu_access.specs.declared.stack.Writes.{Writes}
 use Rattle.cpu_access.specs.declared.halt.Halt.{Halt}
@@ -20,15 +17,14 @@ use Rattle.cpu_access.specs.Halt.{halts}
 use Rattle.memory.specs.Memory.{isRegister}
 use Rattle.cpu_operations.specs.declared.Worked.{Worked}
 use Rattle.cpu_operations.specs.Effects.{pushesOf, waitingOf}
-use Rattle.cpu.specs.declared.Ask.{Ask}
 use Rattle.cpu.specs.declared.Outcome.{Outcome}
 use Rattle.cpu.specs.declared.Outcome.the-variants.{Stopped, Asked, Done}
 use Rattle.cpu.specs.declared.work.Work.{Work}
-use Rattle.cpu.specs.Instruction.{instructionOf}
 use Rattle.cpu.specs.Work.{nextWork}
 use Rattle.r6501q_cpu.specs.Processor.{registersOf}
 use Rattle.r6501q_gaps.specs.Gaps.{clocksOf}
 use Rattle.r6501q_clock.specs.Commit.{committed}
+use Rattle.r6501q_span_reads.specs.Served.{outcomeWithin}
 use Rattle.r6501q_spans.specs.declared.Working.{Working}
 
 -- RES is high, neither reset nor NMI is due, and no flag that is enabled is set; P is as the machine keeps it (01,
@@ -56,32 +52,6 @@ writesRegister w =
 -- a clock with these writes is left to the clock's own rules: one is at a register's or at the halt address
 unfoldable pub endsSpan : Halt → Writes → Bool
 endsSpan halt w = writesRegister w || halts halt w
-
--- ---- reads of registers
-
--- a read of the register has no effect, and what it reads as stays in a span; left out are 17h to 1Eh: the data
--- received, the counters, and 1Bh between them
-unfoldable pub steadyAt : ℕ → Bool
-steadyAt a = ltb a serialDataAddress || ltb startBAddress a
-
--- an instruction asks for such a register, and wrote nothing before
-unfoldable pub steadyAsk : Ask → Bool
-steadyAsk ask = eqb (ask .writes .count) 0 && steadyAt (ask .address)
-
--- what it reads as since the span's start
-abbrev pub steadyAnswer : State → Ask → ℕ
-steadyAnswer s ask = registerValue (s .peripherals) (s .last .ports) (ask .latch) (ask .address)
-
--- one such question is answered
-abbrev pub answeredOnce : State → CpuRegisters → List ℕ → Outcome → Outcome
-answeredOnce s r memory (Stopped number) = Stopped number
-answeredOnce s r memory (Asked ask) =
-    cond (steadyAsk ask) (instructionOf r (steadyAnswer s ask ∷ []) memory) (Asked ask)
-answeredOnce s r memory (Done worked) = Done worked
-
--- what the next instruction comes to in a span that began with the state s
-unfoldable pub outcomeWithin : State → CpuRegisters → List ℕ → Outcome
-outcomeWithin s r memory = answeredOnce s r memory (instructionOf r [] memory)
 
 -- ---- no byte waits: instructions
 

@@ -1,8 +1,5 @@
 // Spans: clocks in which nothing but the CPU does what can be seen. Each instruction that starts in a span is a leap of
 // its own; it is done on a small record, and the rest of the chip is brought up to date once, at the end.
-mod direct; // direct.rt: operands that are registers in the zero page
-mod served; // served.rt: instructions that read a register of the chip
-
 ghost use mathlib.Core.Path.{_≡_};
 ghost use Prim.Native.Nat.{_+_, _≤_, _<_};
 ghost use Rattle.page_sums.specs.PageSums.{sumsAfter};
@@ -11,7 +8,8 @@ ghost use Rattle.cpu.specs.Work.{WithinSpan};
 ghost use Rattle.r6501q_unseen.specs.Unseen.{Unseen};
 ghost use Rattle.r6501q_spans.specs.Spans.{onlyCpu, beginWork, noneWaiting, writesRegister, endsSpan};
 ghost use Rattle.r6501q_spans.specs.Spans.{continuedBy, committedBy, workAfter, memoryAfter, putWork, workPut};
-ghost use Rattle.r6501q_spans.specs.Spans.{memoryPut, WorkedOn, outcomeWithin, workBy, memoryBy, nextWorking};
+ghost use Rattle.r6501q_spans.specs.Spans.{memoryPut, WorkedOn, workBy, memoryBy, nextWorking};
+ghost use Rattle.r6501q_span_reads.specs.Served.{outcomeWithin};
 ghost use Rattle.r6501q_spans.specs.Ticked.{AloneSeen, tickedState};
 use counters::time::Clocks;
 use cpu::Outcome;
@@ -26,7 +24,6 @@ use cpu_access::waiting::Waiting;
 use cpu_operations::Worked;
 use cpu_operations::pushes_of;
 use cpu_operations::waiting_of;
-use direct::known_outcome;
 use memory::is_register;
 use r6501q_clock::commit::commit;
 use r6501q_cpu::cpu_of;
@@ -34,10 +31,11 @@ use r6501q_cpu::registers_of;
 use r6501q_gaps::distances::to_change;
 use r6501q_gaps::distances::to_input;
 use r6501q_gaps::nearer;
+use r6501q_span_reads::direct::known_outcome;
+use r6501q_span_reads::served::outcome_within;
 use r6501q_state::state::State;
 use r6501q_unseen::pass_unseen;
 use r6501q_unseen::unseen_clocks;
-use served::outcome_within;
 
 // The CPU at work in a span, and the byte that waits.
 pub struct Working {
