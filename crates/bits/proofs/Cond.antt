@@ -63,3 +63,7 @@ and-right false b e = absurd (false≢true e)
 
 pub and-both : (a b : Bool) → a ≡ true → b ≡ true → (a && b) ≡ true
 and-both a b e f = rw (e, f)
+
+pub either-false : (p q : Bool) → (p || q) ≡ false → (p ≡ false) × (q ≡ false)
+either-false true q e = absurd (false≢true (sym e))
+either-false false q e = (refl, e)

@@ -57,7 +57,8 @@ use Rattle.cpu.specs.Instruction.{writesAsked}
 use Rattle.cpu.specs.Work.{nextWork}
 use Rattle.r6501q_clock.specs.Commit.{putWrite, committed}
 use Rattle.r6501q_spans.specs.Spans.{endsSpan, writesRegister, putWork}
-use Rattle.r6501q_spans.proofs.Ends.{either-false, ends-not}
+use Rattle.bits.proofs.Cond.{either-false}
+use Rattle.r6501q_spans.proofs.Ends.{ends-not}
 use Rattle.r6501q_fast.specs.Attempts.{Instructed, pushing, storing, Tries, unchanged, whole, leftAsItWas}
 use Rattle.r6501q_fast.specs.Attempts.{workedOut, startedNext, storedWhole, asksFor, storeLeft, readTried}
 use Rattle.r6501q_fast.specs.Attempts.{storeTried, storeMemory, saveTried, saveMemory, changedAt, changeTried}

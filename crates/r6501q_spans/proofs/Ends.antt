@@ -4,7 +4,7 @@ use mathlib.Core.Bool.{Bool, true, false, _&&_, _||_, not, false≢true}
 use mathlib.Core.List.{List}
 use Prim.Native.Nat.{ℕ, _-_}
 use lib.Dec.{ltb, leb}
-use Rattle.bits.proofs.Cond.{and-both}
+use Rattle.bits.proofs.Cond.{and-both, either-false}
 use Rattle.cpu_access.specs.declared.stack.Write.{Write}
 use Rattle.cpu_access.specs.Stack.{noWrites, oneWrite}
 use Rattle.cpu_access.proofs.Told.{unwritten}
@@ -16,10 +16,6 @@ use Rattle.cpu_access.specs.declared.halt.Halt.{Halt}
 use Rattle.cpu_access.specs.Halt.{halts}
 use Rattle.r6501q_clock.specs.Commit.{putWrite, committed}
 use Rattle.r6501q_spans.specs.Spans.{writesRegister, endsSpan, nextWorking, continuedBy, committedBy, putsWithin}
-
-pub either-false : (p q : Bool) → (p || q) ≡ false → (p ≡ false) × (q ≡ false)
-either-false true q e = absurd (false≢true (sym e))
-either-false false q e = (refl, e)
 
 and-first : (a b : Bool) → a ≡ false → (a && b) ≡ false
 and-first a b e = rw e refl

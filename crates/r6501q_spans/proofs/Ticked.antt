@@ -60,7 +60,7 @@ use Rattle.r6501q_span_reads.specs.Served.{steadyAsk, steadyAnswer}
 use Rattle.r6501q_span_reads.specs.Served.{answeredOnce, outcomeWithin}
 use Rattle.r6501q_spans.specs.Spans.{nextWorking}
 use Rattle.r6501q_spans.specs.Ticked.{AloneSeen, tickedState}
-use Rattle.r6501q_spans.proofs.Ends.{either-false}
+use Rattle.bits.proofs.Cond.{either-false}
 use Rattle.r6501q_span_reads.proofs.Steady.{isDone, steady-answer}
 
 -- ---- no write at a register's address

@@ -10,7 +10,7 @@ use Rattle.page_sums.specs.PageSums.{SixteenBits, sumsAfter}
 use Rattle.page_sums.proofs.Sums.{sums-kept, sums-then, sums-length}
 use Rattle.bits.proofs.Cond.{and-left}
 use Rattle.cpu.specs.Work.{WithinSpan}
-use Rattle.r6501q_spans.proofs.Ends.{either-false}
+use Rattle.bits.proofs.Cond.{either-false}
 use Rattle.r6501q_fast.specs.Attempts.{Tries, ByInstructions, none}
 use Rattle.r6501q_fast.proofs.Instructions.{starts-within, try-within, try-goes, try-less, shared-most}
 use Rattle.r6501q_fast.proofs.Instructions.{start-fits}

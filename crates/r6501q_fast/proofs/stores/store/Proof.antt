@@ -7,7 +7,7 @@ use Rattle.r6501q_fast.proofs.Commits.{committed-one}
 use Rattle.r6501q_fast.proofs.stores.store.Statement.{statement}
 use Rattle.r6501q_fast.proofs.stores.store.Tie as tie
 use Rattle.r6501q_fast.specs.Attempts.{storeTried, storeMemory}
-use Rattle.r6501q_spans.proofs.Ends.{either-false}
+use Rattle.bits.proofs.Cond.{either-false}
 use borrow.Author.Needs.{needs}
 use borrow.Author.Tests.{ltb-false}
 use denote.Ref.{now}

@@ -2,7 +2,7 @@ use mathlib.Core.Path.{_≡_, refl, sym, _∙_}
 use mathlib.Core.Bool.{_||_, false≢true}
 use borrow.Author.Tests.{not-false}
 use Rattle.cpu_opcodes.proofs.Laws.{length-fits}
-use Rattle.r6501q_spans.proofs.Ends.{either-false}
+use Rattle.bits.proofs.Cond.{either-false}
 use borrow.Author.Needs.{needs}
 use Rattle.r6501q_span_reads.proofs.direct.known_outcome.Statement.{statement}
 use Rattle.r6501q_span_reads.proofs.direct.known_outcome.Tie as tie
