@@ -1,6 +1,6 @@
 -- Laws of choices by a test.
-use mathlib.Core.Path.{_≡_, refl}
-use mathlib.Core.Bool.{Bool, true, false, _&&_, not, cond, Bool·beq, false≢true}
+use mathlib.Core.Path.{_≡_, refl, sym}
+use mathlib.Core.Bool.{Bool, true, false, _&&_, _||_, not, cond, Bool·beq, false≢true}
 use Prim.Native.Nat.{_≤_, _+_}
 use lib.Dec.{T, lit≤}
 use Rattle.bits.specs.Bits.{digit}

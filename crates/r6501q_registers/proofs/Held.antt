@@ -6,7 +6,7 @@ use Prim.Native.Nat.{ℕ, _%_}
 use lib.Dec.{eqb}
 use Rattle.bits.specs.Bits.{flipWhere}
 use Rattle.counters.specs.Counters.{inForce}
-use Rattle.serial.specs.Format.{holdsA}
+use Rattle.serial_format.specs.Format.{holdsA}
 use Rattle.r6501q_state.specs.declared.state.Peripherals.{Peripherals}
 use Rattle.r6501q_state.specs.Control.{modeA}
 use Rattle.r6501q_registers.specs.Write.{startA}

@@ -5,9 +5,9 @@ use lib.Bits.{bitAnd}
 use lib.Dec.{eqb}
 use Rattle.bits.specs.Bits.{bit, withBit}
 use Rattle.counters.specs.Counters.{inForce}
-use Rattle.serial.specs.Status.{receiverFull, overrun, parityError, framingError, endOfTransmission, transmitterEmpty}
-use Rattle.serial.specs.Status.{underrun}
-use Rattle.serial.specs.Format.{holdsA}
+use Rattle.serial_format.specs.Status.{receiverFull, overrun, parityError, framingError, endOfTransmission, transmitterEmpty}
+use Rattle.serial_format.specs.Status.{underrun}
+use Rattle.serial_format.specs.Format.{holdsA}
 use Rattle.r6501q_state.specs.declared.state.Control.{Control}
 
 -- 01, Registers: "IFR6 is SCSR0 or 1 or 2 or 3."

@@ -5,7 +5,7 @@ use lib.Bits.{bitAnd}
 use Rattle.bits.specs.Bits.{bit, withBit, setWhere}
 use Rattle.cpu_access.specs.declared.waiting.Waiting.the-variants.{Nothing}
 use Rattle.serial.specs.declared.transmitter.Transmitter.{Transmitter}
-use Rattle.serial.specs.Format.{transmitterShifts}
+use Rattle.serial_format.specs.Format.{transmitterShifts}
 use Rattle.serial.specs.Transmitter.{line, shiftClock, idleTransmitter}
 use Rattle.serial.specs.Receiver.{idleReceiver}
 use Rattle.r6501q_state.specs.declared.state.Due.{Due}

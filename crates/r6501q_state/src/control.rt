@@ -3,14 +3,14 @@ ghost use mathlib.Core.Path.{_≡_};
 ghost use Rattle.r6501q_state.specs.Control.{receiverFlag, transmitterFlag, flagsOf, pending, modeInForce, modeB};
 use crate::state::Control;
 use counters::time::in_force;
-use serial::format::holds_counter;
-use serial::status::END_OF_TRANSMISSION_WEIGHT;
-use serial::status::FRAMING_ERROR_WEIGHT;
-use serial::status::OVERRUN_WEIGHT;
-use serial::status::PARITY_ERROR_WEIGHT;
-use serial::status::RECEIVER_FULL_WEIGHT;
-use serial::status::TRANSMITTER_EMPTY_WEIGHT;
-use serial::status::UNDERRUN_WEIGHT;
+use serial_format::holds_counter;
+use serial_format::status::END_OF_TRANSMISSION_WEIGHT;
+use serial_format::status::FRAMING_ERROR_WEIGHT;
+use serial_format::status::OVERRUN_WEIGHT;
+use serial_format::status::PARITY_ERROR_WEIGHT;
+use serial_format::status::RECEIVER_FULL_WEIGHT;
+use serial_format::status::TRANSMITTER_EMPTY_WEIGHT;
+use serial_format::status::UNDERRUN_WEIGHT;
 
 // IFR6.
 fn receiver_flag(scsr: u8) -> bool

@@ -9,8 +9,8 @@ use crate::state::State;
 use crate::state::fresh_control;
 use crate::state::fresh_ports;
 use cpu_access::waiting::Waiting;
-use serial::format::transmitter_on;
-use serial::format::transmitter_shifts;
+use serial_format::transmitter_on;
+use serial_format::transmitter_shifts;
 use serial::receiver::idle_receiver;
 use serial::transmitter::idle_transmitter;
 

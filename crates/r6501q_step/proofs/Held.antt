@@ -10,7 +10,7 @@ use borrow.Author.Tests.{ltb-true, ltb-false, lt-ltb, le-ltb, eqb-true, eqb-fals
 use Rattle.bits.specs.Bits.{digit, withBit, setWhere, flipWhere}
 use Rattle.pin_lists.specs.PinLists.{dueCount}
 use Rattle.counters.specs.Counters.{ticksOf, inForce, downA, countsA, clockA, runsA, reloadB, downB, clockB, runsB}
-use Rattle.serial.specs.Format.{transmitterAsynchronous, receiverAsynchronous, receiverShifting, holdsA}
+use Rattle.serial_format.specs.Format.{transmitterAsynchronous, receiverAsynchronous, receiverShifting, holdsA}
 use Rattle.serial.specs.Receiver.{receiverClock}
 use Rattle.serial.specs.Transmitter.{transmitterClock}
 use Rattle.cpu_access.specs.declared.halt.Halt.{Halt}

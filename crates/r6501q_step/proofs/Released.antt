@@ -19,7 +19,7 @@ use Rattle.r6501q_state.specs.declared.state.State.{State}
 use Rattle.r6501q_state.specs.State.{freshCpu, freshDue, freshPeripherals, freshLevels, highLevels, fresh, wellFormed}
 use Rattle.r6501q_state.specs.Inputs.{lastPin, resHigh, levelsAt, withInput}
 use Rattle.counters.specs.Counters.{ticksOf, inForce, downA, countsA, clockA, downB, clockB}
-use Rattle.serial.specs.Format.{transmitterAsynchronous, receiverAsynchronous, receiverShifting, holdsA}
+use Rattle.serial_format.specs.Format.{transmitterAsynchronous, receiverAsynchronous, receiverShifting, holdsA}
 use Rattle.serial.specs.Receiver.{receiverClock}
 use Rattle.serial.specs.Transmitter.{transmitterClock}
 use Rattle.cpu_access.specs.declared.halt.Halt.{Halt}

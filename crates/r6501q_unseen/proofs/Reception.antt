@@ -10,7 +10,7 @@ use Rattle.bits.specs.Bits.{bit, digit}
 use Rattle.bits.proofs.Cond.{digit-le, and-left, and-right}
 use Rattle.counters.specs.Counters.{ticksOf}
 use Rattle.serial.specs.declared.receiver.Receiver.{Receiver}
-use Rattle.serial.specs.Format.{receiverAsynchronous}
+use Rattle.serial_format.specs.Format.{receiverAsynchronous}
 use Rattle.serial.specs.Receiver.{receiving, atHalf, withLevel, startDetected, lookTaken, looked, receiveTick}
 use Rattle.serial.specs.Receiver.{receiverClock}
 use Rattle.r6501q_unseen.specs.Ticks.{unseenLooks, unseenListens, withLevels, waitedLooks, lookedFor, heardAfter}

@@ -9,7 +9,7 @@ use borrow.Author.Tests.{lt-ltb, ne-eqb}
 use Rattle.bits.specs.Bits.{bit, withBit}
 use Rattle.counters.specs.Counters.{ticksOf}
 use Rattle.serial.specs.declared.transmitter.Transmitter.{Transmitter}
-use Rattle.serial.specs.Format.{pace}
+use Rattle.serial_format.specs.Format.{pace}
 use Rattle.serial.specs.Transmitter.{sending, idleTick, nextPhase, ticked, bitTick, sendTick, transmitterClock, line}
 use Rattle.serial.specs.Transmitter.{shiftClock}
 use Rattle.r6501q_state.specs.Pins.{withShiftClock}

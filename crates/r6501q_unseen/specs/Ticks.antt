@@ -8,8 +8,8 @@ use Rattle.counters.specs.declared.a.CounterA.{CounterA}
 use Rattle.counters.specs.Counters.{atA}
 use Rattle.serial.specs.declared.transmitter.Transmitter.{Transmitter}
 use Rattle.serial.specs.declared.receiver.Receiver.{Receiver}
-use Rattle.serial.specs.Format.{transmitterShifts, receiverAsynchronous}
-use Rattle.serial.specs.Status.{transmitterEmpty}
+use Rattle.serial_format.specs.Format.{transmitterShifts, receiverAsynchronous}
+use Rattle.serial_format.specs.Status.{transmitterEmpty}
 use Rattle.serial.specs.Receiver.{withLevel}
 use Rattle.r6501q_state.specs.declared.state.Control.{Control}
 use Rattle.r6501q_state.specs.declared.state.Peripherals.{Peripherals}

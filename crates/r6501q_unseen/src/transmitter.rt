@@ -4,9 +4,9 @@ ghost use mathlib.Core.Bool.{true};
 ghost use Prim.Native.Nat.{_-_, _≤_};
 ghost use Rattle.r6501q_unseen.specs.Ticks.{mostTicks, unseenSends, sends, sentAfter};
 use crate::receiver::MOST_TICKS;
-use serial::format::transmitter_on;
-use serial::format::transmitter_shifts;
-use serial::status::TRANSMITTER_EMPTY_WEIGHT;
+use serial_format::transmitter_on;
+use serial_format::transmitter_shifts;
+use serial_format::status::TRANSMITTER_EMPTY_WEIGHT;
 use serial::transmitter::Transmitter;
 
 // Ticks that cannot be seen: before a bit ends, or all where no bit is left and no data waits.

@@ -10,7 +10,8 @@ use Rattle.counters.specs.Counters.{clockA, countsA, downA, ticksOf, inForce}
 use Rattle.serial.specs.declared.transmitter.Sending.{Sending}
 use Rattle.serial.specs.declared.receiver.Receiver.{Receiver}
 use Rattle.serial.specs.declared.receiver.Receiving.{Receiving}
-use Rattle.serial.specs.Format.{receiverAsynchronous, receiverShifting, holdsA, frameBits, sentBits, pace}
+use Rattle.serial_format.specs.Format.{receiverAsynchronous, receiverShifting, holdsA, frameBits, pace}
+use Rattle.serial.specs.Transmitter.{sentBits}
 use Rattle.serial.specs.Transmitter.{sending, transmitterClock, sendTick, idleTick, nextPhase, ticked, bitTick}
 use Rattle.serial.specs.Transmitter.{frameEnd, taken, framed, line, shiftClock, idleTransmitter}
 use Rattle.serial.specs.Receiver.{receiverClock, receiveTick, looked, startDetected, receiving, idleReceiver}

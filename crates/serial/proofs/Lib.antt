@@ -1,4 +1,4 @@
-pub mod Frames
+pub mod ReceivedParity
 pub mod Ranges
 pub mod TakenInTurn
 pub mod PutInTurn

@@ -16,7 +16,7 @@ use Rattle.bits.proofs.Cond.{digit-le}
 use Rattle.bits.proofs.Numbers.{number-append, number-lt}
 use Rattle.serial.specs.declared.receiver.Receiver.{Receiver}
 use Rattle.serial.specs.declared.receiver.Receiving.{Receiving}
-use Rattle.serial.specs.Format.{width, hasParity}
+use Rattle.serial_format.specs.Format.{width, hasParity}
 use Rattle.serial.specs.Receiver.{receiving, withLevel, keptWith, statusAfter, receivedByte, frameEnded}
 use Rattle.serial.specs.Receiver.{lookTaken, looked, receiveTick, shiftedAtRise, byteEnded, receiveRise}
 

@@ -18,15 +18,16 @@ use Rattle.serial.specs.declared.transmitter.Transmitter.{Transmitter}
 use Rattle.serial.specs.declared.transmitter.Sending.{Sending}
 use Rattle.serial.specs.declared.receiver.Receiver.{Receiver}
 use Rattle.serial.specs.declared.receiver.Receiving.{Receiving}
-use Rattle.serial.specs.Format.{transmitterShifts, receiverAsynchronous, receiverShifting, keepsTransmitter}
-use Rattle.serial.specs.Format.{keepsReceiver, width, hasParity, frameBits, sentBits, pace}
+use Rattle.serial_format.specs.Format.{transmitterShifts, receiverAsynchronous, receiverShifting, keepsTransmitter}
+use Rattle.serial_format.specs.Format.{keepsReceiver, width, hasParity, frameBits, pace}
+use Rattle.serial.specs.Transmitter.{sentBits}
 use Rattle.serial.specs.Transmitter.{transmitterFits, sending, framed, taken, idleTick, frameEnd, nextPhase}
 use Rattle.serial.specs.Transmitter.{ticked, bitTick, sendTick, transmitterClock, raised, shiftedDown}
 use Rattle.serial.specs.Transmitter.{transmitterWithSccr, idleTransmitter}
 use Rattle.serial.specs.Receiver.{receiverFits, receiving, atSub, atHalf, started, shiftedIn, startDetected}
 use Rattle.serial.specs.Receiver.{withLevel, keptWith, frameEnded, lookTaken, looked, receiveTick, shiftedAtRise}
 use Rattle.serial.specs.Receiver.{byteEnded, receiveRise, receiverClock, receiverWithSccr, idleReceiver}
-use Rattle.serial.proofs.Frames.{frame-length}
+use Rattle.serial_format.proofs.Frames.{frame-length}
 
 -- the ranges as facts
 pub record InTransmitter (t : Transmitter) : Type 0 where

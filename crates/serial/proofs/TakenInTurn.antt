@@ -15,7 +15,8 @@ use Rattle.bits.specs.Lists.{bitsOf, number}
 use Rattle.bits.proofs.Cond.{digit-le}
 use Rattle.serial.specs.declared.transmitter.Transmitter.{Transmitter}
 use Rattle.serial.specs.declared.transmitter.Sending.{Sending}
-use Rattle.serial.specs.Format.{transmitterShifts, frameBits, sentBits, paceIn, pace}
+use Rattle.serial_format.specs.Format.{transmitterShifts, frameBits, paceIn, pace}
+use Rattle.serial.specs.Transmitter.{sentBits}
 use Rattle.serial.specs.Transmitter.{sending, framed, taken, frameEnd, nextPhase, ticked, bitTick, sendTick, line}
 use Rattle.serial.specs.Transmitter.{shiftClock}
 

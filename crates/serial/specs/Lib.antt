@@ -1,4 +1,2 @@
-pub mod Format
 pub mod Transmitter
 pub mod Receiver
-pub mod Status

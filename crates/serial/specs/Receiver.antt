@@ -6,9 +6,9 @@ use Rattle.bits.specs.Bits.{bit, digit, setWhere}
 use Rattle.counters.specs.declared.time.Ticks.{Ticks}
 use Rattle.serial.specs.declared.receiver.Receiver.{Receiver}
 use Rattle.serial.specs.declared.receiver.Receiving.{Receiving}
-use Rattle.serial.specs.Status.{receiverFull, overrun, parityError, framingError}
-use Rattle.serial.specs.Format.{receiverAsynchronous, receiverShifting, keepsReceiver, width, hasParity}
-use Rattle.serial.specs.Format.{parityBit, dataBits}
+use Rattle.serial_format.specs.Status.{receiverFull, overrun, parityError, framingError}
+use Rattle.serial_format.specs.Format.{receiverAsynchronous, receiverShifting, keepsReceiver, width, hasParity}
+use Rattle.serial_format.specs.Format.{parityBit, dataBits}
 
 abbrev pub receiving : Receiver → ℕ → ℕ → Receiving
 receiving r scsr received = record { receiver = r; scsr = scsr; received = received }

@@ -1,15 +1,20 @@
 -- 01, Serial channel: the transmitter; 02, U1: in shift-register mode.
 use mathlib.Core.Bool.{Bool, true, false, _&&_, _||_, not, cond}
+use mathlib.Core.List.{List}
 use Prim.Native.Nat.{ℕ, _+_, _-_, _/_, _%_}
 use lib.Dec.{leb, ltb, eqb}
 use lib.ListN.{length}
 use Rattle.bits.specs.Bits.{bit, withBit}
-use Rattle.bits.specs.Lists.{number}
+use Rattle.bits.specs.Lists.{bitsOf, number}
 use Rattle.counters.specs.declared.time.Ticks.{Ticks}
 use Rattle.serial.specs.declared.transmitter.Transmitter.{Transmitter}
 use Rattle.serial.specs.declared.transmitter.Sending.{Sending}
-use Rattle.serial.specs.Status.{transmitterEmpty, underrun}
-use Rattle.serial.specs.Format.{keepsTransmitter, sentBits, pace}
+use Rattle.serial_format.specs.Status.{transmitterEmpty, underrun}
+use Rattle.serial_format.specs.Format.{transmitterShifts, keepsTransmitter, frameBits, pace}
+
+-- what the transmitter sends of a byte; 02, U1, in shift-register mode: "its frame the byte alone"
+unfoldable pub sentBits : ℕ → ℕ → List Bool
+sentBits sccr byte = cond (transmitterShifts sccr) (bitsOf 8 byte) (frameBits sccr byte)
 
 abbrev pub sending : Transmitter → ℕ → Sending
 sending t scsr = record { transmitter = t; scsr = scsr }

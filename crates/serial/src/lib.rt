@@ -1,12 +1,6 @@
 // The serial channel. A tick is an underflow of counter A, and moves the transmitter in either mode and the
 // asynchronous receiver; the shifting receiver goes by rises of PA4. A half that is off does not move.
 
-// What SCCR says: which half is on, the width, the parity.
-pub mod format;
-
-// What SCSR says: its bits.
-pub mod status;
-
 // The transmitter.
 pub mod transmitter;
 

@@ -1,5 +1,5 @@
 use native.Mathlib.Omega.{arith}
-use Rattle.serial.proofs.Frames.{span-pos, span-le, data-lt}
+use Rattle.serial_format.proofs.Frames.{span-pos, span-le, data-lt}
 use Rattle.serial.specs.Receiver.{receivedByte}
 use borrow.Author.Needs.{needs}
 use Rattle.serial.proofs.receiver.byte_of.Statement.{statement}

@@ -1,4 +1,4 @@
-use Rattle.serial.proofs.Frames.{parity-byte}
+use Rattle.serial.proofs.ReceivedParity.{parity-byte}
 use Rattle.serial.specs.Receiver.{wrongParity}
 use borrow.Author.Needs.{needs}
 use Rattle.serial.proofs.receiver.parity_is_wrong.Statement.{statement}

@@ -1,5 +1,5 @@
-use Rattle.serial.proofs.Frames.{number-byte}
-use Rattle.serial.specs.Format.{sentBits}
+use Rattle.serial_format.proofs.Frames.{number-byte}
+use Rattle.serial.specs.Transmitter.{sentBits}
 use mathlib.Core.Path.{refl}
 use Rattle.serial.specs.Transmitter.{framed}
 use borrow.Author.Needs.{needs}

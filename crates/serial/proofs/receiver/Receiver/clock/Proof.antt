@@ -4,7 +4,7 @@ use Prim.Native.Nat.{ℕ}
 use lib.Dec.{eqb}
 use Rattle.counters.specs.declared.time.Ticks.{Ticks}
 use Rattle.serial.specs.declared.receiver.Receiver.{Receiver}
-use Rattle.serial.specs.Format.{receiverAsynchronous, receiverShifting}
+use Rattle.serial_format.specs.Format.{receiverAsynchronous, receiverShifting}
 use Rattle.serial.specs.Receiver.{receiveRise}
 use Rattle.serial.specs.Receiver.{receiverClock}
 use borrow.Author.Needs.{needs}
