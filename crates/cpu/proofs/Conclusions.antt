@@ -21,11 +21,11 @@ use Rattle.cpu_access.specs.Stack.{writeAt}
 use Rattle.cpu_access.specs.Waiting.{byteWaits}
 use Rattle.cpu_access.specs.Accesses.{Accesses, ends, reads, writes, _>>=_, RegisterFile, performed}
 use Rattle.cpu_access.specs.Operands.{Located, located, branchTarget}
-use Rattle.cpu_operations.proofs.Flags.{Kept, same-kept, read-keeps, change-keeps, pulled-keeps, register-keeps}
-use Rattle.cpu_operations.proofs.Flags.{flag-keeps}
+use Rattle.cpu_kinds.proofs.Flags.{Kept, same-kept, read-keeps, change-keeps, pulled-keeps, register-keeps}
+use Rattle.cpu_kinds.proofs.Flags.{flag-keeps}
 use Rattle.cpu_operations.proofs.Stores.{stores}
-use Rattle.cpu_operations.specs.Updates.{withPc}
-use Rattle.cpu_operations.specs.Kinds.{branchTaken, bitBranchTaken}
+use Rattle.cpu_kinds.specs.Updates.{withPc}
+use Rattle.cpu_kinds.specs.Kinds.{branchTaken, bitBranchTaken}
 use Rattle.cpu_access.specs.Bus.{nextAddress}
 use Rattle.cpu.specs.Sequence.{Conclusion, completion, storeAt, modifyAccesses, branchOn, bitBranchAccesses}
 use Rattle.cpu.specs.Sequence.{jumpTo, pushAccesses, pullAccesses, returnAccesses, interruptReturnAccesses}

@@ -32,14 +32,14 @@ use Rattle.cpu_access.proofs.Accesses.{readsOfMode, read-keeps, fetch-keeps, re
 use Rattle.cpu_access.proofs.Asks.{AsksRegister, idle-asks-register, register-more, register-asks, Answered, Within}
 use Rattle.cpu_access.proofs.Asks.{idle-answered, answered-more, answered-asks}
 use Rattle.cpu.specs.declared.Ask.{Ask}
-use Rattle.cpu_operations.specs.declared.Worked.{Worked}
-use Rattle.cpu_operations.specs.declared.Writing.the-variants.{Pushed, Stored}
+use Rattle.cpu_effects.specs.declared.Worked.{Worked}
+use Rattle.cpu_effects.specs.declared.Writing.the-variants.{Pushed, Stored}
 use Rattle.cpu.specs.declared.Outcome.{Outcome}
 use Rattle.cpu.specs.declared.Outcome.the-variants.{Stopped, Asked, Done}
-use Rattle.cpu_operations.specs.declared.Executed.{Executed}
+use Rattle.cpu_effects.specs.declared.Executed.{Executed}
 use Rattle.cpu_operations.specs.declared.Access.{Access}
 use Rattle.cpu_operations.specs.declared.Access.the-variants.{Nothing, Read, Modify, Call}
-use Rattle.cpu_operations.specs.Effects.{withPc, pushesOf}
+use Rattle.cpu_effects.specs.Effects.{withPc, pushesOf}
 use Rattle.cpu_operations.specs.Operations.{accessOf, isCall}
 use Rattle.cpu.specs.Instruction.{askWith, outcomeOf, operandByte, operandOf, carriedOut, writesAsked, callTo}
 use Rattle.cpu.specs.Instruction.{subroutineCall, executeOf, decodedTo, instructionOf}

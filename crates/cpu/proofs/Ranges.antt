@@ -59,16 +59,16 @@ use Rattle.cpu_access.specs.Stack.{readAfter}
 use Rattle.cpu_access.specs.Modes.{zeroPageIndexed, zeroPagePointer, secondAddress, indexedBy, relativeTo, locateOf}
 use Rattle.cpu_operations.specs.declared.Access.{Access}
 use Rattle.cpu_operations.specs.declared.Access.the-variants.{Nothing, Read, Modify, Call}
-use Rattle.cpu_operations.specs.declared.Worked.{Worked}
-use Rattle.cpu_operations.specs.declared.Writing.{Writing}
-use Rattle.cpu_operations.specs.declared.Writing.the-variants as writing
-use Rattle.cpu_operations.specs.declared.Operand.{Operand}
-use Rattle.cpu_operations.specs.declared.Executed.{Executed}
-use Rattle.cpu_operations.specs.Effects.{withPc, withSp, withStatus, intoA, intoX, intoY, loadA, loadX, loadY, readOnly}
-use Rattle.cpu_operations.specs.Effects.{completed, stored, modified, branched, branchOperand, bitBranched, jumped}
-use Rattle.cpu_operations.specs.Effects.{pushedByte, pulledByte, returned, returnedFromInterrupt, interrupted}
-use Rattle.cpu_operations.specs.Effects.{breakTaken}
-use Rattle.cpu_operations.specs.Kinds.{withRead, changedBy, byteToStore, byteToPush, withPulled, withRegister}
+use Rattle.cpu_effects.specs.declared.Worked.{Worked}
+use Rattle.cpu_effects.specs.declared.Writing.{Writing}
+use Rattle.cpu_effects.specs.declared.Writing.the-variants as writing
+use Rattle.cpu_effects.specs.declared.Operand.{Operand}
+use Rattle.cpu_effects.specs.declared.Executed.{Executed}
+use Rattle.cpu_effects.specs.Effects.{withPc, withSp, withStatus, intoA, intoX, intoY, loadA, loadX, loadY, readOnly}
+use Rattle.cpu_effects.specs.Effects.{completed, stored, modified, branched, branchOperand, bitBranched, jumped}
+use Rattle.cpu_effects.specs.Effects.{pushedByte, pulledByte, returned, returnedFromInterrupt, interrupted}
+use Rattle.cpu_effects.specs.Effects.{breakTaken}
+use Rattle.cpu_kinds.specs.Kinds.{withRead, changedBy, byteToStore, byteToPush, withPulled, withRegister}
 use Rattle.cpu_operations.specs.Operations.{accessOf, isCall, operateOf}
 use Rattle.cpu.specs.declared.Outcome.{Outcome}
 use Rattle.cpu.specs.declared.Outcome.the-variants.{Stopped, Asked, Done}

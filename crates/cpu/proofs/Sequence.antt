@@ -40,17 +40,17 @@ use Rattle.cpu_access.specs.Operands.{Located, located}
 use Rattle.cpu_access.proofs.Asked.{Reply, asks, over, asked, onwards, onwards-idle}
 use Rattle.cpu_access.proofs.Follows.{then-then, locatedAt, read-on, read-after-on, fetch-on, pull-on, pull-address-on}
 use Rattle.cpu_access.proofs.Follows.{locate-on}
-use Rattle.cpu_operations.specs.declared.Worked.{Worked}
-use Rattle.cpu_operations.specs.declared.Operand.{Operand}
-use Rattle.cpu_operations.specs.declared.Executed.{Executed}
-use Rattle.cpu_operations.specs.declared.Writing.{Writing}
-use Rattle.cpu_operations.specs.declared.Writing.the-variants as writing
-use Rattle.cpu_operations.specs.Updates.{withSp, withPc, withStatus, intoA}
-use Rattle.cpu_operations.specs.Kinds.{withRead, changedBy, byteToStore, branchTaken, bitBranchTaken, byteToPush}
-use Rattle.cpu_operations.specs.Kinds.{withPulled, withRegister, withFlag}
-use Rattle.cpu_operations.specs.Effects.{pushesOf, waitingOf, executed, readOnly, completed, stored, modified, branched}
-use Rattle.cpu_operations.specs.Effects.{branchOperand, bitBranched, jumped, pushedByte, pulledByte, returned}
-use Rattle.cpu_operations.specs.Effects.{returnedFromInterrupt, interrupted, breakTaken}
+use Rattle.cpu_effects.specs.declared.Worked.{Worked}
+use Rattle.cpu_effects.specs.declared.Operand.{Operand}
+use Rattle.cpu_effects.specs.declared.Executed.{Executed}
+use Rattle.cpu_effects.specs.declared.Writing.{Writing}
+use Rattle.cpu_effects.specs.declared.Writing.the-variants as writing
+use Rattle.cpu_kinds.specs.Updates.{withSp, withPc, withStatus, intoA}
+use Rattle.cpu_kinds.specs.Kinds.{withRead, changedBy, byteToStore, branchTaken, bitBranchTaken, byteToPush}
+use Rattle.cpu_kinds.specs.Kinds.{withPulled, withRegister, withFlag}
+use Rattle.cpu_effects.specs.Effects.{pushesOf, waitingOf, executed, readOnly, completed, stored, modified, branched}
+use Rattle.cpu_effects.specs.Effects.{branchOperand, bitBranched, jumped, pushedByte, pulledByte, returned}
+use Rattle.cpu_effects.specs.Effects.{returnedFromInterrupt, interrupted, breakTaken}
 use Rattle.cpu_operations.specs.Operations.{accessOf, operateOf}
 use Rattle.cpu.specs.declared.Ask.{Ask}
 use Rattle.cpu.specs.declared.Outcome.{Outcome}

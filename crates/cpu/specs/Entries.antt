@@ -6,9 +6,9 @@ use Prim.Native.Nat.{ℕ}
 use Rattle.cpu_alu.specs.Status.{pushed, withI}
 use Rattle.cpu_access.specs.declared.CpuRegisters.{CpuRegisters}
 use Rattle.cpu_access.specs.Bus.{resetVector, vectorOf}
-use Rattle.cpu_operations.specs.declared.Worked.{Worked}
-use Rattle.cpu_operations.specs.declared.Writing.the-variants.{Nothing}
-use Rattle.cpu_operations.specs.Effects.{withPc, withStatus, interrupted}
+use Rattle.cpu_effects.specs.declared.Worked.{Worked}
+use Rattle.cpu_effects.specs.declared.Writing.the-variants.{Nothing}
+use Rattle.cpu_effects.specs.Effects.{withPc, withStatus, interrupted}
 
 -- "reset pushes nothing and keeps SP"
 unfoldable pub resetEntry : List ℕ → CpuRegisters → Worked

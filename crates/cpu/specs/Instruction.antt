@@ -22,12 +22,12 @@ use Rattle.cpu.specs.declared.Ask.{Ask}
 use Rattle.cpu.specs.declared.Outcome.{Outcome}
 use Rattle.cpu.specs.declared.Outcome.the-variants.{Stopped, Asked, Done}
 use Rattle.cpu.specs.Sequence.{undefinedStop}
-use Rattle.cpu_operations.specs.declared.Writing.the-variants.{Pushed}
-use Rattle.cpu_operations.specs.declared.Operand.{Operand}
-use Rattle.cpu_operations.specs.declared.Executed.{Executed}
+use Rattle.cpu_effects.specs.declared.Writing.the-variants.{Pushed}
+use Rattle.cpu_effects.specs.declared.Operand.{Operand}
+use Rattle.cpu_effects.specs.declared.Executed.{Executed}
 use Rattle.cpu_operations.specs.declared.Access.{Access}
 use Rattle.cpu_operations.specs.declared.Access.the-variants.{Nothing, Read, Modify, Call}
-use Rattle.cpu_operations.specs.Effects.{withSp, withPc, executed}
+use Rattle.cpu_effects.specs.Effects.{withSp, withPc, executed}
 use Rattle.cpu_operations.specs.Operations.{accessOf, isCall, operateOf}
 
 -- what is asked, with the writes that were made before

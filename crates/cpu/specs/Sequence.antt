@@ -20,9 +20,9 @@ use Rattle.cpu_access.specs.Bus.{nextAddress, resetVector, irqVector}
 use Rattle.cpu_access.specs.Stack.{writeAt, stackAddress, down, up}
 use Rattle.cpu_access.specs.Accesses.{Accesses, ends, reads, writes, _>>=_, _>>_, byteAt, latchAt, addressAt, push}
 use Rattle.cpu_access.specs.Operands.{Located, located, branchTarget}
-use Rattle.cpu_operations.specs.Updates.{withSp, withPc, withStatus, intoA}
-use Rattle.cpu_operations.specs.Kinds.{withRead, changedBy, byteToStore, branchTaken, bitBranchTaken, byteToPush}
-use Rattle.cpu_operations.specs.Kinds.{withPulled, withRegister, withFlag}
+use Rattle.cpu_kinds.specs.Updates.{withSp, withPc, withStatus, intoA}
+use Rattle.cpu_kinds.specs.Kinds.{withRead, changedBy, byteToStore, branchTaken, bitBranchTaken, byteToPush}
+use Rattle.cpu_kinds.specs.Kinds.{withPulled, withRegister, withFlag}
 
 -- what an instruction or an entry ends with: the registers, the byte of its store, which waits for the last clock, and
 -- the clocks that it takes

@@ -3,11 +3,11 @@ ghost use mathlib.Core.Path.{_≡_};
 ghost use Rattle.cpu.specs.Entries.{resetEntry, interruptEntry};
 use cpu_access::CpuRegisters;
 use cpu_access::RESET_VECTOR;
-use cpu_operations::Worked;
-use cpu_operations::Writing;
-use cpu_operations::effects::interrupted;
-use cpu_operations::updates::with_pc;
-use cpu_operations::updates::with_status;
+use cpu_effects::Worked;
+use cpu_effects::Writing;
+use cpu_effects::effects::interrupted;
+use cpu_kinds::updates::with_pc;
+use cpu_kinds::updates::with_status;
 
 // Reset pushes nothing and keeps SP.
 pub fn reset_entry(memory: &[u8], registers: CpuRegisters) -> Worked

@@ -16,12 +16,12 @@ use cpu_access::stack::no_writes;
 use cpu_opcodes::Decoded;
 use cpu_opcodes::Entry;
 use cpu_operations::Access;
-use cpu_operations::Executed;
-use cpu_operations::Operand;
-use cpu_operations::Worked;
-use cpu_operations::Writing;
-use cpu_operations::effects;
-use cpu_operations::updates;
+use cpu_effects::Executed;
+use cpu_effects::Operand;
+use cpu_effects::Worked;
+use cpu_effects::Writing;
+use cpu_effects::effects;
+use cpu_kinds::updates;
 
 pub mod entries; // entries.rt: reset, NMI and IRQ
 pub mod work; // work.rt: instructions one after the other

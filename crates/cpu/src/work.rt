@@ -9,8 +9,8 @@ use crate::Outcome;
 use crate::instruction;
 use counters::time::Clocks;
 use cpu_access::CpuRegisters;
-use cpu_operations::Worked;
-use cpu_operations::writes_nothing;
+use cpu_effects::Worked;
+use cpu_effects::writes_nothing;
 
 // The CPU at work in a span: its registers, the clocks that its last instruction still takes, the clocks gone since the
 // span began, and the leaps done in it.

@@ -1,3 +1,2 @@
 pub mod Sound
-pub mod Flags
 pub mod Stores

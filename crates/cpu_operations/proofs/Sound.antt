@@ -19,12 +19,12 @@ use Rattle.memory.specs.Memory.{isRegister}
 use Rattle.cpu_access.specs.Stack.{pushInterrupt, pullOf}
 use Rattle.cpu_access.specs.Modes.{relativeTo}
 use Rattle.cpu_access.proofs.Accesses.{fetch-keeps, pull-keeps, pull-address-keeps, relative-keeps}
-use Rattle.cpu_operations.specs.declared.Operand.{Operand}
-use Rattle.cpu_operations.specs.declared.Executed.{Executed}
-use Rattle.cpu_operations.specs.Effects.{withPc, withStatus, intoA, readOnly, completed, stored, modified}
-use Rattle.cpu_operations.specs.Effects.{branched}
-use Rattle.cpu_operations.specs.Effects.{branchOperand, bitBranched, jumped, pushedByte, pulledByte, returned}
-use Rattle.cpu_operations.specs.Effects.{returnedFromInterrupt, interrupted, breakTaken, pushesOf}
+use Rattle.cpu_effects.specs.declared.Operand.{Operand}
+use Rattle.cpu_effects.specs.declared.Executed.{Executed}
+use Rattle.cpu_effects.specs.Effects.{withPc, withStatus, intoA, readOnly, completed, stored, modified}
+use Rattle.cpu_effects.specs.Effects.{branched}
+use Rattle.cpu_effects.specs.Effects.{branchOperand, bitBranched, jumped, pushedByte, pulledByte, returned}
+use Rattle.cpu_effects.specs.Effects.{returnedFromInterrupt, interrupted, breakTaken, pushesOf}
 use Rattle.cpu_operations.specs.Operations.{operateOf}
 
 -- the reads so far, with those of an operation, and the clocks that it may add to its entry's length

@@ -19,16 +19,16 @@ use Rattle.cpu_access.specs.Bus.{fetchOf}
 use Rattle.cpu_access.specs.Modes.{relativeTo}
 use Rattle.cpu_operations.specs.declared.Access.{Access}
 use Rattle.cpu_operations.specs.declared.Access.the-variants as access
-use Rattle.cpu_operations.specs.declared.Operand.{Operand}
-use Rattle.cpu_operations.specs.declared.Worked.{Worked}
-use Rattle.cpu_operations.specs.declared.Writing.{Writing}
-use Rattle.cpu_operations.specs.declared.Writing.the-variants.{Nothing, Pushed, Stored}
-use Rattle.cpu_operations.specs.Updates.{withPc}
-use Rattle.cpu_operations.specs.Effects.{completed, stored, modified, branched, branchOperand, bitBranched}
-use Rattle.cpu_operations.specs.Effects.{jumped, pushedByte, pulledByte, returned, returnedFromInterrupt}
-use Rattle.cpu_operations.specs.Effects.{interrupted, breakTaken}
+use Rattle.cpu_effects.specs.declared.Operand.{Operand}
+use Rattle.cpu_effects.specs.declared.Worked.{Worked}
+use Rattle.cpu_effects.specs.declared.Writing.{Writing}
+use Rattle.cpu_effects.specs.declared.Writing.the-variants.{Nothing, Pushed, Stored}
+use Rattle.cpu_kinds.specs.Updates.{withPc}
+use Rattle.cpu_effects.specs.Effects.{completed, stored, modified, branched, branchOperand, bitBranched}
+use Rattle.cpu_effects.specs.Effects.{jumped, pushedByte, pulledByte, returned, returnedFromInterrupt}
+use Rattle.cpu_effects.specs.Effects.{interrupted, breakTaken}
 use Rattle.cpu_operations.specs.Operations.{accessOf, operateOf}
-use Rattle.cpu_operations.proofs.Flags.{listed}
+use Rattle.cpu_kinds.proofs.Flags.{listed}
 
 -- 001, 4.1: "Read/Modify/Write instructions are: ASL, DEC, INC, LSR, RMB, ROL, ROR, and SMB."
 abbrev pub readModifyWrite : List Operation

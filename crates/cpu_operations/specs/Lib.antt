@@ -1,4 +1,1 @@
-pub mod Updates
-pub mod Kinds
-pub mod Effects
 pub mod Operations

@@ -5,15 +5,15 @@ use Prim.Native.Nat.{ℕ}
 use Rattle.cpu_opcodes.specs.declared.operation.Operation.{Operation}
 use Rattle.cpu_opcodes.specs.declared.operation.Operation.the-variants as operation
 use Rattle.cpu_access.specs.declared.CpuRegisters.{CpuRegisters}
-use Rattle.cpu_operations.specs.declared.Operand.{Operand}
-use Rattle.cpu_operations.specs.declared.Executed.{Executed}
+use Rattle.cpu_effects.specs.declared.Operand.{Operand}
+use Rattle.cpu_effects.specs.declared.Executed.{Executed}
 use Rattle.cpu_operations.specs.declared.Access.{Access}
 use Rattle.cpu_operations.specs.declared.Access.the-variants.{Nothing, Read, Modify, Call}
-use Rattle.cpu_operations.specs.Updates.{withStatus}
-use Rattle.cpu_operations.specs.Kinds.{withRead, changedBy, byteToStore, branchTaken, bitBranchTaken, byteToPush}
-use Rattle.cpu_operations.specs.Kinds.{withRegister, withFlag}
-use Rattle.cpu_operations.specs.Effects.{completed, stored, modified, branched, bitBranched, jumped, pushedByte}
-use Rattle.cpu_operations.specs.Effects.{pulledByte, returned, returnedFromInterrupt, breakTaken}
+use Rattle.cpu_kinds.specs.Updates.{withStatus}
+use Rattle.cpu_kinds.specs.Kinds.{withRead, changedBy, byteToStore, branchTaken, bitBranchTaken, byteToPush}
+use Rattle.cpu_kinds.specs.Kinds.{withRegister, withFlag}
+use Rattle.cpu_effects.specs.Effects.{completed, stored, modified, branched, bitBranched, jumped, pushedByte}
+use Rattle.cpu_effects.specs.Effects.{pulledByte, returned, returnedFromInterrupt, breakTaken}
 
 -- how an operation reads the byte at its operand's address: not at all (a store only writes it), as it is, or to change
 -- it and write it back; JSR reads its operand itself

@@ -1,69 +1,31 @@
 // What each operation does: how it uses the byte at its operand's address, and what it leaves.
 ghost use mathlib.Core.Path.{_≡_};
 ghost use Prim.Native.Nat.{_≤_};
-ghost use Rattle.cpu_operations.specs.Effects.{pushesOf, waitingOf, writesNothing};
 ghost use Rattle.cpu_operations.specs.Operations.{accessOf, isCall, operateOf};
-use cpu_access::Bus;
 use cpu_access::CpuRegisters;
-use cpu_access::stack::Write;
-use cpu_access::stack::Writes;
-use cpu_access::stack::no_writes;
-use cpu_access::waiting::Waiting;
 use cpu_opcodes::operation::Operation;
-use effects::bit_branched;
-use effects::branched;
-use effects::break_taken;
-use effects::completed;
-use effects::jumped;
-use effects::modified;
-use effects::pulled_byte;
-use effects::pushed_byte;
-use effects::returned;
-use effects::returned_from_interrupt;
-use effects::stored;
-use kinds::bit_branch_taken;
-use kinds::branch_taken;
-use kinds::byte_to_push;
-use kinds::byte_to_store;
-use kinds::changed;
-use kinds::with_flag;
-use kinds::with_read;
-use kinds::with_register;
-use updates::with_status;
-
-pub mod effects; // effects.rt: what an instruction leaves, by kind
-pub mod kinds; // kinds.rt: the operations of each kind
-pub mod updates; // updates.rt: one CPU register set, the others kept
-
-// What an instruction or an entry writes: nothing, pushes in their order, or one store; never pushes and a store.
-pub enum Writing {
-    Nothing,
-    Pushed(Writes),
-    Stored(Write),
-}
-
-// An instruction, or an entry, that is done: the registers after it, what it writes, and its clocks.
-pub struct Worked {
-    pub registers: CpuRegisters,
-    pub writing: Writing,
-    pub length: u8,
-}
-
-// The operand of an instruction, its byte read where the operation reads one; of a branch the address is the target.
-pub struct Operand {
-    pub address: u16,
-    pub value: u8,
-    pub crossed: bool,
-    pub accumulator: bool,
-    pub length: u8,
-    pub bus: Bus,
-}
-
-// An instruction worked to its end, with what it asked for.
-pub struct Executed {
-    pub worked: Worked,
-    pub bus: Bus,
-}
+use cpu_effects::Executed;
+use cpu_effects::Operand;
+use cpu_effects::effects::bit_branched;
+use cpu_effects::effects::branched;
+use cpu_effects::effects::break_taken;
+use cpu_effects::effects::completed;
+use cpu_effects::effects::jumped;
+use cpu_effects::effects::modified;
+use cpu_effects::effects::pulled_byte;
+use cpu_effects::effects::pushed_byte;
+use cpu_effects::effects::returned;
+use cpu_effects::effects::returned_from_interrupt;
+use cpu_effects::effects::stored;
+use cpu_kinds::kinds::bit_branch_taken;
+use cpu_kinds::kinds::branch_taken;
+use cpu_kinds::kinds::byte_to_push;
+use cpu_kinds::kinds::byte_to_store;
+use cpu_kinds::kinds::changed;
+use cpu_kinds::kinds::with_flag;
+use cpu_kinds::kinds::with_read;
+use cpu_kinds::kinds::with_register;
+use cpu_kinds::updates::with_status;
 
 // What an operation does with the byte at its operand's address; JSR reads its operand itself.
 pub enum Access {
@@ -71,38 +33,6 @@ pub enum Access {
     Read,
     Modify,
     Call,
-}
-
-// The pushes in their order.
-pub fn pushes_of(writing: Writing) -> Writes
-    ensures { λ r. ⌜ r ≡ pushesOf writing ⌝ }
-{
-    match writing {
-        Writing::Nothing => no_writes(),
-        Writing::Pushed(pushes) => pushes,
-        Writing::Stored(_) => no_writes(),
-    }
-}
-
-// The store, which waits for the last clock.
-pub fn waiting_of(writing: Writing) -> Waiting
-    ensures { λ r. ⌜ r ≡ waitingOf writing ⌝ }
-{
-    match writing {
-        Writing::Nothing => Waiting::Nothing,
-        Writing::Pushed(_) => Waiting::Nothing,
-        Writing::Stored(store) => Waiting::Byte(store),
-    }
-}
-
-pub fn writes_nothing(writing: Writing) -> bool
-    ensures { λ r. ⌜ r ≡ writesNothing writing ⌝ }
-{
-    match writing {
-        Writing::Nothing => true,
-        Writing::Pushed(_) => false,
-        Writing::Stored(_) => false,
-    }
 }
 
 pub fn access_of(operation: Operation) -> Access

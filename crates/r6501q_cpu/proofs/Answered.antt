@@ -22,7 +22,7 @@ use Rattle.cpu_access.specs.Accesses.{RegisterFile, Performed, byteAfter, perip
 use Rattle.cpu_access.specs.Accesses.{valueRead, performed, inOrder}
 use Rattle.cpu_access.proofs.Asked.{Reply, asks, over, asked}
 use Rattle.cpu_access.proofs.Answering.{allWritten, performs}
-use Rattle.cpu_operations.specs.Effects.{pushesOf, waitingOf, interrupted}
+use Rattle.cpu_effects.specs.Effects.{pushesOf, waitingOf, interrupted}
 use Rattle.cpu.specs.Entries.{resetEntry, interruptEntry}
 use Rattle.cpu.specs.declared.Outcome.{Outcome}
 use Rattle.cpu.specs.declared.Outcome.the-variants as outcome

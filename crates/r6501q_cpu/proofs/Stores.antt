@@ -21,8 +21,8 @@ use Rattle.cpu_access.specs.Stack.{noWrites}
 use Rattle.cpu_access.specs.Waiting.{byteWaits}
 use Rattle.cpu_access.specs.Accesses.{ends, byteAfter, peripheralsRead, valueRead, Performed, performed, inOrder}
 use Rattle.cpu_access.specs.Bus.{nextAddress}
-use Rattle.cpu_operations.specs.Effects.{withPc}
-use Rattle.cpu_operations.proofs.Flags.{Kept}
+use Rattle.cpu_effects.specs.Effects.{withPc}
+use Rattle.cpu_kinds.proofs.Flags.{Kept}
 use Rattle.cpu.specs.Sequence.{Conclusion, Ending, leaves, operationAccesses, opcodeAccesses, instructionAccesses}
 use Rattle.cpu.proofs.Laws.{storesOf, entry-fits}
 use Rattle.cpu.proofs.Conclusions.{Concludes, ends-then, performed-ends, operation-concludes}

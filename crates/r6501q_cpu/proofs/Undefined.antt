@@ -17,7 +17,7 @@ use Rattle.cpu_access.specs.declared.waiting.Waiting.the-variants.{Nothing, Byt
 use Rattle.cpu_access.specs.Accesses.{Accesses, ends, reads, writes, _>>=_, RegisterFile, byteAfter, peripheralsRead}
 use Rattle.cpu_access.specs.Accesses.{valueRead, performed}
 use Rattle.cpu_access.specs.Bus.{nextAddress}
-use Rattle.cpu_operations.specs.Effects.{withPc}
+use Rattle.cpu_effects.specs.Effects.{withPc}
 use Rattle.cpu.specs.Sequence.{Conclusion, Ending, undefined, leaves, undefinedStop, operationAccesses, opcodeAccesses}
 use Rattle.cpu.specs.Sequence.{instructionAccesses}
 use Rattle.r6501q_cpu.specs.declared.Processed.{Processed}

@@ -40,15 +40,15 @@ use Rattle.r6501q_fast.specs.declared.Attempt.{Attempt}
 use Rattle.cpu_access.specs.Bus.{idle, nextAddress, memoryByte, readOf, fetchOf}
 use Rattle.cpu_access.specs.Modes.{locateOf, relativeTo}
 use Rattle.cpu_access.specs.Stack.{writeAt, oneWrite, pushAt, down, noWrites, pullOf, pullAddress}
-use Rattle.cpu_operations.specs.declared.Worked.{Worked}
-use Rattle.cpu_operations.specs.declared.Writing.{Writing}
-use Rattle.cpu_operations.specs.declared.Writing.the-variants.{Nothing, Pushed, Stored}
-use Rattle.cpu_operations.specs.Effects.{pushesOf, waitingOf, completed, stored, modified, branched, bitBranched}
-use Rattle.cpu_operations.specs.Effects.{jumped, pushedByte, pulledByte, returned, returnedFromInterrupt}
-use Rattle.cpu_operations.specs.Kinds.{withRead, changedBy, byteToStore, branchTaken, bitBranchTaken, byteToPush}
-use Rattle.cpu_operations.specs.Kinds.{withPulled, withRegister, withFlag}
+use Rattle.cpu_effects.specs.declared.Worked.{Worked}
+use Rattle.cpu_effects.specs.declared.Writing.{Writing}
+use Rattle.cpu_effects.specs.declared.Writing.the-variants.{Nothing, Pushed, Stored}
+use Rattle.cpu_effects.specs.Effects.{pushesOf, waitingOf, completed, stored, modified, branched, bitBranched}
+use Rattle.cpu_effects.specs.Effects.{jumped, pushedByte, pulledByte, returned, returnedFromInterrupt}
+use Rattle.cpu_kinds.specs.Kinds.{withRead, changedBy, byteToStore, branchTaken, bitBranchTaken, byteToPush}
+use Rattle.cpu_kinds.specs.Kinds.{withPulled, withRegister, withFlag}
 use Rattle.cpu_operations.specs.Operations.{operateOf}
-use Rattle.cpu_operations.specs.Updates.{withPc, withSp, withStatus, intoA}
+use Rattle.cpu_kinds.specs.Updates.{withPc, withSp, withStatus, intoA}
 use Rattle.cpu.specs.declared.Outcome.{Outcome}
 use Rattle.cpu.specs.declared.Outcome.the-variants.{Done}
 use Rattle.cpu.specs.declared.work.Work.{Work}

@@ -31,13 +31,13 @@ use Rattle.bits.specs.Bits.{word16}
 use Rattle.cpu_access.specs.Bus.{idle, nextAddress, memoryByte, fetchOf}
 use Rattle.cpu_access.specs.Modes.{relativeTo}
 use Rattle.cpu_access.specs.Stack.{writeAt, oneWrite, pushAt, down, pushAddress, pullOf, pullAddress, readAfter}
-use Rattle.cpu_operations.specs.declared.Worked.{Worked}
-use Rattle.cpu_operations.specs.declared.Writing.{Writing}
-use Rattle.cpu_operations.specs.declared.Writing.the-variants.{Nothing, Pushed, Stored}
-use Rattle.cpu_operations.specs.Effects.{pushesOf, waitingOf}
-use Rattle.cpu_operations.specs.Kinds.{withRead, changedBy, byteToStore, bitBranchTaken, withPulled, withRegister}
-use Rattle.cpu_operations.specs.Kinds.{withFlag}
-use Rattle.cpu_operations.specs.Updates.{withPc, withSp, withStatus, intoA}
+use Rattle.cpu_effects.specs.declared.Worked.{Worked}
+use Rattle.cpu_effects.specs.declared.Writing.{Writing}
+use Rattle.cpu_effects.specs.declared.Writing.the-variants.{Nothing, Pushed, Stored}
+use Rattle.cpu_effects.specs.Effects.{pushesOf, waitingOf}
+use Rattle.cpu_kinds.specs.Kinds.{withRead, changedBy, byteToStore, bitBranchTaken, withPulled, withRegister}
+use Rattle.cpu_kinds.specs.Kinds.{withFlag}
+use Rattle.cpu_kinds.specs.Updates.{withPc, withSp, withStatus, intoA}
 use Rattle.cpu.specs.declared.Outcome.the-variants.{Done}
 use Rattle.cpu.specs.declared.work.Work.{Work}
 use Rattle.cpu.specs.Instruction.{instructionOf}

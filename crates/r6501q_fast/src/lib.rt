@@ -15,7 +15,7 @@ use cpu_access::halt::Halt;
 use cpu_access::memory_byte;
 use cpu_access::modes::Place;
 use cpu_access::waiting::Waiting;
-use cpu_operations::updates::with_pc;
+use cpu_kinds::updates::with_pc;
 use memory::MEMORY_SPAN;
 use memory::is_register;
 use r6501q_spans::Working;

@@ -14,12 +14,12 @@ use cpu_access::memory_byte;
 use cpu_access::modes::Place;
 use cpu_alu::arithmetic;
 use cpu_alu::logic;
-use cpu_operations::updates::into_a;
-use cpu_operations::updates::load_a;
-use cpu_operations::updates::load_x;
-use cpu_operations::updates::load_y;
-use cpu_operations::updates::with_pc;
-use cpu_operations::updates::with_status;
+use cpu_kinds::updates::into_a;
+use cpu_kinds::updates::load_a;
+use cpu_kinds::updates::load_x;
+use cpu_kinds::updates::load_y;
+use cpu_kinds::updates::with_pc;
+use cpu_kinds::updates::with_status;
 
 pub fn adc(w: Work, memory: &[u8], p: Place, length: u8) -> Attempt
     requires { ⌜ (w .gone .0 + w .wait + 1 ≤ 4294967295) × (w .leaps + 1 ≤ 4294967295) × (length ≤ 7) ⌝ }

@@ -4,20 +4,20 @@ ghost use Prim.Native.Nat.{_+_, _≤_};
 ghost use Rattle.cpu_opcodes.specs.declared.operation.FlagOperation.the-variants.{Clc, Cld, Cli, Clv, Sec, Sed, Sei};
 ghost use Rattle.cpu_opcodes.specs.declared.operation.RegisterOperation.the-variants.{Dex, Dey, Inx, Iny, Tax, Tay};
 ghost use Rattle.cpu_opcodes.specs.declared.operation.RegisterOperation.the-variants.{Tsx, Txa, Txs, Tya};
-ghost use Rattle.cpu_operations.specs.Updates.{withPc};
+ghost use Rattle.cpu_kinds.specs.Updates.{withPc};
 ghost use Rattle.r6501q_fast.specs.Attempts.{startedNext, registerTried, flagTried};
 use crate::Attempt;
 use crate::started_next;
 use cpu::work::Work;
 use cpu_alu::shift;
-use cpu_operations::updates::into_x;
-use cpu_operations::updates::into_y;
-use cpu_operations::updates::load_a;
-use cpu_operations::updates::load_x;
-use cpu_operations::updates::load_y;
-use cpu_operations::updates::with_pc;
-use cpu_operations::updates::with_sp;
-use cpu_operations::updates::with_status;
+use cpu_kinds::updates::into_x;
+use cpu_kinds::updates::into_y;
+use cpu_kinds::updates::load_a;
+use cpu_kinds::updates::load_x;
+use cpu_kinds::updates::load_y;
+use cpu_kinds::updates::with_pc;
+use cpu_kinds::updates::with_sp;
+use cpu_kinds::updates::with_status;
 
 pub fn dex(w: Work, pc: u16, length: u8) -> Attempt
     requires { ⌜ (w .gone .0 + w .wait + 1 ≤ 4294967295) × (w .leaps + 1 ≤ 4294967295) ⌝ }

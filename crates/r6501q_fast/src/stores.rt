@@ -22,9 +22,9 @@ use cpu_access::modes::Place;
 use cpu_access::stack::Write;
 use cpu_access::stack::one_write;
 use cpu_alu::shift;
-use cpu_operations::updates::into_a;
-use cpu_operations::updates::with_pc;
-use cpu_operations::updates::with_status;
+use cpu_kinds::updates::into_a;
+use cpu_kinds::updates::with_pc;
+use cpu_kinds::updates::with_status;
 use r6501q_clock::commit::put_write;
 use r6501q_spans::ends_span;
 

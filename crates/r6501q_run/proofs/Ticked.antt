@@ -11,15 +11,15 @@ use lib.ListN.{length, drop}
 use borrow.Author.Tests.{ltb-true, ltb-false, lt-ltb, le-ltb, eq-eqb, ne-eqb}
 use Rattle.bits.specs.Bits.{digit}
 use Rattle.bits.proofs.Cond.{cond-both, digit-le}
-use Rattle.cpu_operations.specs.declared.Writing.the-variants.{Nothing, Stored}
-use Rattle.cpu_operations.specs.Effects.{pushesOf, waitingOf}
+use Rattle.cpu_effects.specs.declared.Writing.the-variants.{Nothing, Stored}
+use Rattle.cpu_effects.specs.Effects.{pushesOf, waitingOf}
 use Rattle.cpu_access.specs.declared.halt.Halt.{Halt}
 use Rattle.cpu_access.specs.declared.stack.Write.{Write}
 use Rattle.cpu_access.specs.declared.stack.Writes.{Writes}
 use Rattle.cpu_access.specs.declared.waiting.Waiting.{Waiting}
 use Rattle.cpu_access.specs.declared.waiting.Waiting.the-variants as waiting
 use Rattle.cpu_access.specs.Stack.{oneWrite, noWrites}
-use Rattle.cpu_operations.specs.declared.Worked.{Worked}
+use Rattle.cpu_effects.specs.declared.Worked.{Worked}
 use Rattle.cpu.specs.declared.Outcome.the-variants as outcome
 use Rattle.cpu.specs.declared.work.Work.{Work}
 use Rattle.cpu.specs.Instruction.{instructionOf}

@@ -19,13 +19,13 @@ use Rattle.cpu_access.specs.declared.modes.Place.{Place}
 use Rattle.cpu_access.specs.Bus.{idle, nextAddress, memoryByte, askOf, readOf, fetchOf}
 use Rattle.cpu_access.specs.Modes.{locateOf, relativeTo}
 use Rattle.cpu_access.specs.Stack.{writeAt, noWrites}
-use Rattle.cpu_operations.specs.declared.Worked.{Worked}
-use Rattle.cpu_operations.specs.declared.Writing.{Writing}
-use Rattle.cpu_operations.specs.declared.Writing.the-variants.{Nothing, Stored}
-use Rattle.cpu_operations.specs.Effects.{completed, stored, modified, branched, bitBranched}
-use Rattle.cpu_operations.specs.Kinds.{withRead, changedBy, byteToStore, bitBranchTaken}
+use Rattle.cpu_effects.specs.declared.Worked.{Worked}
+use Rattle.cpu_effects.specs.declared.Writing.{Writing}
+use Rattle.cpu_effects.specs.declared.Writing.the-variants.{Nothing, Stored}
+use Rattle.cpu_effects.specs.Effects.{completed, stored, modified, branched, bitBranched}
+use Rattle.cpu_kinds.specs.Kinds.{withRead, changedBy, byteToStore, bitBranchTaken}
 use Rattle.cpu_operations.specs.Operations.{operateOf}
-use Rattle.cpu_operations.specs.Updates.{withPc, withStatus}
+use Rattle.cpu_kinds.specs.Updates.{withPc, withStatus}
 use Rattle.cpu.specs.declared.Ask.{Ask}
 use Rattle.cpu.specs.declared.Outcome.the-variants.{Asked, Done}
 use Rattle.cpu.specs.Instruction.{instructionOf, executeOf, outcomeOf, carriedOut, operandByte}

@@ -9,7 +9,7 @@ use borrow.Author.Tests.{ltb-true, eqb-true, ne-eqb}
 use Rattle.bits.proofs.Cond.{and-left, and-right}
 use Rattle.cpu_access.specs.declared.CpuRegisters.{CpuRegisters}
 use Rattle.cpu_access.specs.declared.stack.Writes.{Writes}
-use Rattle.cpu_operations.specs.declared.Worked.{Worked}
+use Rattle.cpu_effects.specs.declared.Worked.{Worked}
 use Rattle.cpu.specs.declared.Ask.{Ask}
 use Rattle.cpu.specs.declared.Outcome.{Outcome}
 use Rattle.cpu.specs.declared.Outcome.the-variants.{Stopped, Asked, Done}

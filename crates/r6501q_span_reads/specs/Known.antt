@@ -12,9 +12,9 @@ use Rattle.cpu_opcodes.specs.declared.Mode.the-variants.{ZeroPage, ZeroPageRela
 use Rattle.cpu_access.specs.declared.CpuRegisters.{CpuRegisters}
 use Rattle.cpu_access.specs.Bus.{nextAddress, memoryByte}
 use Rattle.cpu_access.specs.Stack.{noWrites}
-use Rattle.cpu_operations.specs.declared.Writing.{Writing}
-use Rattle.cpu_operations.specs.declared.Writing.the-variants.{Nothing}
-use Rattle.cpu_operations.specs.Effects.{pushesOf}
+use Rattle.cpu_effects.specs.declared.Writing.{Writing}
+use Rattle.cpu_effects.specs.declared.Writing.the-variants.{Nothing}
+use Rattle.cpu_effects.specs.Effects.{pushesOf}
 use Rattle.cpu.specs.declared.Outcome.the-variants.{Done}
 use Rattle.r6501q_state.specs.declared.state.State.{State}
 use Rattle.r6501q_span_reads.specs.declared.direct.Direct.{Direct}

@@ -24,8 +24,8 @@ use Rattle.cpu_access.specs.Stack.{oneWrite, noWrites}
 use Rattle.cpu_access.specs.Waiting.{byteWaits}
 use Rattle.cpu_access.specs.Accesses.{peripheralsWritten}
 use Rattle.memory.specs.Memory.{isRegister}
-use Rattle.cpu_operations.specs.declared.Worked.{Worked}
-use Rattle.cpu_operations.specs.Effects.{pushesOf, waitingOf}
+use Rattle.cpu_effects.specs.declared.Worked.{Worked}
+use Rattle.cpu_effects.specs.Effects.{pushesOf, waitingOf}
 use Rattle.cpu.specs.declared.Ask.{Ask}
 use Rattle.cpu.specs.declared.Outcome.{Outcome}
 use Rattle.cpu.specs.declared.Outcome.the-variants as outcome

@@ -15,8 +15,8 @@ use Rattle.cpu_access.specs.declared.waiting.Waiting.the-variants as waiting
 use Rattle.cpu_access.specs.Stack.{eachWrite, oneWrite}
 use Rattle.cpu_access.specs.Halt.{halts}
 use Rattle.memory.specs.Memory.{isRegister}
-use Rattle.cpu_operations.specs.declared.Worked.{Worked}
-use Rattle.cpu_operations.specs.Effects.{pushesOf, waitingOf}
+use Rattle.cpu_effects.specs.declared.Worked.{Worked}
+use Rattle.cpu_effects.specs.Effects.{pushesOf, waitingOf}
 use Rattle.cpu.specs.declared.Outcome.{Outcome}
 use Rattle.cpu.specs.declared.Outcome.the-variants.{Stopped, Asked, Done}
 use Rattle.cpu.specs.declared.work.Work.{Work}

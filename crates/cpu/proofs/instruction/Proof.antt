@@ -8,7 +8,7 @@ use Rattle.cpu_opcodes.specs.declared.Decoded.the-variants.{Undefined}
 use Rattle.cpu_opcodes.proofs.Laws.{length-fits}
 use Rattle.cpu_access.specs.declared.Fetched.{Fetched}
 use Rattle.cpu_access.specs.declared.CpuRegisters.{CpuRegisters}
-use Rattle.cpu_operations.specs.Effects.{withPc}
+use Rattle.cpu_effects.specs.Effects.{withPc}
 use Rattle.cpu.specs.Instruction.{opcodeFetched, decodedTo, instructionOf}
 use borrow.Author.Needs.{needs}
 use Rattle.cpu.proofs.instruction.Statement.{statement}

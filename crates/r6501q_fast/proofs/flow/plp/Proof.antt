@@ -1,4 +1,4 @@
-use Rattle.cpu_operations.specs.Kinds.{withPulled}
+use Rattle.cpu_kinds.specs.Kinds.{withPulled}
 use Rattle.r6501q_fast.proofs.flow.plp.Statement.{statement}
 use Rattle.r6501q_fast.proofs.flow.plp.Tie as tie
 use Rattle.r6501q_fast.specs.Attempts.{pullTried}

@@ -3,7 +3,7 @@ use mathlib.Core.Bool.{false≢true}
 use native.Mathlib.Omega.{arith}
 use borrow.Author.Tests.{not-false}
 use Rattle.bits.proofs.Cond.{digit-le}
-use Rattle.cpu_operations.specs.Effects.{pushesOf}
+use Rattle.cpu_effects.specs.Effects.{pushesOf}
 use Rattle.r6501q_span_reads.proofs.Known.{branch-known}
 use borrow.Author.Needs.{needs}
 use Rattle.r6501q_span_reads.proofs.direct.known_branch.Statement.{statement}

@@ -1,7 +1,7 @@
 use mathlib.Core.Path.{_≡_, refl, sym, _∙_}
 use mathlib.Core.Bool.{false≢true}
 use borrow.Author.Tests.{not-false}
-use Rattle.cpu_operations.specs.Effects.{pushesOf}
+use Rattle.cpu_effects.specs.Effects.{pushesOf}
 use Rattle.r6501q_span_reads.proofs.Known.{change-known}
 use borrow.Author.Needs.{needs}
 use Rattle.r6501q_span_reads.proofs.direct.known_change.Statement.{statement}

@@ -1,5 +1,5 @@
 use mathlib.Core.Path.{refl}
-use Rattle.cpu_operations.specs.Effects.{pushesOf}
+use Rattle.cpu_effects.specs.Effects.{pushesOf}
 use Rattle.r6501q_span_reads.proofs.Known.{store-known}
 use borrow.Author.Needs.{needs}
 use Rattle.r6501q_span_reads.proofs.direct.known_store.Statement.{statement}
