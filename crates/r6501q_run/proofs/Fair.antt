@@ -15,7 +15,7 @@ use Rattle.r6501q_state.specs.declared.state.State.{State}
 use Rattle.r6501q_gaps.specs.Gaps.{gapOf}
 use Rattle.r6501q_step.specs.R6501q.{World, r6501q, chip, machine}
 use Rattle.r6501q_run.specs.Fair.{Fair}
-use Rattle.r6501q_run.proofs.Laws.{laws}
+use Rattle.r6501q_leap.proofs.Laws.{laws}
 
 -- DEMAND 3. "Leaping equals stepping, for every well-formed start and every list of calls (single clocks and runs of
 -- any count, refused ones included)" (`calls`): "state, memory, outputs, stop and counts are those of n plain clocks"

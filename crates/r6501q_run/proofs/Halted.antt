@@ -15,7 +15,7 @@ use Rattle.leaps.proofs.Calls.{refusal-no-stop}
 use Rattle.r6501q_state.specs.State.{wellFormed}
 use Rattle.r6501q_step.specs.R6501q.{World, Handed, r6501qLimits, r6501q, chip, machine}
 use Rattle.r6501q_step.proofs.Halted.{clocksBefore, plains-twelve}
-use Rattle.r6501q_run.proofs.Laws.{laws}
+use Rattle.r6501q_leap.proofs.Laws.{laws}
 use Rattle.r6501q_run.proofs.Fair.{single-run}
 
 -- the number of a refusal is not 12

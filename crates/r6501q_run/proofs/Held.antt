@@ -31,7 +31,7 @@ use Rattle.r6501q_step.proofs.Held.{heldState, heldLeaps, held-clocks, held-lea
 use Rattle.r6501q_step.proofs.ReleaseLists.{belowRes}
 use Rattle.r6501q_step.proofs.Released.{releasedStart, oldStart, oneMoreRead, first-plain, first-event, start-done}
 use Rattle.r6501q_step.proofs.Released.{old-done, refusal-same, given-plain, given-event, given-done}
-use Rattle.r6501q_run.proofs.Laws.{laws, lawful}
+use Rattle.r6501q_leap.proofs.Laws.{laws, lawful}
 
 -- a call's start has nothing written
 start-room : (w : World) → w .written ≡ 0 → Room w

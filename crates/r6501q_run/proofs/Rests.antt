@@ -20,11 +20,11 @@ use Rattle.r6501q_step.specs.R6501q.{World, r6501q, chip}
 use Rattle.r6501q_step.specs.World.{worldOf}
 use Rattle.r6501q_step.specs.Calls.{leapsFrom}
 use Rattle.r6501q_step.proofs.Worlds.{lent-part}
-use Rattle.r6501q_run.specs.declared.Leaped.{Leaped}
-use Rattle.r6501q_run.specs.Leap.{goesOn, runFrom, runEnded, Leaping}
-use Rattle.r6501q_run.specs.Spanned.{Spanned}
-use Rattle.r6501q_run.proofs.Runs.{goes-some, goes-unstopped, later-run, later-leaping, later-bound, run-ended}
-use Rattle.r6501q_run.proofs.Spanned.{run-later, leaping-later}
+use Rattle.r6501q_leap.specs.declared.Leaped.{Leaped}
+use Rattle.r6501q_leap.specs.Leap.{goesOn, runFrom, runEnded, Leaping}
+use Rattle.r6501q_span_leaps.specs.Spanned.{Spanned}
+use Rattle.r6501q_leap.proofs.Runs.{goes-some, goes-unstopped, later-run, later-leaping, later-bound, run-ended}
+use Rattle.r6501q_span_leaps.proofs.Spanned.{run-later, leaping-later}
 
 module _ {S : Type 0} (k : ℕ) where
   -- k more inputs were read before

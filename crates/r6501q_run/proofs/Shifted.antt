@@ -12,7 +12,7 @@ use Rattle.leaps.proofs.ShiftedCalls as theory
 use Rattle.r6501q_step.specs.R6501q.{World, r6501q, chip, machine}
 use Rattle.r6501q_step.specs.Shifted.{shiftedState}
 use Rattle.r6501q_step.proofs.Shifted.{shift-laws}
-use Rattle.r6501q_run.proofs.Laws.{laws}
+use Rattle.r6501q_leap.proofs.Laws.{laws}
 
 module _ (halt : Halt) (k : ℕ) (w v : World) (r : ShiftedWorld shiftedState k w v) (room : Room w) where
   -- Any list of single clocks and runs, refused ones included, of which none at the later clock is refused with 4:

@@ -23,7 +23,7 @@ use Rattle.r6501q_step.specs.declared.CallResult.{CallResult}
 use Rattle.r6501q_step.specs.R6501q.{World, Handed, r6501qLimits, r6501q, chip, machine}
 use Rattle.r6501q_step.specs.Calls.{handed}
 use Rattle.r6501q_step.proofs.Released.{oldStart}
-use Rattle.r6501q_run.proofs.Laws.{laws, lawful}
+use Rattle.r6501q_leap.proofs.Laws.{laws, lawful}
 use Rattle.r6501q_run.proofs.Held.{released-plains}
 use Rattle.tape.specs.declared.LoadResult.{LoadResult}
 use Rattle.tape.specs.Tapes.{loaded, loadOf}

@@ -5,7 +5,7 @@ use lib.ListN.{length}
 use native.Mathlib.Omega.{arith}
 use Rattle.page_sums.specs.PageSums.{sumsAfter, SixteenBits}
 use Rattle.page_sums.proofs.Sums.{sums-kept, sums-then, sums-length}
-use Rattle.r6501q_run.proofs.Runs.{goes-some, goes-unstopped}
+use Rattle.r6501q_leap.proofs.Runs.{goes-some, goes-unstopped}
 use Rattle.r6501q_run.proofs.Rests.{Running, running-begins, leapt, leapt-fewer, codes-read}
 use Rattle.r6501q_run.proofs.Rests.{handed-on, spanned, ended-run}
 use borrow.Author.Needs.{needs}

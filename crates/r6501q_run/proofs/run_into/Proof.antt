@@ -3,7 +3,7 @@ use mathlib.Core.Path.{sym, _∙_}
 use native.Mathlib.Omega.{arith}
 use Rattle.page_sums.specs.PageSums.{SixteenBits}
 use Rattle.page_sums.proofs.Sums.{sums-kept}
-use Rattle.r6501q_run.proofs.Runs.{leaping-begins, begins-bound, run-refused, runs, runs-plainly}
+use Rattle.r6501q_leap.proofs.Runs.{leaping-begins, begins-bound, run-refused, runs, runs-plainly}
 use borrow.Author.Needs.{needs}
 use Rattle.r6501q_run.proofs.run_into.Statement.{statement}
 use Rattle.r6501q_run.proofs.run_into.Tie as tie
