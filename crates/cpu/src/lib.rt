@@ -13,15 +13,15 @@ use cpu_access::modes::Place;
 use cpu_access::stack::Writes;
 use cpu_access::stack::down;
 use cpu_access::stack::no_writes;
-use cpu_opcodes::Decoded;
-use cpu_opcodes::Entry;
-use cpu_operations::Access;
 use cpu_effects::Executed;
 use cpu_effects::Operand;
 use cpu_effects::Worked;
 use cpu_effects::Writing;
 use cpu_effects::effects;
 use cpu_kinds::updates;
+use cpu_opcodes::Decoded;
+use cpu_opcodes::Entry;
+use cpu_operations::Access;
 
 pub mod entries; // entries.rt: reset, NMI and IRQ
 pub mod work; // work.rt: instructions one after the other

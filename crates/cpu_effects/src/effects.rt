@@ -8,11 +8,6 @@ use crate::Executed;
 use crate::Operand;
 use crate::Worked;
 use crate::Writing;
-use cpu_kinds::kinds::with_pulled;
-use cpu_kinds::updates::into_a;
-use cpu_kinds::updates::with_pc;
-use cpu_kinds::updates::with_sp;
-use cpu_kinds::updates::with_status;
 use cpu_access::Bus;
 use cpu_access::CpuRegisters;
 use cpu_access::stack::Write;
@@ -20,6 +15,11 @@ use cpu_access::stack::down;
 use cpu_access::stack::one_write;
 use cpu_alu::Computed;
 use cpu_alu::Status;
+use cpu_kinds::kinds::with_pulled;
+use cpu_kinds::updates::into_a;
+use cpu_kinds::updates::with_pc;
+use cpu_kinds::updates::with_sp;
+use cpu_kinds::updates::with_status;
 use cpu_opcodes::operation::PullOperation;
 
 pub fn executed_with(registers: CpuRegisters, writing: Writing, length: u8, bus: Bus) -> Executed

@@ -3,7 +3,6 @@ ghost use mathlib.Core.Path.{_≡_};
 ghost use Prim.Native.Nat.{_≤_};
 ghost use Rattle.cpu_operations.specs.Operations.{accessOf, isCall, operateOf};
 use cpu_access::CpuRegisters;
-use cpu_opcodes::operation::Operation;
 use cpu_effects::Executed;
 use cpu_effects::Operand;
 use cpu_effects::effects::bit_branched;
@@ -26,6 +25,7 @@ use cpu_kinds::kinds::with_flag;
 use cpu_kinds::kinds::with_read;
 use cpu_kinds::kinds::with_register;
 use cpu_kinds::updates::with_status;
+use cpu_opcodes::operation::Operation;
 
 // What an operation does with the byte at its operand's address; JSR reads its operand itself.
 pub enum Access {

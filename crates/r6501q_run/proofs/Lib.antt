@@ -1,8 +1,4 @@
-pub mod Laws
-pub mod Runs
-pub mod Spanned
 pub mod Rests
-pub mod Ticked
 pub mod Fair
 pub mod Halted
 pub mod Held

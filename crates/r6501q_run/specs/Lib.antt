@@ -1,4 +1,1 @@
-pub mod Leap
-pub mod Spanned
 pub mod Fair
-pub mod Ticked

@@ -9,10 +9,10 @@ use crate::state::State;
 use crate::state::fresh_control;
 use crate::state::fresh_ports;
 use cpu_access::waiting::Waiting;
-use serial_format::transmitter_on;
-use serial_format::transmitter_shifts;
 use serial::receiver::idle_receiver;
 use serial::transmitter::idle_transmitter;
+use serial_format::transmitter_on;
+use serial_format::transmitter_shifts;
 
 // MCR5, which makes port D an output, by weight.
 

@@ -7,6 +7,8 @@ ghost use Rattle.serial.specs.Receiver.{idleReceiver, frameSize, startDe
 ghost use Rattle.serial.specs.Receiver.{statusAfter, withLevel, keptWith, frameEnded, lookTaken, looked};
 ghost use Rattle.serial.specs.Receiver.{receiveTick, shiftedAtRise, byteEnded, receiveRise, receiverClock};
 ghost use Rattle.serial.specs.Receiver.{receiverWithSccr};
+use bits::one_less;
+use counters::time::Ticks;
 use serial_format::data_span;
 use serial_format::data_width;
 use serial_format::has_parity;
@@ -20,8 +22,6 @@ use serial_format::status::OVERRUN;
 use serial_format::status::PARITY_ERROR;
 use serial_format::status::RECEIVER_FULL;
 use serial_format::status::RECEIVER_FULL_WEIGHT;
-use bits::one_less;
-use counters::time::Ticks;
 
 // The places of stop and parity in a whole frame, by weight.
 const STOP: u16 = 1024;

@@ -4,17 +4,17 @@ ghost use Rattle.serial.specs.Transmitter.{idleTransmitter, framed, take
 ghost use Rattle.serial.specs.Transmitter.{bitTick, sendTick, transmitterClock, line, shiftClock};
 ghost use Rattle.serial.specs.Transmitter.{transmitterWithSccr};
 ghost use Rattle.serial_format.specs.Format.{pace};
+use bits::one_less;
+use counters::time::Ticks;
 use serial_format::ends_bit;
 use serial_format::frame;
 use serial_format::frame_length;
 use serial_format::keeps_transmitter;
-use serial_format::transmitter_on;
-use serial_format::transmitter_shifts;
 use serial_format::status::TRANSMITTER_EMPTY;
 use serial_format::status::TRANSMITTER_EMPTY_WEIGHT;
 use serial_format::status::UNDERRUN;
-use bits::one_less;
-use counters::time::Ticks;
+use serial_format::transmitter_on;
+use serial_format::transmitter_shifts;
 
 // The place of the line's bit, by weight.
 const LINE: u16 = 1;
