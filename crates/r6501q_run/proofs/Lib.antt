@@ -2,7 +2,6 @@ pub mod Rests
 pub mod Fair
 pub mod Halted
 pub mod Held
-pub mod Table
 pub mod LowMemory
 pub mod Shifted
 pub mod Summed

@@ -3,12 +3,7 @@ pub mod Calls
 pub mod LowMemory
 pub mod Stops
 pub mod Halted
-pub mod Examples
-pub mod ShiftRegister
-pub mod IndirectJump
-pub mod AccessOrder
 pub mod Held
 pub mod ReleaseLists
 pub mod Released
-pub mod StoreClocks
 pub mod Shifted

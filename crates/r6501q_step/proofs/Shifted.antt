@@ -42,7 +42,6 @@ use Rattle.r6501q_gaps.specs.Events.{eventOf}
 use Rattle.r6501q_gaps.specs.Gaps.{toInput, toChange, toUnderflowA, toUnderflowB, toReset, toCpu, gapOf, passOf}
 use Rattle.r6501q_step.specs.R6501q.{World, clockOutcome, r6501q, chip, machine}
 use Rattle.r6501q_step.specs.Shifted.{shiftedState}
-use Rattle.r6501q_step.proofs.Examples.{startWith, tapeMemory, tapeStart, reached, halt-reached, halt-leaps}
 
 module _ (k : ℕ) where
   -- ---- steps 1 to 3
@@ -220,28 +219,3 @@ pub four-differs : (halt : Halt) (memory : List ℕ) → length memory ≡ memor
 unfolding refusalOf wellFormed fresh pinsRight byteWaits
 four-differs halt memory whole =
     (rw (eq-eqb (length memory) memorySpan whole), rw (eq-eqb (length memory) memorySpan whole))
-
--- 02, U4: document 01's tape with the halt address 0000h (`halt-reached`, `halt-leaps`), from fresh but for its clock,
--- any k: stop 12 behind twelve clocks, after one record, in 4 leaps
-abbrev tapeAt : ℕ → World
-tapeAt k = startWith (shiftedState k fresh) tapeMemory ((1 + k) ∷ []) (resHigh ∷ []) (0 ∷ []) (0 ∷ [])
-
-tape-alike : (k : ℕ) → ShiftedWorld shiftedState k (tapeStart 1) (tapeAt k)
-tape-alike k =
-    start-alike (At 0) k fresh tapeMemory (1 ∷ []) (resHigh ∷ []) (0 ∷ []) (0 ∷ []) (0 ∷ []) (0 ∷ []) refl refl
-
-pub tape-reached : (k : ℕ) → reached (plains (chip (At 0)) 100 (tapeAt k)) ≡ 12 ∷ (12 + k) ∷ 0 ∷ 1 ∷ []
-tape-reached k =
-    by-fields (plains (chip (At 0)) 100 (tapeStart 1)) (plains (chip (At 0)) 100 (tapeAt k))
-    (plains-shifted (At 0) k (tapeStart 1) (tapeAt k) (tape-alike k) 100) ∙ ap clockShifted halt-reached
-  where
-    clockShifted : List ℕ → List ℕ
-    clockShifted [] = []
-    clockShifted (stop ∷ []) = stop ∷ []
-    clockShifted (stop ∷ clock ∷ l) = stop ∷ (clock + k) ∷ l
-
-    by-fields : (w v : World) → ShiftedWorld shiftedState k w v → reached v ≡ clockShifted (reached w)
-    by-fields w v r = rw (r .stop, r .state, r .written)
-
-pub tape-leaps : (k : ℕ) → leapCount (chip (At 0)) 100 (tapeAt k) ≡ 4
-tape-leaps k = count-shifted (At 0) k (tapeStart 1) (tapeAt k) (tape-alike k) 100 ∙ halt-leaps

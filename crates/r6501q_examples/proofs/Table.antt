@@ -27,12 +27,12 @@ use Rattle.leaps.specs.Calls.{callStart, Fit}
 use Rattle.cpu_access.specs.declared.waiting.Waiting.the-variants.{Nothing, Byte}
 use Rattle.r6501q_step.specs.R6501q.{World, r6501q, chip, machine}
 use Rattle.r6501q_step.proofs.Halted.{toldBy, clockIn}
-use Rattle.r6501q_step.proofs.Examples as clocks
-use Rattle.r6501q_step.proofs.ShiftRegister.{ShiftRegister, shift-register}
-use Rattle.r6501q_step.proofs.AccessOrder.{AccessOrder, access-order}
-use Rattle.r6501q_step.proofs.IndirectJump.{jumpMemory, indirect-jump}
+use Rattle.r6501q_examples.proofs.Examples as clocks
+use Rattle.r6501q_examples.proofs.ShiftRegister.{ShiftRegister, shift-register}
+use Rattle.r6501q_examples.proofs.AccessOrder.{AccessOrder, access-order}
+use Rattle.r6501q_examples.proofs.IndirectJump.{jumpMemory, indirect-jump}
 use Rattle.r6501q_step.proofs.Held.{held-clocks, held-leaps}
 use Rattle.r6501q_run.proofs.Fair.{first-half}
 
 -- both counters and IFR after n clocks of a fresh chip with no inputs
 abbrev pub heldRow : ℕ → List ℕ → List ℕ

@@ -57,12 +57,12 @@ use Rattle.leaps.specs.World.{putRecord, plainOf, doneIn, eventIn}
 use Rattle.r6501q_gaps.specs.Events.{hasInput, sameLevels, levelsChange, underflowsA, underflowsB, portsFresh}
 use Rattle.r6501q_gaps.specs.Events.{controlFresh, transmitterIdle, receiverIdle, isReset, resetChanges, cpuStarts}
 use Rattle.r6501q_gaps.specs.Events.{putsByte, eventOf}
 use Rattle.r6501q_step.specs.R6501q.{World, plain, chip}
 use Rattle.r6501q_step.proofs.Halted.{toldBy, clockIn}
 use lib.ListN.{replicate}
 use Rattle.cpu_alu.specs.Shift.{incrementOf, setBitOf}
 use Rattle.bits.specs.Bits.{word16}
-use Rattle.r6501q_step.proofs.Examples.{startWith}
+use Rattle.r6501q_examples.proofs.Examples.{startWith}
 
 -- SP, P, the interrupt flags and enables, and the external levels of the ports; PC 0040h, nothing due, no wait
 abbrev pub readyAt : ℕ → ℕ → ℕ → ℕ → ℕ → State
