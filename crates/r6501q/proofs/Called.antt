@@ -9,8 +9,8 @@ use Rattle.r6501q_state.specs.declared.state.State.{State}
 use Rattle.r6501q_step.specs.declared.CallResult.{CallResult}
 use Rattle.r6501q_step.specs.R6501q.{World, Handed}
 use Rattle.r6501q_step.specs.Calls.{handed}
-use Rattle.r6501q.specs.declared.host.HostState.{HostState}
-use Rattle.r6501q.specs.declared.host.HostResult.{HostResult}
+use Rattle.r6501q_host.specs.declared.HostState.{HostState}
+use Rattle.r6501q_host.specs.declared.HostResult.{HostResult}
 use Rattle.r6501q.specs.Host.{stateFromHost, flagsFit, hostResult}
 use Rattle.r6501q.specs.Calls.{hostHanded, hostCall}
 

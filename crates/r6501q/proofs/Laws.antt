@@ -20,11 +20,11 @@ use Rattle.r6501q_step.specs.R6501q.{World, Handed, r6501q, machine}
 use Rattle.cpu_access.specs.declared.waiting.Waiting.{Waiting}
 use Rattle.cpu_access.specs.declared.waiting.Waiting.the-variants.{Nothing, Byte}
 use Rattle.cpu_access.specs.Stack.{writeAt}
-use Rattle.r6501q.specs.declared.host.HostWaiting.{HostWaiting}
-use Rattle.r6501q.specs.declared.host.HostDue.{HostDue}
-use Rattle.r6501q.specs.declared.host.HostPeripherals.{HostPeripherals}
-use Rattle.r6501q.specs.declared.host.HostLevels.{HostLevels}
-use Rattle.r6501q.specs.declared.host.HostState.{HostState}
+use Rattle.r6501q_host.specs.declared.HostWaiting.{HostWaiting}
+use Rattle.r6501q_host.specs.declared.HostDue.{HostDue}
+use Rattle.r6501q_host.specs.declared.HostPeripherals.{HostPeripherals}
+use Rattle.r6501q_host.specs.declared.HostLevels.{HostLevels}
+use Rattle.r6501q_host.specs.declared.HostState.{HostState}
 use Rattle.r6501q.specs.Host.{flagOf, isFlag, waitingFromHost, levelsFromHost, stateFromHost, waitingFits}
 use Rattle.r6501q.specs.Host.{flagsFit, haltOf, hostWaiting, hostLevels, hostState}
 use Rattle.r6501q.specs.Calls.{HostWorld, hostWellFormed, worldFromHost, hostHandedOf, hostRefusalOf, hostCall}

@@ -14,7 +14,7 @@ use Rattle.leaps.specs.Lists.{Call, countOf, listed}
 use Rattle.leaps.specs.Calls.{callStart, refusedHanded, refusedWith, lentOf, afterCallOf, Room}
 use Rattle.leaps.specs.Summed.{ListedSums, withSums, listedSums, callsWithSums}
 use Rattle.leaps.proofs.Summed as theory
-use Rattle.r6501q.specs.declared.host.HostState.{HostState}
+use Rattle.r6501q_host.specs.declared.HostState.{HostState}
 use Rattle.r6501q.specs.Host.{flagsFit}
 use Rattle.r6501q.specs.Calls.{HostWorld, hostWellFormed, hostRefusalOf}
 use Rattle.r6501q.specs.Lists.{HostListed, hostCalled, hostCalls, hostPlain, refusedEach}

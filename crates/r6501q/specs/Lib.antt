@@ -1,4 +1,3 @@
-pub mod Host
 pub mod Calls
 pub mod Lists
 pub mod Shifted

@@ -9,32 +9,30 @@ ghost use Rattle.leaps.specs.Lent.{atEntry};
 ghost use Rattle.leaps.specs.Summed.{withSums};
 ghost use Rattle.r6501q_state.specs.State.{fresh};
 ghost use Rattle.r6501q_step.specs.R6501q.{r6501qLimits, machine};
-ghost use Rattle.r6501q.specs.Host.{haltOf, hostState, hostRefused};
+ghost use Rattle.r6501q.specs.Host.{haltOf, hostState};
+ghost use Rattle.r6501q.specs.Calls.{hostRefused};
 ghost use Rattle.r6501q.specs.Calls.{hostWellFormed, hostCall, hostLoad, hostLoadWithSums, hostLoaded, hostTotal};
 ghost use Rattle.r6501q.specs.Calls.{hostLatch, hostAtExit};
 use bits::digit8;
-use host::HostLatchResult;
-use host::HostLoadResult;
-use host::HostResult;
-use host::HostState;
-use host::HostTotalResult;
-use host::flags_fit;
-use host::halt_of;
-use host::host_latch_result;
-use host::host_load_result;
-use host::host_result;
-use host::host_state;
-use host::host_total_result;
-use host::state_of;
 use page_sums::WRONG_PAGE_LIST;
 use page_sums::page_list_refused;
+use r6501q_host::HostLatchResult;
+use r6501q_host::HostLoadResult;
+use r6501q_host::HostResult;
+use r6501q_host::HostState;
+use r6501q_host::HostTotalResult;
+use r6501q_host::flags_fit;
+use r6501q_host::halt_of;
+use r6501q_host::host_latch_result;
+use r6501q_host::host_load_result;
+use r6501q_host::host_result;
+use r6501q_host::host_state;
+use r6501q_host::host_total_result;
+use r6501q_host::state_of;
 use r6501q_state::state::fresh_state;
 use r6501q_state::state::well_formed;
 use r6501q_step::limits;
 use refusals::refusal;
-
-// What crosses the interface.
-pub mod host;
 
 // What a call hands back where a flag is a byte above 1: the state as it was given, and the first check that fails of
 // a state that is not well-formed.

@@ -1,9 +1,0 @@
-use borrow.Author.Needs.{needs}
-use Rattle.r6501q.proofs.host.host_receiver.Statement.{statement}
-use Rattle.r6501q.proofs.host.host_receiver.Tie as tie
-
-returns : tie.Need-returns
-returns c = rw (← (c .digit8 .ensures))
-
-pub host-receiver-spec : {M : Type 1} → statement M
-host-receiver-spec = tie.close (tie.spec (λ c κs. search needs) returns)

@@ -1,0 +1,9 @@
+use borrow.Author.Needs.{needs}
+use Rattle.r6501q_host.proofs.host_due.Statement.{statement}
+use Rattle.r6501q_host.proofs.host_due.Tie as tie
+
+returns : tie.Need-returns
+returns c = rw (c .digit82 .ensures, c .before .digit8 .ensures)
+
+pub host-due-spec : {M : Type 1} → statement M
+host-due-spec = tie.close (tie.spec (λ c κs. search needs) (λ c κs. search needs) returns)
