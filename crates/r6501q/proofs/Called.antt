@@ -11,7 +11,7 @@ use Rattle.r6501q_step.specs.R6501q.{World, Handed}
 use Rattle.r6501q_step.specs.Calls.{handed}
 use Rattle.r6501q_host.specs.declared.HostState.{HostState}
 use Rattle.r6501q_host.specs.declared.HostResult.{HostResult}
-use Rattle.r6501q.specs.Host.{stateFromHost, flagsFit, hostResult}
+use Rattle.r6501q_host.specs.Host.{stateFromHost, flagsFit, hostResult}
 use Rattle.r6501q.specs.Calls.{hostHanded, hostCall}
 
 module _ (call : Halt → World → Handed) (n : ℕ) (memory inputClocks inputCodes outputClocks outputWords : List ℕ) where

@@ -15,7 +15,7 @@ use Rattle.leaps.proofs.Calls.{refusal-no-stop, refused-hands-on}
 use Rattle.r6501q_step.specs.R6501q.{World, Handed, Result, r6501qLimits, machine}
 use Rattle.r6501q_run.proofs.Fair.{fair}
 use Rattle.r6501q_host.specs.declared.HostState.{HostState}
-use Rattle.r6501q.specs.Host.{stateFromHost, haltOf, flagsFit, hostState}
+use Rattle.r6501q_host.specs.Host.{stateFromHost, haltOf, flagsFit, hostState}
 use Rattle.r6501q.specs.Calls.{HostWorld, HostHanded, worldFromHost, hostWorld, hostHandedOf, hostRefusalOf}
 use Rattle.r6501q.specs.Calls.{hostCall}
 use Rattle.r6501q.specs.Lists.{HostListed, hostCalled, hostCalls, hostResults, hostPlain, refusedEach, HostFair}

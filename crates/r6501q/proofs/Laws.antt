@@ -25,8 +25,8 @@ use Rattle.r6501q_host.specs.declared.HostDue.{HostDue}
 use Rattle.r6501q_host.specs.declared.HostPeripherals.{HostPeripherals}
 use Rattle.r6501q_host.specs.declared.HostLevels.{HostLevels}
 use Rattle.r6501q_host.specs.declared.HostState.{HostState}
-use Rattle.r6501q.specs.Host.{flagOf, isFlag, waitingFromHost, levelsFromHost, stateFromHost, waitingFits}
-use Rattle.r6501q.specs.Host.{flagsFit, haltOf, hostWaiting, hostLevels, hostState}
+use Rattle.r6501q_host.specs.Host.{flagOf, isFlag, waitingFromHost, levelsFromHost, stateFromHost, waitingFits}
+use Rattle.r6501q_host.specs.Host.{flagsFit, haltOf, hostWaiting, hostLevels, hostState}
 use Rattle.r6501q.specs.Calls.{HostWorld, hostWellFormed, worldFromHost, hostHandedOf, hostRefusalOf, hostCall}
 use Rattle.r6501q.specs.Lists.{hostCalled}
 

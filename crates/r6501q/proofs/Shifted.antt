@@ -15,7 +15,7 @@ use Rattle.r6501q_step.specs.Shifted.{shiftedState}
 use Rattle.r6501q_step.proofs.Shifted.{step-shifted, run-call-shifted}
 use Rattle.r6501q_run.proofs.Shifted.{list-shifted, run-past-last}
 use Rattle.r6501q_host.specs.declared.HostState.{HostState}
-use Rattle.r6501q.specs.Host.{stateFromHost, haltOf, flagsFit, hostState}
+use Rattle.r6501q_host.specs.Host.{stateFromHost, haltOf, flagsFit, hostState}
 use Rattle.r6501q.specs.Calls.{HostWorld, worldFromHost, hostWorld, hostResultOf, hostHandedOf, hostCall}
 use Rattle.r6501q.specs.Lists.{hostCalled, hostCalls, hostResults}
 use Rattle.r6501q.specs.Shifted.{hostShifted}

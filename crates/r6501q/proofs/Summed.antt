@@ -15,7 +15,7 @@ use Rattle.leaps.specs.Calls.{callStart, refusedHanded, refusedWith, lentOf, af
 use Rattle.leaps.specs.Summed.{ListedSums, withSums, listedSums, callsWithSums}
 use Rattle.leaps.proofs.Summed as theory
 use Rattle.r6501q_host.specs.declared.HostState.{HostState}
-use Rattle.r6501q.specs.Host.{flagsFit}
+use Rattle.r6501q_host.specs.Host.{flagsFit}
 use Rattle.r6501q.specs.Calls.{HostWorld, hostWellFormed, hostRefusalOf}
 use Rattle.r6501q.specs.Lists.{HostListed, hostCalled, hostCalls, hostPlain, refusedEach}
 use Rattle.r6501q.proofs.Laws.{exported-refused}

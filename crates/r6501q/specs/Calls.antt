@@ -20,8 +20,8 @@ use Rattle.r6501q_host.specs.declared.HostResult.{HostResult}
 use Rattle.r6501q_host.specs.declared.HostLoadResult.{HostLoadResult}
 use Rattle.r6501q_host.specs.declared.HostLatchResult.{HostLatchResult}
 use Rattle.r6501q_host.specs.declared.HostTotalResult.{HostTotalResult}
-use Rattle.r6501q.specs.Host.{stateFromHost, flagsFit, hostState, hostLoadResult, hostTotalResult}
-use Rattle.r6501q.specs.Host.{hostLatchResult}
+use Rattle.r6501q_host.specs.Host.{stateFromHost, flagsFit, hostState, hostLoadResult, hostTotalResult}
+use Rattle.r6501q_host.specs.Host.{hostLatchResult}
 
 -- "1 to 5 give back the state given, everything unchanged"
 abbrev pub hostRefused : ℕ → HostState → HostResult

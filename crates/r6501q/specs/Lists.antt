@@ -10,7 +10,7 @@ use Rattle.leaps.specs.Calls as calls
 use Rattle.leaps.specs.Calls.{lentOf, afterCallOf, refusedWith}
 use Rattle.r6501q_step.specs.R6501q.{World, Result, chip, machine}
 use Rattle.r6501q_host.specs.declared.HostState.{HostState}
-use Rattle.r6501q.specs.Host.{haltOf, flagsFit}
+use Rattle.r6501q_host.specs.Host.{haltOf, flagsFit}
 use Rattle.r6501q.specs.Calls.{HostWorld, HostHanded, worldFromHost, hostWorld, hostResultOf, hostRefusalOf}
 use Rattle.r6501q.specs.Calls.{hostCall}
 

@@ -9,7 +9,7 @@ ghost use Rattle.leaps.specs.Lent.{atEntry};
 ghost use Rattle.leaps.specs.Summed.{withSums};
 ghost use Rattle.r6501q_state.specs.State.{fresh};
 ghost use Rattle.r6501q_step.specs.R6501q.{r6501qLimits, machine};
-ghost use Rattle.r6501q.specs.Host.{haltOf, hostState};
+ghost use Rattle.r6501q_host.specs.Host.{haltOf, hostState};
 ghost use Rattle.r6501q.specs.Calls.{hostRefused};
 ghost use Rattle.r6501q.specs.Calls.{hostWellFormed, hostCall, hostLoad, hostLoadWithSums, hostLoaded, hostTotal};
 ghost use Rattle.r6501q.specs.Calls.{hostLatch, hostAtExit};

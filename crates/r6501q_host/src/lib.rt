@@ -1,11 +1,11 @@
 // The state and what is handed back as the host, a program in C or Rust, holds them: each flag and level is a byte, 0
 // or 1, and no byte waiting is 0, 0, 0.
 ghost use mathlib.Core.Path.{_≡_};
-ghost use Rattle.r6501q.specs.Host.{waitingFromHost, cpuFromHost, waitingFits, hostWaiting, hostCpu, dueFromHost};
-ghost use Rattle.r6501q.specs.Host.{counterBFromHost, receiverFromHost, levelsFromHost, peripheralsFromHost};
-ghost use Rattle.r6501q.specs.Host.{stateFromHost, flagsFit, haltOf, hostDue, hostCounterB, hostReceiver};
-ghost use Rattle.r6501q.specs.Host.{hostLevels, hostPeripherals, hostState, hostResult, hostLoadResult};
-ghost use Rattle.r6501q.specs.Host.{hostTotalResult, hostLatchResult};
+ghost use Rattle.r6501q_host.specs.Host.{waitingFromHost, cpuFromHost, waitingFits, hostWaiting, hostCpu, dueFromHost};
+ghost use Rattle.r6501q_host.specs.Host.{counterBFromHost, receiverFromHost, levelsFromHost, peripheralsFromHost};
+ghost use Rattle.r6501q_host.specs.Host.{stateFromHost, flagsFit, haltOf, hostDue, hostCounterB, hostReceiver};
+ghost use Rattle.r6501q_host.specs.Host.{hostLevels, hostPeripherals, hostState, hostResult, hostLoadResult};
+ghost use Rattle.r6501q_host.specs.Host.{hostTotalResult, hostLatchResult};
 use bit_rate::Found;
 use bits::digit8;
 use counters::a::CounterA;

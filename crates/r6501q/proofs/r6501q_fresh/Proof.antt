@@ -1,4 +1,4 @@
-use Rattle.r6501q.specs.Host.{hostState}
+use Rattle.r6501q_host.specs.Host.{hostState}
 use borrow.Author.Needs.{needs}
 use Rattle.r6501q.proofs.r6501q_fresh.Statement.{statement}
 use Rattle.r6501q.proofs.r6501q_fresh.Tie as tie

@@ -1,5 +1,5 @@
 use mathlib.Core.Path.{refl}
-use Rattle.r6501q.specs.Host.{flagsFit}
+use Rattle.r6501q_host.specs.Host.{flagsFit}
 use borrow.Author.Needs.{needs}
 use Rattle.r6501q_host.proofs.flags_fit.Statement.{statement}
 use Rattle.r6501q_host.proofs.flags_fit.Tie as tie

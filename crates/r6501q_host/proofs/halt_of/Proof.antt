@@ -1,6 +1,6 @@
 use mathlib.Core.Path.{refl}
 use borrow.Author.Tests.{le-leb, lt-leb}
-use Rattle.r6501q.specs.Host.{haltOf}
+use Rattle.r6501q_host.specs.Host.{haltOf}
 use borrow.Author.Needs.{needs}
 use Rattle.r6501q_host.proofs.halt_of.Statement.{statement}
 use Rattle.r6501q_host.proofs.halt_of.Tie as tie

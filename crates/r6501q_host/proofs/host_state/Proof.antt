@@ -1,5 +1,5 @@
 use mathlib.Core.Path.{refl}
-use Rattle.r6501q.specs.Host.{hostState}
+use Rattle.r6501q_host.specs.Host.{hostState}
 use borrow.Author.Needs.{needs}
 use Rattle.r6501q_host.proofs.host_state.Statement.{statement}
 use Rattle.r6501q_host.proofs.host_state.Tie as tie

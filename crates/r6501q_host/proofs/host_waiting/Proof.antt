@@ -1,4 +1,4 @@
-use Rattle.r6501q.specs.Host.{hostWaiting}
+use Rattle.r6501q_host.specs.Host.{hostWaiting}
 use mathlib.Core.Path.{refl}
 use borrow.Author.Needs.{needs}
 use Rattle.r6501q_host.proofs.host_waiting.Statement.{statement}

@@ -1,5 +1,5 @@
 use mathlib.Core.Path.{refl}
-use Rattle.r6501q.specs.Host.{stateFromHost}
+use Rattle.r6501q_host.specs.Host.{stateFromHost}
 use borrow.Author.Needs.{needs}
 use Rattle.r6501q_host.proofs.state_of.Statement.{statement}
 use Rattle.r6501q_host.proofs.state_of.Tie as tie

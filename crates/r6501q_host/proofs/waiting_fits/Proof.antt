@@ -1,4 +1,4 @@
-use Rattle.r6501q.specs.Host.{waitingFits}
+use Rattle.r6501q_host.specs.Host.{waitingFits}
 use mathlib.Core.Path.{refl}
 use Rattle.r6501q_host.proofs.waiting_fits.Statement.{statement}
 use Rattle.r6501q_host.proofs.waiting_fits.Tie as tie

@@ -1,4 +1,4 @@
-use Rattle.r6501q.specs.Host.{waitingFromHost}
+use Rattle.r6501q_host.specs.Host.{waitingFromHost}
 use borrow.Author.Tests.{lt-ltb, le-ltb, le-leb, lt-leb, eq-eqb, ne-eqb}
 use Rattle.r6501q_host.proofs.waiting_from.Statement.{statement}
 use Rattle.r6501q_host.proofs.waiting_from.Tie as tie
