@@ -22,6 +22,15 @@ nextWork w worked = record {
   leaps = w .leaps + 1;
 }
 
+-- a store's last clock: the clocks waited, on the last of which its byte is put
+abbrev pub waitedOut : Work → Work
+waitedOut w = record {
+  registers = w .registers;
+  wait = 0;
+  gone = record { 0 = w .gone .0 + w .wait };
+  leaps = w .leaps + 1;
+}
+
 -- what is reached from `start` by instructions that write nothing, each of which starts within the span
 pub data ReadOnly (span : ℕ) (answers memory : List ℕ) (start : Work) : Work → Type 0 where
   none : ReadOnly span answers memory start start

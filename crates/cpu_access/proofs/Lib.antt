@@ -6,3 +6,4 @@ pub mod Answering
 pub mod Performed
 pub mod Pointers
 pub mod Told
+pub mod Ends

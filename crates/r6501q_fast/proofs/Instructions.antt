@@ -13,10 +13,11 @@ use Rattle.r6501q_unseen.specs.Unseen.{onTick}
 use Rattle.cpu_access.specs.declared.halt.Halt.{Halt}
 use Rattle.cpu.specs.declared.work.Work.{Work}
 use Rattle.cpu.specs.Work.{WithinSpan}
-use Rattle.r6501q_fast.specs.declared.Attempt.{Attempt}
-use Rattle.r6501q_fast.specs.Attempts.{Instructed, pushing, storing, Tries, unchanged, whole, ByInstructions}
-use Rattle.r6501q_fast.specs.Attempts.{none, more}
-use Rattle.r6501q_fast.specs.Attempts.{sharedBy}
+use Rattle.r6501q_mnemonics.specs.declared.Attempt.{Attempt}
+use Rattle.r6501q_mnemonics.specs.Attempts.{Instructed, pushing, storing, Tries, unchanged, whole}
+use Rattle.r6501q_fast.specs.Instructions.{ByInstructions}
+use Rattle.r6501q_fast.specs.Instructions.{none, more}
+use Rattle.r6501q_fast.specs.Instructions.{sharedBy}
 
 pub starts-within : (on : Bool) (w : Work) (span : ℕ) → (on && ltb (w .wait) (span - w .gone .0)) ≡ true
     → w .gone .0 + w .wait < span

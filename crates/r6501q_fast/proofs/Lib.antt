@@ -1,4 +1,1 @@
-pub mod Commits
-pub mod Opcodes
-pub mod Tried
 pub mod Instructions

@@ -4,31 +4,20 @@ ghost use mathlib.Core.Path.{_≡_};
 ghost use Prim.Native.Nat.{_+_, _≤_, _<_};
 ghost use Rattle.page_sums.specs.PageSums.{sumsAfter};
 ghost use Rattle.cpu.specs.Work.{WithinSpan};
-ghost use Rattle.r6501q_fast.specs.Attempts.{ByInstructions, RunsOn, sharedBy, leftAsItWas, startedNext};
-ghost use Rattle.r6501q_fast.specs.Attempts.{storedWhole};
-ghost use Rattle.r6501q_fast.specs.Attempts.{asksFor};
+ghost use Rattle.r6501q_fast.specs.Instructions.{ByInstructions, RunsOn, sharedBy};
 use bits::digit8;
 use counters::time::Clocks;
 use cpu::work::Work;
-use cpu_access::CpuRegisters;
 use cpu_access::halt::Halt;
 use cpu_access::memory_byte;
-use cpu_access::modes::Place;
 use cpu_access::waiting::Waiting;
-use cpu_kinds::updates::with_pc;
 use memory::MEMORY_SPAN;
 use memory::is_register;
+use r6501q_mnemonics::same_work;
 use r6501q_spans::Working;
 use r6501q_spans::none_waiting;
 use r6501q_unseen::Ticking;
 use r6501q_unseen::on_tick;
-
-pub mod flow; // flow.rt: no operand in memory, branches, jumps, the stack, calls and returns
-pub mod places; // places.rt: the places of operands
-pub mod reads; // reads.rt: operations that read a byte
-pub mod registers; // registers.rt: operations on registers and flags
-pub mod rows; // rows.rt: the opcodes, by the rows of the code matrix
-pub mod stores; // stores.rt: operations that store or change a byte
 
 // The work after some instructions, and how many of the clocks that they acted on had a tick too.
 pub struct Ran {
@@ -40,75 +29,6 @@ pub struct Ran {
 pub struct RanOn {
     pub working: Working,
     pub shared: u32,
-}
-
-// Whether an instruction was done, and the work after it; as it was before, where not.
-pub struct Attempt {
-    pub succeeded: bool,
-    pub work: Work,
-}
-
-// The work field by field, so that its registers stay in the host's own.
-fn same_work(w: Work) -> Work
-    ensures { λ r. ⌜ r ≡ w ⌝ }
-{
-    Work {
-        registers: with_pc(w.registers, w.registers.pc),
-        wait: w.wait,
-        gone: Clocks(w.gone.0),
-        leaps: w.leaps,
-    }
-}
-
-// The instruction is left to others.
-fn left_as_it_was(w: Work) -> Attempt
-    ensures { λ r. ⌜ r ≡ leftAsItWas w ⌝ }
-{
-    Attempt {
-        succeeded: false,
-        work: same_work(w),
-    }
-}
-
-// An instruction of so many clocks, done: the next one starts after them.
-fn started_next(w: Work, registers: CpuRegisters, length: u8) -> Attempt
-    requires { ⌜ (w .gone .0 + w .wait + 1 ≤ 4294967295) × (w .leaps + 1 ≤ 4294967295) ⌝ }
-    ensures { λ r. ⌜ r ≡ startedNext w registers length ⌝ }
-{
-    let work = Work {
-        registers: with_pc(registers, registers.pc),
-        wait: bits::one_less(length),
-        gone: Clocks(w.gone.0 + w.wait as u32 + 1),
-        leaps: w.leaps + 1,
-    };
-    Attempt {
-        succeeded: true,
-        work: work,
-    }
-}
-
-// A store of so many clocks, done, its byte put on the last of them.
-fn stored_whole(w: Work, registers: CpuRegisters, length: u8) -> Attempt
-    requires { ⌜ (w .gone .0 + w .wait + length ≤ 4294967295) × (w .leaps + 2 ≤ 4294967295) × (1 ≤ length) ⌝ }
-    ensures { λ r. ⌜ r ≡ storedWhole w registers length ⌝ }
-{
-    let work = Work {
-        registers: with_pc(registers, registers.pc),
-        wait: 0,
-        gone: Clocks(w.gone.0 + w.wait as u32 + length as u32),
-        leaps: w.leaps + 2,
-    };
-    Attempt {
-        succeeded: true,
-        work: work,
-    }
-}
-
-// Whether the operand, or a byte on the way to it, is a register's.
-fn asks_for(p: Place) -> bool
-    ensures { λ r. ⌜ r ≡ asksFor p ⌝ }
-{
-    p.bus.missing | is_register(p.address)
 }
 
 // PC above this may have operand bytes at the registers' addresses, past FFFFh.
@@ -183,22 +103,22 @@ pub fn run_opcodes(
         }
         let opcode = memory_byte(memory, pc);
         let tried = match opcode / 16 {
-            0 => rows::row_0(w, span, memory, sums, halt, opcode),
-            1 => rows::row_1(w, span, memory, sums, halt, opcode),
-            2 => rows::row_2(w, span, memory, sums, halt, opcode),
-            3 => rows::row_3(w, span, memory, sums, halt, opcode),
-            4 => rows::row_4(w, span, memory, sums, halt, opcode),
-            5 => rows::row_5(w, span, memory, sums, halt, opcode),
-            6 => rows::row_6(w, span, memory, sums, halt, opcode),
-            7 => rows::row_7(w, span, memory, sums, halt, opcode),
-            8 => rows::row_8(w, span, memory, sums, halt, opcode),
-            9 => rows::row_9(w, span, memory, sums, halt, opcode),
-            10 => rows::row_a(w, span, memory, sums, halt, opcode),
-            11 => rows::row_b(w, span, memory, sums, halt, opcode),
-            12 => rows::row_c(w, span, memory, sums, halt, opcode),
-            13 => rows::row_d(w, span, memory, sums, halt, opcode),
-            14 => rows::row_e(w, span, memory, sums, halt, opcode),
-            _ => rows::row_f(w, span, memory, sums, halt, opcode),
+            0 => r6501q_rows::row_0(w, span, memory, sums, halt, opcode),
+            1 => r6501q_rows::row_1(w, span, memory, sums, halt, opcode),
+            2 => r6501q_rows::row_2(w, span, memory, sums, halt, opcode),
+            3 => r6501q_rows::row_3(w, span, memory, sums, halt, opcode),
+            4 => r6501q_rows::row_4(w, span, memory, sums, halt, opcode),
+            5 => r6501q_rows::row_5(w, span, memory, sums, halt, opcode),
+            6 => r6501q_rows::row_6(w, span, memory, sums, halt, opcode),
+            7 => r6501q_rows::row_7(w, span, memory, sums, halt, opcode),
+            8 => r6501q_rows::row_8(w, span, memory, sums, halt, opcode),
+            9 => r6501q_rows::row_9(w, span, memory, sums, halt, opcode),
+            10 => r6501q_rows::row_a(w, span, memory, sums, halt, opcode),
+            11 => r6501q_rows::row_b(w, span, memory, sums, halt, opcode),
+            12 => r6501q_rows::row_c(w, span, memory, sums, halt, opcode),
+            13 => r6501q_rows::row_d(w, span, memory, sums, halt, opcode),
+            14 => r6501q_rows::row_e(w, span, memory, sums, halt, opcode),
+            _ => r6501q_rows::row_f(w, span, memory, sums, halt, opcode),
         };
         shared = with_shared(
             ticking,

@@ -27,12 +27,13 @@ use Rattle.r6501q_clock.specs.declared.Clocked.the-variants.{Done}
 use Rattle.r6501q_clock.specs.Commit.{putWrite, committed}
 use Rattle.r6501q_step.specs.R6501q.{chip}
 use Rattle.r6501q_step.specs.World.{worldOf}
-use Rattle.r6501q_spans.specs.Spans.{noneWaiting, writesRegister, endsSpan, continuedBy, committedBy, workBy, memoryBy}
+use Rattle.r6501q_spans.specs.Spans.{noneWaiting, continuedBy, committedBy, workBy, memoryBy}
+use Rattle.cpu_access.specs.Halt.{writesRegister, endsSpan}
 use Rattle.r6501q_span_reads.specs.Served.{outcomeWithin}
 use Rattle.r6501q_spans.specs.Spans.{nextWorking, workAfter, memoryAfter, putWork, putsWithin, workPut}
 use Rattle.r6501q_spans.specs.Spans.{memoryPut}
 use Rattle.r6501q_spans.specs.declared.Working.{Working}
-use Rattle.r6501q_spans.proofs.Ends.{ends-not}
+use Rattle.cpu_access.proofs.Ends.{ends-not}
 use Rattle.r6501q_spans.proofs.Ticked.{byteWaiting}
 use Rattle.r6501q_leap.specs.declared.Leaped.{Leaped}
 use Rattle.r6501q_leap.specs.Leap.{runFrom, Leaping}

@@ -40,21 +40,22 @@ use Rattle.r6501q_unseen.proofs.Laws.{ticks-one, first-tick, ticks-most}
 use Rattle.r6501q_step.specs.declared.Progress.{Progress}
 use Rattle.r6501q_step.specs.R6501q.{World, r6501q, chip}
 use Rattle.r6501q_step.specs.World.{worldOf}
-use Rattle.r6501q_spans.specs.Spans.{beginWork, noneWaiting, nextWorking, endsSpan, workAfter}
+use Rattle.r6501q_spans.specs.Spans.{beginWork, noneWaiting, nextWorking, workAfter}
+use Rattle.cpu_access.specs.Halt.{endsSpan}
 use Rattle.r6501q_span_reads.specs.Served.{outcomeWithin}
 use Rattle.r6501q_spans.specs.Spans.{memoryAfter, putWork, workPut}
 use Rattle.r6501q_spans.specs.Spans.{memoryPut, WorkedOn}
 use Rattle.r6501q_spans.specs.Ticked.{AloneSeen, tickedState}
 use Rattle.r6501q_spans.specs.declared.Working.{Working}
-use Rattle.r6501q_spans.proofs.Ends.{ends-neither}
+use Rattle.cpu_access.proofs.Ends.{ends-neither}
 use Rattle.r6501q_span_reads.proofs.Steady.{within-done}
 use Rattle.r6501q_spans.proofs.Ticked.{waited, byteWaiting, ticked-left-b, ticked-due, ticked-clock}
 use Rattle.r6501q_spans.proofs.Ticked.{ticked-waits, tick-gap, cpu-gap, ticked-passed, ticked-none, until-start}
 use Rattle.r6501q_spans.proofs.Ticked.{instruction-there, until-put, byte-there}
 use Rattle.r6501q_leap.specs.declared.Leaped.{Leaped}
 use Rattle.r6501q_fast.specs.declared.RanOn.{RanOn}
-use Rattle.r6501q_fast.specs.Attempts as instructions
-use Rattle.r6501q_fast.specs.Attempts.{ByInstructions, sharedBy, RunsOn}
+use Rattle.r6501q_mnemonics.specs.Attempts as instructions
+use Rattle.r6501q_fast.specs.Instructions.{ByInstructions, sharedBy, RunsOn}
 use Rattle.r6501q_fast.proofs.Instructions.{shared-most}
 use Rattle.r6501q_span_leaps.specs.declared.Stepped.{Stepped}
 use Rattle.r6501q_span_leaps.specs.Ticked.{SpanBegun, sharedIn, leapsTo, tickedTo, EndFits, StepsOn}

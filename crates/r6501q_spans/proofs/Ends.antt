@@ -1,36 +1,27 @@
--- Which clock ends a span: one that writes a register or the halt address.
-use mathlib.Core.Path.{_≡_, refl, sym, ap, _∙_}
-use mathlib.Core.Bool.{Bool, true, false, _&&_, _||_, not, false≢true}
+-- What a clock of a span leaves: an instruction that pushes nothing, a byte put.
+use mathlib.Core.Path.{_≡_, refl, ap}
+use mathlib.Core.Bool.{Bool, true, false, _&&_, not}
 use mathlib.Core.List.{List}
 use Prim.Native.Nat.{ℕ, _-_}
 use lib.Dec.{ltb, leb}
-use Rattle.bits.proofs.Cond.{and-both, either-false}
+use Rattle.bits.proofs.Cond.{and-both}
 use Rattle.cpu_access.specs.declared.stack.Write.{Write}
 use Rattle.cpu_access.specs.Stack.{noWrites, oneWrite}
 use Rattle.cpu_access.proofs.Told.{unwritten}
 use Rattle.cpu_effects.specs.declared.Worked.{Worked}
 use Rattle.cpu_effects.specs.Effects.{pushesOf}
 use Rattle.cpu.specs.declared.work.Work.{Work}
-use Rattle.cpu_access.specs.declared.stack.Writes.{Writes}
 use Rattle.cpu_access.specs.declared.halt.Halt.{Halt}
-use Rattle.cpu_access.specs.Halt.{halts}
+use Rattle.cpu_access.specs.Halt.{writesRegister, endsSpan}
+use Rattle.cpu_access.proofs.Ends.{ends-not}
 use Rattle.r6501q_clock.specs.Commit.{putWrite, committed}
-use Rattle.r6501q_spans.specs.Spans.{writesRegister, endsSpan, nextWorking, continuedBy, committedBy, putsWithin}
+use Rattle.r6501q_spans.specs.Spans.{nextWorking, continuedBy, committedBy, putsWithin}
 
 and-first : (a b : Bool) → a ≡ false → (a && b) ≡ false
 and-first a b e = rw e refl
 
 and-second : (a b : Bool) → a ≡ true → b ≡ false → (a && b) ≡ false
 and-second a b e f = rw (e, f) refl
-
-pub ends-not : (halt : Halt) (w : Writes) → writesRegister w ≡ false → halts halt w ≡ false → endsSpan halt w ≡ false
-unfolding endsSpan
-ends-not halt w e h = rw (e, h)
-
-pub ends-neither : (halt : Halt) (w : Writes) → endsSpan halt w ≡ false
-    → (writesRegister w ≡ false) × (halts halt w ≡ false)
-unfolding endsSpan
-ends-neither halt w e = either-false (writesRegister w) (halts halt w) e
 
 -- an instruction that pushes nothing goes on, and leaves memory as it is
 no-writes-end : (halt : Halt) → endsSpan halt noWrites ≡ false

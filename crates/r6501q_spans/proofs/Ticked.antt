@@ -55,7 +55,8 @@ use Rattle.r6501q_unseen.specs.Unseen.{peripheralsClocks, ticksIn, SameSeen, Un
 use Rattle.r6501q_unseen.proofs.TickClocks.{peripherals-add}
 use Rattle.r6501q_unseen.proofs.Laws.{peripherals-one, none-ticks, unseen-left-b, peripherals-pass}
 use Rattle.r6501q_spans.specs.declared.Working.{Working}
-use Rattle.r6501q_spans.specs.Spans.{onlyCpu, noneWaiting, writesRegister, putWork}
+use Rattle.r6501q_spans.specs.Spans.{onlyCpu, noneWaiting, putWork}
+use Rattle.cpu_access.specs.Halt.{writesRegister}
 use Rattle.r6501q_span_reads.specs.Served.{steadyAsk, steadyAnswer}
 use Rattle.r6501q_span_reads.specs.Served.{answeredOnce, outcomeWithin}
 use Rattle.r6501q_spans.specs.Spans.{nextWorking}

@@ -8,19 +8,17 @@ use Rattle.cpu_alu.specs.Status.{packed, unpacked}
 use Rattle.r6501q_state.specs.declared.state.State.{State}
 use Rattle.r6501q_state.specs.Control.{pending}
 use Rattle.cpu_access.specs.declared.stack.Write.{Write}
-use Rattle.cpu_access.specs.declared.stack.Writes.{Writes}
 use Rattle.cpu_access.specs.declared.halt.Halt.{Halt}
 use Rattle.cpu_access.specs.declared.waiting.Waiting.{Waiting}
 use Rattle.cpu_access.specs.declared.waiting.Waiting.the-variants as waiting
-use Rattle.cpu_access.specs.Stack.{eachWrite, oneWrite}
-use Rattle.cpu_access.specs.Halt.{halts}
-use Rattle.memory.specs.Memory.{isRegister}
+use Rattle.cpu_access.specs.Stack.{oneWrite}
+use Rattle.cpu_access.specs.Halt.{endsSpan}
 use Rattle.cpu_effects.specs.declared.Worked.{Worked}
 use Rattle.cpu_effects.specs.Effects.{pushesOf, waitingOf}
 use Rattle.cpu.specs.declared.Outcome.{Outcome}
 use Rattle.cpu.specs.declared.Outcome.the-variants.{Stopped, Asked, Done}
 use Rattle.cpu.specs.declared.work.Work.{Work}
-use Rattle.cpu.specs.Work.{nextWork}
+use Rattle.cpu.specs.Work.{nextWork, waitedOut}
 use Rattle.r6501q_cpu.specs.Processor.{registersOf}
 use Rattle.r6501q_gaps.specs.Gaps.{clocksOf}
 use Rattle.r6501q_clock.specs.Commit.{committed}
@@ -43,15 +41,6 @@ beginWork s = record {
 
 abbrev pub noneWaiting : Work → Working
 noneWaiting w = record { work = w; waiting = waiting.Nothing }
-
--- one of the writes is at a register's address
-unfoldable pub writesRegister : Writes → Bool
-writesRegister w =
-    eachWrite (λ (there : Bool) (x : Write) (before : Bool). before || (there && isRegister (x .address))) w false
-
--- a clock with these writes is left to the clock's own rules: one is at a register's or at the halt address
-unfoldable pub endsSpan : Halt → Writes → Bool
-endsSpan halt w = writesRegister w || halts halt w
 
 -- ---- no byte waits: instructions
 
@@ -92,12 +81,7 @@ memoryAfter halt s span w memory =
 
 -- the clocks waited, on the last of which the byte is put
 abbrev pub putWork : Work → Working
-putWork w = noneWaiting (record {
-  registers = w .registers;
-  wait = 0;
-  gone = record { 0 = w .gone .0 + w .wait };
-  leaps = w .leaps + 1;
-})
+putWork w = noneWaiting (waitedOut w)
 
 -- its clock lies within the span, and it is not left to the clock's own rules
 unfoldable pub putsWithin : Halt → ℕ → Work → Write → Bool

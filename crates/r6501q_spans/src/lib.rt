@@ -6,7 +6,7 @@ ghost use Rattle.page_sums.specs.PageSums.{sumsAfter};
 ghost use Rattle.cpu_opcodes.specs.Table.{opcodeTable};
 ghost use Rattle.cpu.specs.Work.{WithinSpan};
 ghost use Rattle.r6501q_unseen.specs.Unseen.{Unseen};
-ghost use Rattle.r6501q_spans.specs.Spans.{onlyCpu, beginWork, noneWaiting, writesRegister, endsSpan};
+ghost use Rattle.r6501q_spans.specs.Spans.{onlyCpu, beginWork, noneWaiting};
 ghost use Rattle.r6501q_spans.specs.Spans.{continuedBy, committedBy, workAfter, memoryAfter, putWork, workPut};
 ghost use Rattle.r6501q_spans.specs.Spans.{memoryPut, WorkedOn, workBy, memoryBy, nextWorking};
 ghost use Rattle.r6501q_span_reads.specs.Served.{outcomeWithin};
@@ -16,15 +16,13 @@ use cpu::Outcome;
 use cpu::work::Work;
 use cpu::work::next_work;
 use cpu_access::halt::Halt;
-use cpu_access::halt::halts;
+use cpu_access::halt::ends_span;
 use cpu_access::stack::Write;
-use cpu_access::stack::Writes;
 use cpu_access::stack::one_write;
 use cpu_access::waiting::Waiting;
 use cpu_effects::Worked;
 use cpu_effects::pushes_of;
 use cpu_effects::waiting_of;
-use memory::is_register;
 use r6501q_clock::commit::commit;
 use r6501q_cpu::cpu_of;
 use r6501q_cpu::registers_of;
@@ -105,24 +103,6 @@ pub fn none_waiting(w: Work) -> Working
         work: w,
         waiting: Waiting::Nothing,
     }
-}
-
-// Whether one of the writes is at a register's address.
-fn writes_register(w: Writes) -> bool
-    ensures { λ r. ⌜ r ≡ writesRegister w ⌝ }
-{
-    let first = (0 < w.count) & is_register(w.first.address);
-    let second = (1 < w.count) & is_register(w.second.address);
-    let third = (2 < w.count) & is_register(w.third.address);
-    first | second | third
-}
-
-// Whether a clock with these writes is left to the clock's own rules.
-pub fn ends_span(w: Writes, halt: Halt) -> bool
-    ensures { λ r. ⌜ r ≡ endsSpan halt w ⌝ }
-{
-    let register = writes_register(w);
-    register | halts(w, halt)
 }
 
 // An instruction that was worked out: it is done where it pushes to memory alone, and not at the halt address.

@@ -4,7 +4,7 @@ use native.Mathlib.Nat.{add-zero}
 use borrow.Author.Needs.{needs}
 use borrow.Author.Tests.{eq-eqb, ne-eqb}
 use Rattle.bits.proofs.Cond.{digit-le}
-use Rattle.r6501q_fast.specs.Attempts.{sharedBy}
+use Rattle.r6501q_fast.specs.Instructions.{sharedBy}
 use Rattle.r6501q_fast.proofs.shared_by.Statement.{statement}
 use Rattle.r6501q_fast.proofs.shared_by.Tie as tie
 

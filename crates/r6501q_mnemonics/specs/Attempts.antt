@@ -1,0 +1,216 @@
+-- One instruction of a span tried by its opcode: done whole, with the byte that it stores put, or left as it was.
+use mathlib.Core.Path.{_≡_}
+use mathlib.Core.Bool.{Bool, true, false, _||_, cond}
+use mathlib.Core.List.{List, []}
+use Prim.Native.Nat.{ℕ, _+_, _-_, _≤_, _<_}
+use lib.Dec.{ltb, eqb}
+use Rattle.bits.specs.Bits.{digit}
+use Rattle.memory.specs.Memory.{isRegister}
+use Rattle.cpu_opcodes.specs.declared.operation.BitBranchOperation.{BitBranchOperation}
+use Rattle.cpu_opcodes.specs.declared.operation.FlagOperation.{FlagOperation}
+use Rattle.cpu_opcodes.specs.declared.operation.ModifyOperation.{ModifyOperation}
+use Rattle.cpu_opcodes.specs.declared.operation.PullOperation.{PullOperation}
+use Rattle.cpu_opcodes.specs.declared.operation.ReadOperation.{ReadOperation}
+use Rattle.cpu_opcodes.specs.declared.operation.RegisterOperation.{RegisterOperation}
+use Rattle.cpu_opcodes.specs.declared.operation.StoreOperation.{StoreOperation}
+use Rattle.cpu_access.specs.declared.CpuRegisters.{CpuRegisters}
+use Rattle.cpu_access.specs.declared.halt.Halt.{Halt}
+use Rattle.cpu_access.specs.declared.modes.Place.{Place}
+use Rattle.cpu_access.specs.declared.stack.Write.{Write}
+use Rattle.cpu_access.specs.declared.stack.Writes.{Writes}
+use Rattle.cpu_access.specs.declared.waiting.Waiting.{Waiting}
+use Rattle.cpu_access.specs.declared.waiting.Waiting.the-variants as waiting
+use Rattle.cpu_access.specs.declared.Fetched.{Fetched}
+use Rattle.cpu_access.specs.declared.Got.{Got}
+use Rattle.cpu_access.specs.declared.stack.Pulled.{Pulled}
+use Rattle.cpu_access.specs.declared.stack.PulledAddress.{PulledAddress}
+use Rattle.cpu_alu.specs.declared.Computed.{Computed}
+use Rattle.cpu_alu.specs.declared.Status.{Status}
+use Rattle.cpu_alu.specs.Status.{unpacked}
+use Rattle.bits.specs.Bits.{word16}
+use Rattle.cpu_access.specs.Bus.{idle, nextAddress, memoryByte, fetchOf}
+use Rattle.cpu_access.specs.Modes.{relativeTo}
+use Rattle.cpu_access.specs.Stack.{writeAt, oneWrite, pushAt, down, pushAddress, pullOf, pullAddress, readAfter}
+use Rattle.cpu_effects.specs.declared.Worked.{Worked}
+use Rattle.cpu_effects.specs.declared.Writing.{Writing}
+use Rattle.cpu_effects.specs.declared.Writing.the-variants.{Nothing, Pushed, Stored}
+use Rattle.cpu_effects.specs.Effects.{pushesOf, waitingOf}
+use Rattle.cpu_kinds.specs.Kinds.{withRead, changedBy, byteToStore, bitBranchTaken, withPulled, withRegister}
+use Rattle.cpu_kinds.specs.Kinds.{withFlag}
+use Rattle.cpu_kinds.specs.Updates.{withPc, withSp, withStatus, intoA}
+use Rattle.cpu.specs.declared.Outcome.the-variants.{Done}
+use Rattle.cpu.specs.declared.work.Work.{Work}
+use Rattle.cpu.specs.Instruction.{instructionOf}
+use Rattle.cpu.specs.Work.{nextWork, waitedOut}
+use Rattle.r6501q_clock.specs.Commit.{committed}
+use Rattle.cpu_access.specs.Halt.{endsSpan}
+use Rattle.r6501q_mnemonics.specs.declared.Attempt.{Attempt}
+
+-- one instruction whole: one that leaves no byte waiting, its pushes in memory; or a store, on whose last clock, within
+-- the span too, its byte is put. Neither writes to a register or at the halt address.
+pub data Instructed (halt : Halt) (span : ℕ) (w : Work) (memory : List ℕ) : Work → List ℕ → Type 0 where
+  pushing : (worked : Worked) → w .gone .0 + w .wait < span → instructionOf (w .registers) [] memory ≡ Done worked
+      → waitingOf (worked .writing) ≡ waiting.Nothing → endsSpan halt (pushesOf (worked .writing)) ≡ false
+      → Instructed halt span w memory (nextWork w worked) (committed memory (pushesOf (worked .writing)))
+  storing : (worked : Worked) (x : Write) → w .gone .0 + w .wait + worked .length ≤ span → 1 < worked .length
+      → instructionOf (w .registers) [] memory ≡ Done worked → worked .writing ≡ Stored x
+      → endsSpan halt (oneWrite x) ≡ false
+      → Instructed halt span w memory (waitedOut (nextWork w worked)) (committed memory (oneWrite x))
+
+-- what is tried leaves all as it was, or is one instruction whole
+pub data Tries (halt : Halt) (span : ℕ) (w : Work) (memory : List ℕ) : Attempt → List ℕ → Type 0 where
+  unchanged : Tries halt span w memory (record { succeeded = false; work = w }) memory
+  whole : {w' : Work} {memory' : List ℕ} → Instructed halt span w memory w' memory'
+      → Tries halt span w memory (record { succeeded = true; work = w' }) memory'
+
+-- ---- what the functions for each kind of operation give
+
+abbrev pub leftAsItWas : Work → Attempt
+leftAsItWas w = record { succeeded = false; work = w }
+
+abbrev pub workedOut : CpuRegisters → Writing → ℕ → Worked
+workedOut r x n = record { registers = r; writing = x; length = n }
+
+-- an instruction of n clocks that writes nothing to memory, or has pushed
+abbrev pub startedNext : Work → CpuRegisters → ℕ → Attempt
+startedNext w r n = record { succeeded = true; work = nextWork w (workedOut r Nothing n) }
+
+-- a store of n clocks, its byte put
+abbrev pub storedWhole : Work → CpuRegisters → ℕ → Attempt
+storedWhole w r n = record { succeeded = true; work = waitedOut (nextWork w (workedOut r Nothing n)) }
+
+-- the operand, or a byte on the way to it, is a register's
+abbrev pub asksFor : Place → Bool
+asksFor p = p .bus .missing || isRegister (p .address)
+
+-- a store is left to `work_once`: at a register, at the halt address, or where its last clock lies behind the span
+abbrev pub storeLeft : Halt → ℕ → Work → Write → ℕ → Bool
+storeLeft halt span w x n = endsSpan halt (oneWrite x) || ltb (span - w .gone .0) (w .wait + n)
+
+unfoldable pub readTried : ReadOperation → Work → List ℕ → Place → ℕ → Attempt
+readTried o w memory p n =
+    cond (asksFor p) (leftAsItWas w)
+    (startedNext w (withRead o (withPc (p .pc) (w .registers)) (memoryByte memory (p .address)))
+    (n + digit (p .crossed)))
+
+-- a byte is stored by an instruction that leaves the registers r
+unfoldable pub storeTried : Halt → ℕ → Work → CpuRegisters → Write → ℕ → Attempt
+storeTried halt span w r x n = cond (storeLeft halt span w x n) (leftAsItWas w) (storedWhole w r n)
+
+unfoldable pub storeMemory : Halt → ℕ → Work → Write → ℕ → List ℕ → List ℕ
+storeMemory halt span w x n memory = cond (storeLeft halt span w x n) memory (committed memory (oneWrite x))
+
+-- STA, STX and STY
+unfoldable pub saveTried : Halt → ℕ → StoreOperation → Work → Place → ℕ → Attempt
+saveTried halt span o w p n =
+    cond (asksFor p) (leftAsItWas w)
+    (storeTried halt span w (withPc (p .pc) (w .registers)) (writeAt (p .address) (byteToStore o (w .registers))) n)
+
+unfoldable pub saveMemory : Halt → ℕ → StoreOperation → Work → Place → ℕ → List ℕ → List ℕ
+saveMemory halt span o w p n memory =
+    cond (asksFor p) memory (storeMemory halt span w (writeAt (p .address) (byteToStore o (w .registers))) n memory)
+
+-- operations that change a byte in memory
+abbrev pub changedAt : ModifyOperation → Work → List ℕ → Place → Computed
+changedAt o w memory p = changedBy o (memoryByte memory (p .address)) (w .registers .status)
+
+unfoldable pub changeTried : Halt → ℕ → ModifyOperation → Work → List ℕ → Place → ℕ → Attempt
+changeTried halt span o w memory p n =
+    cond (asksFor p) (leftAsItWas w)
+    (storeTried halt span w (withStatus (changedAt o w memory p .status) (withPc (p .pc) (w .registers)))
+    (writeAt (p .address) (changedAt o w memory p .value)) n)
+
+unfoldable pub changeMemory : Halt → ℕ → ModifyOperation → Work → List ℕ → Place → ℕ → List ℕ
+changeMemory halt span o w memory p n =
+    cond (asksFor p) memory (storeMemory halt span w (writeAt (p .address) (changedAt o w memory p .value)) n memory)
+
+-- and A
+unfoldable pub accumulatorTried : ModifyOperation → Work → ℕ → ℕ → Attempt
+accumulatorTried o w pc n =
+    startedNext w (intoA (changedBy o (w .registers .a) (w .registers .status)) (withPc pc (w .registers))) n
+
+unfoldable pub branchTried : Bool → Work → Place → ℕ → Attempt
+branchTried taken w p n =
+    cond (p .bus .missing) (leftAsItWas w)
+    (cond taken (startedNext w (withPc (p .address) (w .registers)) (n + 1 + digit (p .crossed)))
+    (startedNext w (withPc (p .pc) (w .registers)) n))
+
+unfoldable pub bitBranchTried : BitBranchOperation → Work → List ℕ → Place → ℕ → Attempt
+bitBranchTried o w memory p n =
+    cond (asksFor p) (leftAsItWas w)
+    (branchTried (bitBranchTaken o (memoryByte memory (p .address))) w
+    (relativeTo (fetchOf [] memory (p .pc) (p .bus))) n)
+
+unfoldable pub jumpTried : Work → Place → ℕ → Attempt
+jumpTried w p n = cond (p .bus .missing) (leftAsItWas w) (startedNext w (withPc (p .address) (w .registers)) n)
+
+-- PHA and PHP
+unfoldable pub pushTried : Halt → Work → ℕ → ℕ → ℕ → Attempt
+pushTried halt w v pc n =
+    cond (endsSpan halt (oneWrite (pushAt (w .registers .sp) v))) (leftAsItWas w)
+    (startedNext w (withSp (down (w .registers .sp)) (withPc pc (w .registers))) n)
+
+unfoldable pub pushMemory : Halt → Work → ℕ → List ℕ → List ℕ
+pushMemory halt w v memory =
+    cond (endsSpan halt (oneWrite (pushAt (w .registers .sp) v))) memory
+    (committed memory (oneWrite (pushAt (w .registers .sp) v)))
+
+-- PLA and PLP
+abbrev pub pulledAttempt : PullOperation → Work → ℕ → ℕ → Pulled → Attempt
+pulledAttempt o w pc n p =
+    cond (p .bus .missing) (leftAsItWas w)
+    (startedNext w (withPulled o (withSp (p .sp) (withPc pc (w .registers))) (p .value)) n)
+
+unfoldable pub pullTried : PullOperation → Work → List ℕ → ℕ → ℕ → Attempt
+pullTried o w memory pc n = pulledAttempt o w pc n (pullOf [] memory (w .registers .sp) idle)
+
+-- JSR
+abbrev pub callPushes : Work → Fetched → Writes
+callPushes w l = pushAddress (w .registers .sp) (l .pc)
+
+abbrev pub callUpper : List ℕ → Work → Fetched → Got
+callUpper memory w l = readAfter [] memory (callPushes w l) (l .pc) (l .bus)
+
+abbrev pub callAttempt : Halt → Work → ℕ → Fetched → Got → Attempt
+callAttempt halt w n l u =
+    cond (u .bus .missing || endsSpan halt (callPushes w l)) (leftAsItWas w)
+    (startedNext w (withPc (word16 (u .value) (l .value)) (withSp (down (down (w .registers .sp))) (w .registers))) n)
+
+abbrev pub callBytes : Halt → Work → List ℕ → Fetched → Got → List ℕ
+callBytes halt w memory l u =
+    cond (u .bus .missing || endsSpan halt (callPushes w l)) memory (committed memory (callPushes w l))
+
+unfoldable pub callTried : Halt → Work → List ℕ → ℕ → ℕ → Attempt
+callTried halt w memory pc n =
+    callAttempt halt w n (fetchOf [] memory pc idle) (callUpper memory w (fetchOf [] memory pc idle))
+
+unfoldable pub callMemory : Halt → Work → List ℕ → ℕ → List ℕ
+callMemory halt w memory pc =
+    callBytes halt w memory (fetchOf [] memory pc idle) (callUpper memory w (fetchOf [] memory pc idle))
+
+-- RTS
+abbrev pub returnAttempt : Work → ℕ → PulledAddress → Attempt
+returnAttempt w n p =
+    cond (p .bus .missing) (leftAsItWas w)
+    (startedNext w (withPc (nextAddress (p .value)) (withSp (p .sp) (w .registers))) n)
+
+unfoldable pub returnTried : Work → List ℕ → ℕ → Attempt
+returnTried w memory n = returnAttempt w n (pullAddress [] memory (w .registers .sp) idle)
+
+-- RTI
+abbrev pub resumeAttempt : Work → ℕ → Status → PulledAddress → Attempt
+resumeAttempt w n s p =
+    cond (p .bus .missing) (leftAsItWas w)
+    (startedNext w (withPc (p .value) (withStatus s (withSp (p .sp) (w .registers)))) n)
+
+abbrev pub resumeAfter : Work → List ℕ → ℕ → Pulled → Attempt
+resumeAfter w memory n p = resumeAttempt w n (unpacked (p .value)) (pullAddress [] memory (p .sp) (p .bus))
+
+unfoldable pub interruptReturnTried : Work → List ℕ → ℕ → Attempt
+interruptReturnTried w memory n = resumeAfter w memory n (pullOf [] memory (w .registers .sp) idle)
+
+unfoldable pub registerTried : RegisterOperation → Work → ℕ → ℕ → Attempt
+registerTried o w pc n = startedNext w (withRegister o (withPc pc (w .registers))) n
+
+unfoldable pub flagTried : FlagOperation → Work → ℕ → ℕ → Attempt
+flagTried o w pc n = startedNext w (withStatus (withFlag o (w .registers .status)) (withPc pc (w .registers))) n

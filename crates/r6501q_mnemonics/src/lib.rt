@@ -1,0 +1,85 @@
+// One instruction of a span tried by its mnemonic: done whole, or left as it was.
+ghost use mathlib.Core.Path.{_≡_};
+ghost use Prim.Native.Nat.{_+_, _≤_};
+ghost use Rattle.r6501q_mnemonics.specs.Attempts.{leftAsItWas, startedNext, storedWhole, asksFor};
+use counters::time::Clocks;
+use cpu::work::Work;
+use cpu_access::CpuRegisters;
+use cpu_access::modes::Place;
+use cpu_kinds::updates::with_pc;
+use memory::is_register;
+
+pub mod flow; // flow.rt: no operand in memory, branches, jumps, the stack, calls and returns
+pub mod places; // places.rt: the places of operands
+pub mod reads; // reads.rt: operations that read a byte
+pub mod registers; // registers.rt: operations on registers and flags
+pub mod stores; // stores.rt: operations that store or change a byte
+
+// Whether an instruction was done, and the work after it; as it was before, where not.
+pub struct Attempt {
+    pub succeeded: bool,
+    pub work: Work,
+}
+
+// The work field by field, so that its registers stay in the host's own.
+pub fn same_work(w: Work) -> Work
+    ensures { λ r. ⌜ r ≡ w ⌝ }
+{
+    Work {
+        registers: with_pc(w.registers, w.registers.pc),
+        wait: w.wait,
+        gone: Clocks(w.gone.0),
+        leaps: w.leaps,
+    }
+}
+
+// The instruction is left to others.
+pub fn left_as_it_was(w: Work) -> Attempt
+    ensures { λ r. ⌜ r ≡ leftAsItWas w ⌝ }
+{
+    Attempt {
+        succeeded: false,
+        work: same_work(w),
+    }
+}
+
+// An instruction of so many clocks, done: the next one starts after them.
+pub fn started_next(w: Work, registers: CpuRegisters, length: u8) -> Attempt
+    requires { ⌜ (w .gone .0 + w .wait + 1 ≤ 4294967295) × (w .leaps + 1 ≤ 4294967295) ⌝ }
+    ensures { λ r. ⌜ r ≡ startedNext w registers length ⌝ }
+{
+    let work = Work {
+        registers: with_pc(registers, registers.pc),
+        wait: bits::one_less(length),
+        gone: Clocks(w.gone.0 + w.wait as u32 + 1),
+        leaps: w.leaps + 1,
+    };
+    Attempt {
+        succeeded: true,
+        work: work,
+    }
+}
+
+// A store of so many clocks, done, its byte put on the last of them.
+pub fn stored_whole(w: Work, registers: CpuRegisters, length: u8) -> Attempt
+    requires { ⌜ (w .gone .0 + w .wait + length ≤ 4294967295) × (w .leaps + 2 ≤ 4294967295) × (1 ≤ length) ⌝ }
+    ensures { λ r. ⌜ r ≡ storedWhole w registers length ⌝ }
+{
+    let work = Work {
+        registers: with_pc(registers, registers.pc),
+        wait: 0,
+        gone: Clocks(w.gone.0 + w.wait as u32 + length as u32),
+        leaps: w.leaps + 2,
+    };
+    Attempt {
+        succeeded: true,
+        work: work,
+    }
+}
+
+// Whether the operand, or a byte on the way to it, is a register's.
+pub fn asks_for(p: Place) -> bool
+    ensures { λ r. ⌜ r ≡ asksFor p ⌝ }
+{
+    p.bus.missing | is_register(p.address)
+}
