@@ -20,7 +20,7 @@ use Rattle.cpu_access.specs.declared.stack.Write.{Write}
 use Rattle.cpu_access.specs.Stack.{writeAt}
 use Rattle.cpu_access.specs.Waiting.{byteWaits}
 use Rattle.cpu_access.specs.Accesses.{Accesses, ends, reads, writes, _>>=_, RegisterFile, performed}
-use Rattle.cpu_access.specs.Operands.{Located, located, branchTarget}
+use Rattle.cpu_modes.specs.Operands.{Located, located, branchTarget}
 use Rattle.cpu_kinds.proofs.Flags.{Kept, same-kept, read-keeps, change-keeps, pulled-keeps, register-keeps}
 use Rattle.cpu_kinds.proofs.Flags.{flag-keeps}
 use Rattle.cpu_operations.proofs.Stores.{stores}

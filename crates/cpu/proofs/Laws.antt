@@ -21,14 +21,14 @@ use Rattle.cpu_opcodes.specs.Table.{modeNumber}
 use Rattle.cpu_opcodes.proofs.Laws.{passes, looked-up}
 use Rattle.cpu_access.specs.declared.Bus.{Bus}
 use Rattle.cpu_access.specs.declared.CpuRegisters.{CpuRegisters}
-use Rattle.cpu_access.specs.declared.modes.Place.{Place}
+use Rattle.cpu_modes.specs.declared.Place.{Place}
 use Rattle.cpu_access.specs.declared.stack.Write.{Write}
 use Rattle.cpu_access.specs.declared.stack.Writes.{Writes}
 use Rattle.cpu_access.specs.Bus.{idle, got, askOf, readOf, fetchOf}
 use Rattle.memory.specs.Memory.{isRegister}
 use Rattle.cpu_access.specs.Stack.{noWrites, pushAddress, readAfter}
-use Rattle.cpu_access.specs.Modes.{indexedBy, relativeTo, locateOf}
-use Rattle.cpu_access.proofs.Accesses.{readsOfMode, read-keeps, fetch-keeps, read-after-keeps, locate-keeps}
+use Rattle.cpu_modes.specs.Modes.{indexedBy, relativeTo, locateOf}
+use Rattle.cpu_modes.proofs.Accesses.{readsOfMode, read-keeps, fetch-keeps, read-after-keeps, locate-keeps}
 use Rattle.cpu_access.proofs.Asks.{AsksRegister, idle-asks-register, register-more, register-asks, Answered, Within}
 use Rattle.cpu_access.proofs.Asks.{idle-answered, answered-more, answered-asks}
 use Rattle.cpu.specs.declared.Ask.{Ask}

@@ -47,7 +47,7 @@ use Rattle.cpu_alu.proofs.Bounds.{packed-le}
 use Rattle.cpu_access.specs.declared.Bus.{Bus}
 use Rattle.cpu_access.specs.declared.Fetched.{Fetched}
 use Rattle.cpu_access.specs.declared.CpuRegisters.{CpuRegisters}
-use Rattle.cpu_access.specs.declared.modes.Place.{Place}
+use Rattle.cpu_modes.specs.declared.Place.{Place}
 use Rattle.cpu_access.specs.declared.stack.Write.{Write}
 use Rattle.cpu_access.specs.declared.stack.Writes.{Writes}
 use Rattle.cpu_access.specs.Bus.{nextAddress, memoryByte, vectorOf, idle, got, answered, asking, askOf, readOf}
@@ -56,7 +56,7 @@ use Rattle.memory.specs.Memory.{isRegister}
 use Rattle.cpu_access.specs.Stack.{noWrites, stackAddress, up, pushAddress, pushInterrupt, pullOf, pullAddress}
 use Rattle.cpu_access.specs.Stack.{writtenOver}
 use Rattle.cpu_access.specs.Stack.{readAfter}
-use Rattle.cpu_access.specs.Modes.{zeroPageIndexed, zeroPagePointer, secondAddress, indexedBy, relativeTo, locateOf}
+use Rattle.cpu_modes.specs.Modes.{zeroPageIndexed, zeroPagePointer, secondAddress, indexedBy, relativeTo, locateOf}
 use Rattle.cpu_operations.specs.declared.Access.{Access}
 use Rattle.cpu_operations.specs.declared.Access.the-variants.{Nothing, Read, Modify, Call}
 use Rattle.cpu_effects.specs.declared.Worked.{Worked}

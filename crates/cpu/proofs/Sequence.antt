@@ -25,7 +25,7 @@ use Rattle.cpu_alu.specs.declared.Computed.{Computed}
 use Rattle.cpu_access.specs.declared.Bus.{Bus}
 use Rattle.cpu_access.specs.declared.Got.{Got}
 use Rattle.cpu_access.specs.declared.CpuRegisters.{CpuRegisters}
-use Rattle.cpu_access.specs.declared.modes.Place.{Place}
+use Rattle.cpu_modes.specs.declared.Place.{Place}
 use Rattle.cpu_access.specs.declared.stack.Write.{Write}
 use Rattle.cpu_access.specs.declared.stack.Writes.{Writes}
 use Rattle.cpu_access.specs.declared.waiting.Waiting.{Waiting}
@@ -34,12 +34,12 @@ use Rattle.cpu_access.specs.Bus.{memoryByte, nextAddress, irqVector, vectorOf, 
 use Rattle.cpu_access.specs.Bus.{readOf, fetchOf}
 use Rattle.cpu_access.specs.Stack.{writeAt, noWrites, stackAddress, down, up, pushHigh, pushLow, pushAt, pushAddress}
 use Rattle.cpu_access.specs.Stack.{pushInterrupt, pullOf, pullAddress, writtenOver, readAfter}
-use Rattle.cpu_access.specs.Modes.{relativeTo, locateOf}
+use Rattle.cpu_modes.specs.Modes.{relativeTo, locateOf}
 use Rattle.cpu_access.specs.Accesses.{Accesses, ends, reads, writes, _>>=_, byteAfter, inOrder}
-use Rattle.cpu_access.specs.Operands.{Located, located}
+use Rattle.cpu_modes.specs.Operands.{Located, located}
 use Rattle.cpu_access.proofs.Asked.{Reply, asks, over, asked, onwards, onwards-idle}
-use Rattle.cpu_access.proofs.Follows.{then-then, locatedAt, read-on, read-after-on, fetch-on, pull-on, pull-address-on}
-use Rattle.cpu_access.proofs.Follows.{locate-on}
+use Rattle.cpu_modes.proofs.Follows.{then-then, locatedAt, read-on, read-after-on, fetch-on, pull-on, pull-address-on}
+use Rattle.cpu_modes.proofs.Follows.{locate-on}
 use Rattle.cpu_effects.specs.declared.Worked.{Worked}
 use Rattle.cpu_effects.specs.declared.Operand.{Operand}
 use Rattle.cpu_effects.specs.declared.Executed.{Executed}

@@ -19,7 +19,7 @@ use Rattle.cpu_access.specs.declared.waiting.Waiting.the-variants.{Nothing, Byt
 use Rattle.cpu_access.specs.Bus.{nextAddress, resetVector, irqVector}
 use Rattle.cpu_access.specs.Stack.{writeAt, stackAddress, down, up}
 use Rattle.cpu_access.specs.Accesses.{Accesses, ends, reads, writes, _>>=_, _>>_, byteAt, latchAt, addressAt, push}
-use Rattle.cpu_access.specs.Operands.{Located, located, branchTarget}
+use Rattle.cpu_modes.specs.Operands.{Located, located, branchTarget}
 use Rattle.cpu_kinds.specs.Updates.{withSp, withPc, withStatus, intoA}
 use Rattle.cpu_kinds.specs.Kinds.{withRead, changedBy, byteToStore, branchTaken, bitBranchTaken, byteToPush}
 use Rattle.cpu_kinds.specs.Kinds.{withPulled, withRegister, withFlag}

@@ -9,7 +9,6 @@ ghost use Rattle.cpu.specs.Instruction.{subroutineCall, executeOf, instr
 use cpu_access::Bus;
 use cpu_access::CpuRegisters;
 use cpu_access::Got;
-use cpu_access::modes::Place;
 use cpu_access::stack::Writes;
 use cpu_access::stack::down;
 use cpu_access::stack::no_writes;
@@ -19,6 +18,7 @@ use cpu_effects::Worked;
 use cpu_effects::Writing;
 use cpu_effects::effects;
 use cpu_kinds::updates;
+use cpu_modes::Place;
 use cpu_opcodes::Decoded;
 use cpu_opcodes::Entry;
 use cpu_operations::Access;
@@ -113,7 +113,7 @@ fn carried_out(
 {
     let operation = entry.operation;
     let mode = entry.mode;
-    let place = cpu_access::modes::locate(answers, memory, mode, registers, bus);
+    let place = cpu_modes::locate(answers, memory, mode, registers, bus);
     let got = operand_byte(answers, memory, access, registers.a, place);
     let operand = operand_of(entry.length, place, got);
     let moved = updates::with_pc(registers, place.pc);

@@ -2,6 +2,4 @@ pub mod Bus
 pub mod Stack
 pub mod Halt
 pub mod Waiting
-pub mod Modes
 pub mod Accesses
-pub mod Operands

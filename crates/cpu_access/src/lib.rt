@@ -10,8 +10,6 @@ ghost use Rattle.memory.specs.Memory.{isRegister};
 use cpu_alu::Status;
 use memory::is_register;
 
-pub mod modes; // modes.rt: the addressing modes
-
 // The vector of reset.
 pub const RESET_VECTOR: u16 = 0xFFFC;
 

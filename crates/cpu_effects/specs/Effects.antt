@@ -10,7 +10,7 @@ use Rattle.cpu_alu.specs.declared.Status.{Status}
 use Rattle.cpu_alu.specs.declared.Computed.{Computed}
 use Rattle.cpu_access.specs.declared.Bus.{Bus}
 use Rattle.cpu_access.specs.declared.CpuRegisters.{CpuRegisters}
-use Rattle.cpu_access.specs.declared.modes.Place.{Place}
+use Rattle.cpu_modes.specs.declared.Place.{Place}
 use Rattle.cpu_access.specs.declared.stack.Writes.{Writes}
 use Rattle.cpu_access.specs.declared.stack.Pulled.{Pulled}
 use Rattle.cpu_access.specs.declared.stack.PulledAddress.{PulledAddress}
@@ -18,7 +18,7 @@ use Rattle.cpu_access.specs.declared.waiting.Waiting.{Waiting}
 use Rattle.cpu_access.specs.declared.waiting.Waiting.the-variants as waiting
 use Rattle.cpu_access.specs.Bus.{irqVector, nextAddress, vectorOf, fetchOf}
 use Rattle.cpu_access.specs.Stack.{writeAt, noWrites, oneWrite, down, pushAt, pushInterrupt, pullOf, pullAddress}
-use Rattle.cpu_access.specs.Modes.{relativeTo}
+use Rattle.cpu_modes.specs.Modes.{relativeTo}
 use Rattle.cpu_effects.specs.declared.Worked.{Worked}
 use Rattle.cpu_effects.specs.declared.Writing.{Writing}
 use Rattle.cpu_effects.specs.declared.Writing.the-variants.{Nothing, Pushed, Stored}

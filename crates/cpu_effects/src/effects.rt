@@ -101,7 +101,7 @@ pub fn bit_branched(
     ensures { λ r. ⌜ r ≡ bitBranched (now (answers .entry)) (now (memory .entry)) o registers taken ⌝ }
 {
     let before = o.bus;
-    let place = cpu_access::modes::relative(before.fetch(answers, memory, registers.pc));
+    let place = cpu_modes::relative(before.fetch(answers, memory, registers.pc));
     let after = place.bus;
     let branch = Operand {
         address: place.address,

@@ -13,12 +13,12 @@ use Rattle.cpu_opcodes.specs.declared.operation.PullOperation.{PullOperation}
 use Rattle.cpu_alu.specs.declared.Computed.{Computed}
 use Rattle.cpu_access.specs.declared.Bus.{Bus}
 use Rattle.cpu_access.specs.declared.CpuRegisters.{CpuRegisters}
-use Rattle.cpu_access.specs.declared.modes.Place.{Place}
+use Rattle.cpu_modes.specs.declared.Place.{Place}
 use Rattle.cpu_access.specs.Bus.{askOf, fetchOf}
 use Rattle.memory.specs.Memory.{isRegister}
 use Rattle.cpu_access.specs.Stack.{pushInterrupt, pullOf}
-use Rattle.cpu_access.specs.Modes.{relativeTo}
-use Rattle.cpu_access.proofs.Accesses.{fetch-keeps, pull-keeps, pull-address-keeps, relative-keeps}
+use Rattle.cpu_modes.specs.Modes.{relativeTo}
+use Rattle.cpu_modes.proofs.Accesses.{fetch-keeps, pull-keeps, pull-address-keeps, relative-keeps}
 use Rattle.cpu_effects.specs.declared.Operand.{Operand}
 use Rattle.cpu_effects.specs.declared.Executed.{Executed}
 use Rattle.cpu_effects.specs.Effects.{withPc, withStatus, intoA, readOnly, completed, stored, modified}

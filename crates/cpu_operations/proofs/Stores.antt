@@ -16,7 +16,7 @@ use Rattle.cpu_opcodes.specs.declared.operation.ModifyOperation.the-variants.{A
 use Rattle.cpu_alu.specs.declared.Computed.{Computed}
 use Rattle.cpu_access.specs.declared.CpuRegisters.{CpuRegisters}
 use Rattle.cpu_access.specs.Bus.{fetchOf}
-use Rattle.cpu_access.specs.Modes.{relativeTo}
+use Rattle.cpu_modes.specs.Modes.{relativeTo}
 use Rattle.cpu_operations.specs.declared.Access.{Access}
 use Rattle.cpu_operations.specs.declared.Access.the-variants as access
 use Rattle.cpu_effects.specs.declared.Operand.{Operand}

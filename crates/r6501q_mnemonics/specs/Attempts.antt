@@ -15,7 +15,7 @@ use Rattle.cpu_opcodes.specs.declared.operation.RegisterOperation.{RegisterOper
 use Rattle.cpu_opcodes.specs.declared.operation.StoreOperation.{StoreOperation}
 use Rattle.cpu_access.specs.declared.CpuRegisters.{CpuRegisters}
 use Rattle.cpu_access.specs.declared.halt.Halt.{Halt}
-use Rattle.cpu_access.specs.declared.modes.Place.{Place}
+use Rattle.cpu_modes.specs.declared.Place.{Place}
 use Rattle.cpu_access.specs.declared.stack.Write.{Write}
 use Rattle.cpu_access.specs.declared.stack.Writes.{Writes}
 use Rattle.cpu_access.specs.declared.waiting.Waiting.{Waiting}
@@ -29,7 +29,7 @@ use Rattle.cpu_alu.specs.declared.Status.{Status}
 use Rattle.cpu_alu.specs.Status.{unpacked}
 use Rattle.bits.specs.Bits.{word16}
 use Rattle.cpu_access.specs.Bus.{idle, nextAddress, memoryByte, fetchOf}
-use Rattle.cpu_access.specs.Modes.{relativeTo}
+use Rattle.cpu_modes.specs.Modes.{relativeTo}
 use Rattle.cpu_access.specs.Stack.{writeAt, oneWrite, pushAt, down, pushAddress, pullOf, pullAddress, readAfter}
 use Rattle.cpu_effects.specs.declared.Worked.{Worked}
 use Rattle.cpu_effects.specs.declared.Writing.{Writing}

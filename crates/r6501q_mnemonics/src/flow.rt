@@ -24,8 +24,6 @@ use cpu_access::Bus;
 use cpu_access::halt::Halt;
 use cpu_access::halt::ends_span;
 use cpu_access::memory_byte;
-use cpu_access::modes;
-use cpu_access::modes::Place;
 use cpu_access::next_address;
 use cpu_access::stack::Write;
 use cpu_access::stack::down;
@@ -37,6 +35,7 @@ use cpu_kinds::updates::load_a;
 use cpu_kinds::updates::with_pc;
 use cpu_kinds::updates::with_sp;
 use cpu_kinds::updates::with_status;
+use cpu_modes::Place;
 use r6501q_clock::commit::commit;
 use r6501q_clock::commit::put_write;
 
@@ -65,7 +64,7 @@ pub fn bbr(w: Work, memory: &[u8], p: Place, bit: u8, length: u8) -> Attempt
     let none = [0u8; 0];
     let bus = p.bus;
     let tested = bit8(memory_byte(memory, p.address), bit % 8);
-    let target = modes::relative(bus.fetch(&none, memory, p.pc));
+    let target = cpu_modes::relative(bus.fetch(&none, memory, p.pc));
     branch(w, !tested, target, length)
 }
 
@@ -79,7 +78,7 @@ pub fn bbs(w: Work, memory: &[u8], p: Place, bit: u8, length: u8) -> Attempt
     let none = [0u8; 0];
     let bus = p.bus;
     let tested = bit8(memory_byte(memory, p.address), bit % 8);
-    let target = modes::relative(bus.fetch(&none, memory, p.pc));
+    let target = cpu_modes::relative(bus.fetch(&none, memory, p.pc));
     branch(w, tested, target, length)
 }
 

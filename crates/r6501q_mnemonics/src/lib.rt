@@ -5,8 +5,8 @@ ghost use Rattle.r6501q_mnemonics.specs.Attempts.{leftAsItWas, startedNe
 use counters::time::Clocks;
 use cpu::work::Work;
 use cpu_access::CpuRegisters;
-use cpu_access::modes::Place;
 use cpu_kinds::updates::with_pc;
+use cpu_modes::Place;
 use memory::is_register;
 
 pub mod flow; // flow.rt: no operand in memory, branches, jumps, the stack, calls and returns

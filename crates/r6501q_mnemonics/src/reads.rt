@@ -11,7 +11,6 @@ use crate::started_next;
 use bits::digit8;
 use cpu::work::Work;
 use cpu_access::memory_byte;
-use cpu_access::modes::Place;
 use cpu_alu::arithmetic;
 use cpu_alu::logic;
 use cpu_kinds::updates::into_a;
@@ -20,6 +19,7 @@ use cpu_kinds::updates::load_x;
 use cpu_kinds::updates::load_y;
 use cpu_kinds::updates::with_pc;
 use cpu_kinds::updates::with_status;
+use cpu_modes::Place;
 
 pub fn adc(w: Work, memory: &[u8], p: Place, length: u8) -> Attempt
     requires { ⌜ (w .gone .0 + w .wait + 1 ≤ 4294967295) × (w .leaps + 1 ≤ 4294967295) × (length ≤ 7) ⌝ }

@@ -19,13 +19,13 @@ use cpu_access::CpuRegisters;
 use cpu_access::halt::Halt;
 use cpu_access::halt::ends_span;
 use cpu_access::memory_byte;
-use cpu_access::modes::Place;
 use cpu_access::stack::Write;
 use cpu_access::stack::one_write;
 use cpu_alu::shift;
 use cpu_kinds::updates::into_a;
 use cpu_kinds::updates::with_pc;
 use cpu_kinds::updates::with_status;
+use cpu_modes::Place;
 use r6501q_clock::commit::put_write;
 
 // A byte stored at an address, by an instruction that leaves these registers.

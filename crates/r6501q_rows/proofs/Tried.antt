@@ -28,7 +28,7 @@ use Rattle.cpu_opcodes.specs.declared.operation.StoreOperation.the-variants as 
 use Rattle.cpu_opcodes.specs.declared.operation.PushOperation.the-variants as push
 use Rattle.cpu_access.specs.declared.CpuRegisters.{CpuRegisters}
 use Rattle.cpu_access.specs.declared.halt.Halt.{Halt}
-use Rattle.cpu_access.specs.declared.modes.Place.{Place}
+use Rattle.cpu_modes.specs.declared.Place.{Place}
 use Rattle.cpu_access.specs.declared.stack.Write.{Write}
 use Rattle.cpu_access.specs.declared.stack.Writes.{Writes}
 use Rattle.cpu_access.specs.declared.Fetched.{Fetched}
@@ -38,7 +38,7 @@ use Rattle.cpu_alu.specs.Status.{unpacked}
 use Rattle.cpu_access.proofs.Told.{unwritten}
 use Rattle.r6501q_mnemonics.specs.declared.Attempt.{Attempt}
 use Rattle.cpu_access.specs.Bus.{idle, nextAddress, memoryByte, readOf, fetchOf}
-use Rattle.cpu_access.specs.Modes.{locateOf, relativeTo}
+use Rattle.cpu_modes.specs.Modes.{locateOf, relativeTo}
 use Rattle.cpu_access.specs.Stack.{writeAt, oneWrite, pushAt, down, noWrites, pullOf, pullAddress}
 use Rattle.cpu_effects.specs.declared.Worked.{Worked}
 use Rattle.cpu_effects.specs.declared.Writing.{Writing}

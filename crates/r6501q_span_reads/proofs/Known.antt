@@ -15,9 +15,9 @@ use Rattle.cpu_opcodes.specs.declared.operation.ReadOperation.{ReadOperation}
 use Rattle.cpu_opcodes.specs.declared.operation.StoreOperation.{StoreOperation}
 use Rattle.cpu_opcodes.specs.declared.operation.StoreOperation.the-variants as store
 use Rattle.cpu_access.specs.declared.CpuRegisters.{CpuRegisters}
-use Rattle.cpu_access.specs.declared.modes.Place.{Place}
+use Rattle.cpu_modes.specs.declared.Place.{Place}
 use Rattle.cpu_access.specs.Bus.{idle, nextAddress, memoryByte, askOf, readOf, fetchOf}
-use Rattle.cpu_access.specs.Modes.{locateOf, relativeTo}
+use Rattle.cpu_modes.specs.Modes.{locateOf, relativeTo}
 use Rattle.cpu_access.specs.Stack.{writeAt, noWrites}
 use Rattle.cpu_effects.specs.declared.Worked.{Worked}
 use Rattle.cpu_effects.specs.declared.Writing.{Writing}
