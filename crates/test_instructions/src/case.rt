@@ -17,16 +17,16 @@ use crate::line::ends;
 use crate::line::next_byte;
 use crate::line::next_word16;
 use crate::line::start;
-use crate::memories::byte_of;
-use crate::memories::cleared;
-use crate::memories::put;
-use crate::memories::same_bytes;
-use crate::same::same_write;
 use cpu_access::stack::Write;
 use cpu_access::stack::Writes;
 use cpu_access::waiting::Waiting;
 use memory::is_register;
 use r6501q_state::state::Cpu;
+use test_states::memories::byte_of;
+use test_states::memories::cleared;
+use test_states::memories::put;
+use test_states::memories::same_bytes;
+use test_states::same::same_write;
 
 // Begins a case.
 pub const CASE_MARK: u8 = b':';

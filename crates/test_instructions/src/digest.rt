@@ -11,12 +11,12 @@ use crate::line::digits;
 use crate::line::ends;
 use crate::line::next_byte;
 use crate::line::start;
-use crate::memories::cleared;
-use crate::memories::put;
-use crate::memories::same_bytes;
 use cpu_access::stack::Write;
 use cpu_access::waiting::Waiting;
 use r6501q_state::state::Cpu;
+use test_states::memories::cleared;
+use test_states::memories::put;
+use test_states::memories::same_bytes;
 
 // Begins a digest.
 pub const DIGEST_MARK: u8 = b'+';

@@ -6,7 +6,6 @@ ghost use Rattle.r6501q_state.specs.Inputs.{resHigh};
 ghost use Rattle.r6501q_clock.specs.Clock.{clockOf};
 ghost use Rattle.r6501q_step.specs.Calls.{resultFrom};
 ghost use Rattle.test_instructions.specs.Instruction.{prepared, later, runAlone, doneWith, writesWith, writesIn};
-use crate::same::same_state;
 use cpu_access::halt::Halt;
 use cpu_access::stack::Writes;
 use cpu_access::stack::no_writes;
@@ -20,6 +19,7 @@ use r6501q_state::state::Cpu;
 use r6501q_state::state::State;
 use r6501q_state::state::fresh_state;
 use r6501q_step::CallResult;
+use test_states::same::same_state;
 
 // The leaps of an instruction: one through its first clock, and one through its last.
 const LEAPS: u32 = 2;

@@ -23,8 +23,6 @@ mod digest;
 mod group;
 mod instruction;
 mod line;
-mod memories;
-mod same;
 mod tally;
 mod totals;
 

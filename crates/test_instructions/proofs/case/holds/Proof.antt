@@ -1,7 +1,7 @@
 use mathlib.Core.Path.{_∙_}
 use mathlib.Core.List.{[], _∷_}
-use Rattle.test_instructions.proofs.Equal.{Pair, all, never}
-use Rattle.test_instructions.proofs.Equal.Pair.{tested}
+use Rattle.test_states.proofs.Equal.{Pair, all, never}
+use Rattle.test_states.proofs.Equal.Pair.{tested}
 use borrow.Author.Needs.{needs}
 use Rattle.test_instructions.proofs.case.holds.Statement.{statement}
 use Rattle.test_instructions.proofs.case.holds.Tie as tie

@@ -1,4 +1,4 @@
-use Rattle.test_instructions.proofs.Equal.{never}
+use Rattle.test_states.proofs.Equal.{never}
 use Rattle.test_instructions.proofs.line.bad.Statement.{statement}
 use Rattle.test_instructions.proofs.line.bad.Tie as tie
 
