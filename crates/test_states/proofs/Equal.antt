@@ -23,7 +23,6 @@ use Rattle.serial.specs.declared.receiver.Receiver.{Receiver}
 use Rattle.r6501q_state.specs.declared.state.Levels.{Levels}
 use Rattle.r6501q_state.specs.declared.state.Peripherals.{Peripherals}
 use Rattle.r6501q_state.specs.declared.state.State.{State}
-use Rattle.r6501q_step.specs.R6501q.{Result}
 
 -- ---- tests of fields, one behind the other
 
@@ -252,12 +251,4 @@ state-same a b cpu' due' peripherals' external' last' clock' =
       last = b .last;
       clock = b .clock;
     }) = cc in
-    whole
-
-pub results-equal : (a b : Result) → a .number ≡ b .number → a .state ≡ b .state → a .leaps ≡ b .leaps
-    → a .read ≡ b .read → a .written ≡ b .written → a ≡ b
-results-equal a b number' state' leaps' read' written' =
-    let whole : _≡_ {A = Result}
-    (record { number = a .number; state = a .state; leaps = a .leaps; read = a .read; written = a .written })
-    (record { number = b .number; state = b .state; leaps = b .leaps; read = b .read; written = b .written }) = cc in
     whole

@@ -1,6 +1,7 @@
 use mathlib.Core.Path.{_∙_}
 use mathlib.Core.List.{[], _∷_}
-use Rattle.test_states.proofs.Equal.{Pair, all, results-equal}
+use Rattle.test_states.proofs.Equal.{Pair, all}
+use Rattle.test_instructions.proofs.Results.{results-equal}
 use Rattle.test_states.proofs.Equal.Pair.{numbers, tested}
 use borrow.Author.Needs.{needs}
 use Rattle.test_instructions.proofs.instruction.done_with.Statement.{statement}
