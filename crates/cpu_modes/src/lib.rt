@@ -9,6 +9,7 @@ use cpu_access::CpuRegisters;
 use cpu_access::Fetched;
 use cpu_access::FetchedAddress;
 use cpu_access::GotAddress;
+use cpu_access::next_address;
 use cpu_opcodes::Mode;
 
 // Where an operand is; of a branch, its target.
@@ -183,7 +184,7 @@ pub fn locate(answers: &[u8], memory: &[u8], mode: Mode, registers: CpuRegisters
     match mode {
         Mode::Implied => no_place(false, pc, bus),
         Mode::Accumulator => no_place(true, pc, bus),
-        Mode::Immediate => place_at(pc, crate::next_address(pc), bus),
+        Mode::Immediate => place_at(pc, next_address(pc), bus),
         Mode::ZeroPage => at_zero_page(bus.fetch(answers, memory, pc)),
         Mode::ZeroPageX => at_zero_page_indexed(registers.x, bus.fetch(answers, memory, pc)),
         Mode::ZeroPageY => at_zero_page_indexed(registers.y, bus.fetch(answers, memory, pc)),
