@@ -24,8 +24,6 @@ use Rattle.cpu_opcodes.specs.declared.operation.PushOperation.{PushOperation}
 use Rattle.cpu_opcodes.specs.declared.operation.ReadOperation.{ReadOperation}
 use Rattle.cpu_opcodes.specs.declared.operation.RegisterOperation.{RegisterOperation}
 use Rattle.cpu_opcodes.specs.declared.operation.StoreOperation.{StoreOperation}
-use Rattle.cpu_opcodes.specs.declared.operation.StoreOperation.the-variants as store
-use Rattle.cpu_opcodes.specs.declared.operation.PushOperation.the-variants as push
 use Rattle.cpu_access.specs.declared.CpuRegisters.{CpuRegisters}
 use Rattle.cpu_access.specs.declared.halt.Halt.{Halt}
 use Rattle.cpu_modes.specs.declared.Place.{Place}
@@ -35,11 +33,10 @@ use Rattle.cpu_access.specs.declared.Fetched.{Fetched}
 use Rattle.cpu_access.specs.declared.stack.Pulled.{Pulled}
 use Rattle.bits.specs.Bits.{digit, word16}
 use Rattle.cpu_alu.specs.Status.{unpacked}
-use Rattle.cpu_access.proofs.Told.{unwritten}
 use Rattle.r6501q_mnemonics.specs.declared.Attempt.{Attempt}
 use Rattle.cpu_access.specs.Bus.{idle, nextAddress, memoryByte, readOf, fetchOf}
 use Rattle.cpu_modes.specs.Modes.{locateOf, relativeTo}
-use Rattle.cpu_access.specs.Stack.{writeAt, oneWrite, pushAt, down, noWrites, pullOf, pullAddress}
+use Rattle.cpu_access.specs.Stack.{writeAt, oneWrite, pushAt, down, pullOf, pullAddress}
 use Rattle.cpu_effects.specs.declared.Worked.{Worked}
 use Rattle.cpu_effects.specs.declared.Writing.{Writing}
 use Rattle.cpu_effects.specs.declared.Writing.the-variants.{Nothing, Pushed, Stored}
@@ -49,6 +46,7 @@ use Rattle.cpu_kinds.specs.Kinds.{withRead, changedBy, byteToStore, branchTaken
 use Rattle.cpu_kinds.specs.Kinds.{withPulled, withRegister, withFlag}
 use Rattle.cpu_operations.specs.Operations.{operateOf}
 use Rattle.cpu_kinds.specs.Updates.{withPc, withSp, withStatus, intoA}
+use Rattle.cpu_kinds.proofs.Bytes.{byte-stored, byte-pushed}
 use Rattle.cpu.specs.declared.Outcome.{Outcome}
 use Rattle.cpu.specs.declared.Outcome.the-variants.{Done}
 use Rattle.cpu.specs.declared.work.Work.{Work}
@@ -56,10 +54,10 @@ use Rattle.cpu.specs.Instruction.{instructionOf, executeOf, outcomeOf, carriedO
 use Rattle.cpu.specs.Instruction.{writesAsked}
 use Rattle.cpu.specs.Work.{nextWork}
 use Rattle.r6501q_clock.specs.Commit.{putWrite, committed}
-use Rattle.cpu_access.specs.Halt.{endsSpan, writesRegister}
+use Rattle.cpu_access.specs.Halt.{endsSpan}
 use Rattle.r6501q_spans.specs.Spans.{putWork}
 use Rattle.bits.proofs.Cond.{either-false}
-use Rattle.cpu_access.proofs.Ends.{ends-not}
+use Rattle.cpu_access.proofs.Ends.{no-writes-end}
 use Rattle.r6501q_mnemonics.specs.Attempts.{Instructed, pushing, storing, Tries, unchanged, whole, leftAsItWas}
 use Rattle.r6501q_mnemonics.specs.Attempts.{workedOut, startedNext, storedWhole, asksFor, storeLeft, readTried}
 use Rattle.r6501q_mnemonics.specs.Attempts.{storeTried, storeMemory, saveTried, saveMemory, changedAt, changeTried}
@@ -79,24 +77,12 @@ opcode-executes r memory e free d = rw (free, d) refl
 
 -- nothing is pushed: no span ends, and memory stays
 nothing-ends : (halt : Halt) → endsSpan halt (pushesOf Nothing) ≡ false
-unfolding pushesOf writesRegister
-nothing-ends halt = ends-not halt noWrites refl (unwritten halt noWrites refl)
+unfolding pushesOf
+nothing-ends = no-writes-end
 
 nothing-committed : (memory : List ℕ) → committed memory (pushesOf Nothing) ≡ memory
 unfolding committed putWrite pushesOf
 nothing-committed memory = refl
-
--- the register that is stored, and the byte that is pushed, do not look at PC
-byte-stored : (o : StoreOperation) (pc : ℕ) (r : CpuRegisters) → byteToStore o (withPc pc r) ≡ byteToStore o r
-unfolding byteToStore
-byte-stored store.Sta pc r = refl
-byte-stored store.Stx pc r = refl
-byte-stored store.Sty pc r = refl
-
-byte-pushed : (o : PushOperation) (pc : ℕ) (r : CpuRegisters) → byteToPush o (withPc pc r) ≡ byteToPush o r
-unfolding byteToPush
-byte-pushed push.Pha pc r = refl
-byte-pushed push.Php pc r = refl
 
 module _ (halt : Halt) (span : ℕ) (w : Work) (memory : List ℕ) (inside : w .gone .0 + w .wait < span)
     (free : isRegister (w .registers .pc) ≡ false) where

@@ -14,7 +14,6 @@ use Rattle.cpu_effects.specs.Effects.{pushesOf}
 use Rattle.cpu_access.specs.declared.halt.Halt.{Halt}
 use Rattle.cpu_access.specs.declared.stack.Write.{Write}
 use Rattle.cpu_access.specs.Stack.{oneWrite}
-use Rattle.cpu_access.proofs.Told.{unwritten}
 use Rattle.cpu_effects.specs.declared.Worked.{Worked}
 use Rattle.cpu.specs.declared.Outcome.{Outcome}
 use Rattle.cpu.specs.declared.Outcome.the-variants as outcome
@@ -28,12 +27,12 @@ use Rattle.r6501q_clock.specs.Commit.{putWrite, committed}
 use Rattle.r6501q_step.specs.R6501q.{chip}
 use Rattle.r6501q_step.specs.World.{worldOf}
 use Rattle.r6501q_spans.specs.Spans.{noneWaiting, continuedBy, committedBy, workBy, memoryBy}
-use Rattle.cpu_access.specs.Halt.{writesRegister, endsSpan}
+use Rattle.cpu_access.specs.Halt.{endsSpan}
 use Rattle.r6501q_span_reads.specs.Served.{outcomeWithin}
 use Rattle.r6501q_spans.specs.Spans.{nextWorking, workAfter, memoryAfter, putWork, putsWithin, workPut}
 use Rattle.r6501q_spans.specs.Spans.{memoryPut}
 use Rattle.r6501q_spans.specs.declared.Working.{Working}
-use Rattle.cpu_access.proofs.Ends.{ends-not}
+use Rattle.cpu_access.proofs.Ends.{no-writes-end}
 use Rattle.r6501q_spans.proofs.Ticked.{byteWaiting}
 use Rattle.r6501q_leap.specs.declared.Leaped.{Leaped}
 use Rattle.r6501q_leap.specs.Leap.{runFrom, Leaping}
@@ -112,14 +111,9 @@ room-put halt span w x room =
     (λ some fits q. record { gone = fits; leaps = omega (arith, room .leaps) })
 
 -- an instruction that writes nothing pushes neither to a register nor at the halt address, and leaves memory as it is
-no-register : (w : Writing) → w ≡ Nothing → writesRegister (pushesOf w) ≡ false
-unfolding writesRegister pushesOf
-no-register w e = rw e
-
 pub no-end : (halt : Halt) (w : Writing) → w ≡ Nothing → endsSpan halt (pushesOf w) ≡ false
 unfolding pushesOf
-no-end halt w e =
-    rw e (ends-not halt (pushesOf Nothing) (no-register Nothing refl) (unwritten halt (pushesOf Nothing) refl))
+no-end halt w e = rw e (no-writes-end halt)
 
 pub same-memory : (memory : List ℕ) (w : Writing) → w ≡ Nothing → committed memory (pushesOf w) ≡ memory
 unfolding committed putWrite pushesOf

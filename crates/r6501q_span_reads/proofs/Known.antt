@@ -13,7 +13,6 @@ use Rattle.cpu_opcodes.specs.declared.operation.BitBranchOperation.{BitBranchOp
 use Rattle.cpu_opcodes.specs.declared.operation.ModifyOperation.{ModifyOperation}
 use Rattle.cpu_opcodes.specs.declared.operation.ReadOperation.{ReadOperation}
 use Rattle.cpu_opcodes.specs.declared.operation.StoreOperation.{StoreOperation}
-use Rattle.cpu_opcodes.specs.declared.operation.StoreOperation.the-variants as store
 use Rattle.cpu_access.specs.declared.CpuRegisters.{CpuRegisters}
 use Rattle.cpu_modes.specs.declared.Place.{Place}
 use Rattle.cpu_access.specs.Bus.{idle, nextAddress, memoryByte, askOf, readOf, fetchOf}
@@ -26,6 +25,7 @@ use Rattle.cpu_effects.specs.Effects.{completed, stored, modified, branched, bi
 use Rattle.cpu_kinds.specs.Kinds.{withRead, changedBy, byteToStore, bitBranchTaken}
 use Rattle.cpu_operations.specs.Operations.{operateOf}
 use Rattle.cpu_kinds.specs.Updates.{withPc, withStatus}
+use Rattle.cpu_kinds.proofs.Bytes.{byte-stored}
 use Rattle.cpu.specs.declared.Ask.{Ask}
 use Rattle.cpu.specs.declared.Outcome.the-variants.{Asked, Done}
 use Rattle.cpu.specs.Instruction.{instructionOf, executeOf, outcomeOf, carriedOut, operandByte}
@@ -37,12 +37,6 @@ use Rattle.r6501q_span_reads.proofs.Steady.{within-done}
 
 abbrev workedOut : CpuRegisters → Writing → ℕ → Worked
 workedOut r x n = record { registers = r; writing = x; length = n }
-
-byte-stored : (o : StoreOperation) (pc : ℕ) (r : CpuRegisters) → byteToStore o (withPc pc r) ≡ byteToStore o r
-unfolding byteToStore
-byte-stored store.Sta pc r = refl
-byte-stored store.Stx pc r = refl
-byte-stored store.Sty pc r = refl
 
 module _ (r : CpuRegisters) (memory : List ℕ) (e : Entry) (a : ℕ) (i : Encoded r memory e a) where
   abbrev behind : CpuRegisters

@@ -7,13 +7,12 @@ use lib.Dec.{ltb, leb}
 use Rattle.bits.proofs.Cond.{and-both}
 use Rattle.cpu_access.specs.declared.stack.Write.{Write}
 use Rattle.cpu_access.specs.Stack.{noWrites, oneWrite}
-use Rattle.cpu_access.proofs.Told.{unwritten}
 use Rattle.cpu_effects.specs.declared.Worked.{Worked}
 use Rattle.cpu_effects.specs.Effects.{pushesOf}
 use Rattle.cpu.specs.declared.work.Work.{Work}
 use Rattle.cpu_access.specs.declared.halt.Halt.{Halt}
-use Rattle.cpu_access.specs.Halt.{writesRegister, endsSpan}
-use Rattle.cpu_access.proofs.Ends.{ends-not}
+use Rattle.cpu_access.specs.Halt.{endsSpan}
+use Rattle.cpu_access.proofs.Ends.{no-writes-end}
 use Rattle.r6501q_clock.specs.Commit.{putWrite, committed}
 use Rattle.r6501q_spans.specs.Spans.{nextWorking, continuedBy, committedBy, putsWithin}
 
@@ -24,10 +23,6 @@ and-second : (a b : Bool) → a ≡ true → b ≡ false → (a && b) ≡ false
 and-second a b e f = rw (e, f) refl
 
 -- an instruction that pushes nothing goes on, and leaves memory as it is
-no-writes-end : (halt : Halt) → endsSpan halt noWrites ≡ false
-unfolding writesRegister
-no-writes-end halt = ends-not halt noWrites refl (unwritten halt noWrites refl)
-
 pub nothing-pushed : (halt : Halt) (w : Work) (memory : List ℕ) (worked : Worked) → pushesOf (worked .writing)
     ≡ noWrites
     → (continuedBy halt w worked ≡ nextWorking w worked) × (committedBy halt memory worked ≡ memory)
