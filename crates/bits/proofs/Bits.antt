@@ -10,8 +10,8 @@ use lib.Bits.{bitAnd, and-shr, and-mod, and-step}
 use lib.Pow.{pow-lt, pow-pos, pow-add, shr-shr, shl-shr, split, field, mod-mod-pow}
 use lib.Dec.{eqb}
 use borrow.Author.Tests.{eq-eqb, ne-eqb}
-use Rattle.bits.specs.Bits.{bit, digit, withBit}
-use Rattle.bits.proofs.Cond.{digit-le}
+use Rattle.bits.specs.Bits.{bit, oneWhere, withBit}
+use Rattle.bits.proofs.Cond.{one-where-le}
 
 -- a number taken apart at bit k: what is above it, the bit, what is below it
 parts : (k x : ℕ) → x ≡ x / 2 ^ k / 2 * 2 ^ k + x / 2 ^ k / 2 * 2 ^ k + x / 2 ^ k % 2 * 2 ^ k + x % 2 ^ k
@@ -45,7 +45,7 @@ bit-room n k x h l =
     omega (arith, parts k x, one-mul w)
 
 -- x with bit k as given, taken apart: what is above bit k, the bit, what is below it
-put-parts : (k x : ℕ) (on : Bool) → withBit k on x ≡ x % 2 ^ k + (x / 2 ^ k / 2 + x / 2 ^ k / 2 + digit on) * 2 ^ k
+put-parts : (k x : ℕ) (on : Bool) → withBit k on x ≡ x % 2 ^ k + (x / 2 ^ k / 2 + x / 2 ^ k / 2 + oneWhere on) * 2 ^ k
 unfolding withBit
 put-parts k x true =
     let h = x / 2 ^ k / 2 in
@@ -59,30 +59,30 @@ put-parts k x false =
     omega (arith, parts k x)
 
 -- from bit k on, it is what is above the bit, and the bit
-put-high : (k x : ℕ) (on : Bool) → withBit k on x / 2 ^ k ≡ x / 2 ^ k / 2 + x / 2 ^ k / 2 + digit on
+put-high : (k x : ℕ) (on : Bool) → withBit k on x / 2 ^ k ≡ x / 2 ^ k / 2 + x / 2 ^ k / 2 + oneWhere on
 put-high k x on =
     let r : x % 2 ^ k / 2 ^ k ≡ 0 = div-eq-of-lt (mod-lt x (pow-pos k)) in
     rw (put-parts k x on)
-    (add-mul-div-right (x % 2 ^ k) (x / 2 ^ k / 2 + x / 2 ^ k / 2 + digit on) (pow-pos k) ∙ omega (arith, r))
+    (add-mul-div-right (x % 2 ^ k) (x / 2 ^ k / 2 + x / 2 ^ k / 2 + oneWhere on) (pow-pos k) ∙ omega (arith, r))
 
 -- what is put at bit k stands there
 pub bit-put : (k x : ℕ) (on : Bool) → bit k (withBit k on x) ≡ on
 bit-put k x true = let h = put-high k x true in eq-eqb (withBit k true x / 2 ^ k % 2) 1 (omega arith)
 bit-put k x false = let h = put-high k x false in ne-eqb (withBit k false x / 2 ^ k % 2) 1 (λ e. omega arith)
 
--- every digit above is kept
-digit-above : (k j x : ℕ) (on : Bool) → withBit k on x / 2 ^ (k + 1 + j) % 2 ≡ x / 2 ^ (k + 1 + j) % 2
-digit-above k j x on = ap (λ n. n % 2) (at (withBit k on x) ∙ ap (λ n. n / 2 ^ j) same ∙ sym (at x))
+-- every bit above is kept
+bit-value-above : (k j x : ℕ) (on : Bool) → withBit k on x / 2 ^ (k + 1 + j) % 2 ≡ x / 2 ^ (k + 1 + j) % 2
+bit-value-above k j x on = ap (λ n. n % 2) (at (withBit k on x) ∙ ap (λ n. n / 2 ^ j) same ∙ sym (at x))
   where
     at : (y : ℕ) → y / 2 ^ (k + 1 + j) ≡ y / 2 ^ k / 2 ^ 1 / 2 ^ j
     at y = sym (ap (λ n. n / 2 ^ j) (shr-shr y k 1) ∙ shr-shr y (k + 1) j)
 
     same : withBit k on x / 2 ^ k / 2 ^ 1 ≡ x / 2 ^ k / 2 ^ 1
-    same = let h = put-high k x on in omega (arith, digit-le on)
+    same = let h = put-high k x on in omega (arith, one-where-le on)
 
 -- every bit above is kept
 pub bit-above : (k j x : ℕ) (on : Bool) → bit (k + 1 + j) (withBit k on x) ≡ bit (k + 1 + j) x
-bit-above k j x on = ap (λ n. eqb n 1) (digit-above k j x on)
+bit-above k j x on = ap (λ n. eqb n 1) (bit-value-above k j x on)
 
 -- what is below the bit is kept
 put-low : (k x : ℕ) (on : Bool) → withBit k on x % 2 ^ k ≡ x % 2 ^ k
@@ -95,14 +95,14 @@ put-below : (m j x : ℕ) (on : Bool) → withBit (m + j) on x % 2 ^ j ≡ x % 2
 put-below m j x on =
     sym (mod-mod-pow (withBit (m + j) on x) m j) ∙ ap (λ n. n % 2 ^ j) (put-low (m + j) x on) ∙ mod-mod-pow x m j
 
--- every digit below is kept
-digit-below : (m j x : ℕ) (on : Bool) → withBit (m + (1 + j)) on x / 2 ^ j % 2 ≡ x / 2 ^ j % 2
-digit-below m j x on =
+-- every bit below is kept
+bit-value-below : (m j x : ℕ) (on : Bool) → withBit (m + (1 + j)) on x / 2 ^ j % 2 ≡ x / 2 ^ j % 2
+bit-value-below m j x on =
     sym (field (withBit (m + (1 + j)) on x) 1 j) ∙ ap (λ n. n / 2 ^ j) (put-below m (1 + j) x on) ∙ field x 1 j
 
 -- every bit below is kept
 pub bit-below : (m j x : ℕ) (on : Bool) → bit j (withBit (m + (1 + j)) on x) ≡ bit j x
-bit-below m j x on = ap (λ n. eqb n 1) (digit-below m j x on)
+bit-below m j x on = ap (λ n. eqb n 1) (bit-value-below m j x on)
 
 -- two bits may be put in either order
 pub put-swap : (m j x : ℕ) (on off : Bool)
@@ -111,8 +111,8 @@ unfolding withBit
 put-swap m j x on off =
     let k = m + (1 + j) in
     let e : k ≡ j + 1 + m = omega arith in
-    let a : withBit j on x / 2 ^ k % 2 ≡ x / 2 ^ k % 2 = rw e (digit-above j m x on) in
-    let b : withBit k off x / 2 ^ j % 2 ≡ x / 2 ^ j % 2 = digit-below m j x off in
+    let a : withBit j on x / 2 ^ k % 2 ≡ x / 2 ^ k % 2 = rw e (bit-value-above j m x on) in
+    let b : withBit k off x / 2 ^ j % 2 ≡ x / 2 ^ j % 2 = bit-value-below m j x off in
     let c : x / 2 ^ k % 2 * 2 ^ k ≤ withBit j on x = rw a at (bit-within k (withBit j on x)) in
     let d : x / 2 ^ j % 2 * 2 ^ j ≤ withBit k off x = rw b at (bit-within j (withBit k off x)) in
     rw (a, b) (omega (arith, bit-within j x, bit-within k x))

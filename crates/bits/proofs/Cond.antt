@@ -3,7 +3,7 @@ use mathlib.Core.Path.{_≡_, refl, sym}
 use mathlib.Core.Bool.{Bool, true, false, _&&_, _||_, not, cond, Bool·beq, false≢true}
 use Prim.Native.Nat.{_≤_, _+_}
 use lib.Dec.{T, lit≤}
-use Rattle.bits.specs.Bits.{digit}
+use Rattle.bits.specs.Bits.{oneWhere}
 
 -- what holds of both ways holds of the choice; each way may use how the test came out
 pub cond-both : {A : Type 0} (P : A → Type 0) (t : Bool) (x y : A) → (t ≡ true → P x) → (t ≡ false → P y)
@@ -44,13 +44,13 @@ equal true false t = absurd t
 equal false true t = absurd t
 equal false false t = refl
 
-pub digit-le : (b : Bool) → digit b ≤ 1
-digit-le true = lit≤ tt
-digit-le false = lit≤ tt
+pub one-where-le : (b : Bool) → oneWhere b ≤ 1
+one-where-le true = lit≤ tt
+one-where-le false = lit≤ tt
 
-pub digit-not : (b : Bool) → digit b + digit (not b) ≡ 1
-digit-not true = refl
-digit-not false = refl
+pub one-where-not : (b : Bool) → oneWhere b + oneWhere (not b) ≡ 1
+one-where-not true = refl
+one-where-not false = refl
 
 -- a conjunction of tests, taken apart and made
 pub and-left : (a b : Bool) → (a && b) ≡ true → a ≡ true

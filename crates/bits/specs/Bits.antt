@@ -8,8 +8,8 @@ abbrev pub bit : ℕ → ℕ → Bool
 bit k x = eqb (x / 2 ^ k % 2) 1
 
 -- a yes as 1, a no as 0
-abbrev pub digit : Bool → ℕ
-digit b = cond b 1 0
+abbrev pub oneWhere : Bool → ℕ
+oneWhere b = cond b 1 0
 
 -- x with bit k as given, the others kept
 unfoldable pub withBit : ℕ → Bool → ℕ → ℕ
@@ -24,11 +24,11 @@ unfoldable pub flipWhere : ℕ → Bool → ℕ → ℕ
 flipWhere k on x = cond on (withBit k (not (bit k x)) x) x
 
 -- the two bytes of a 16-bit number, and the number of two bytes
-abbrev pub low : ℕ → ℕ
-low x = x % 256
+abbrev pub lowByte : ℕ → ℕ
+lowByte x = x % 256
 
-abbrev pub high : ℕ → ℕ
-high x = x / 256 % 256
+abbrev pub highByte : ℕ → ℕ
+highByte x = x / 256 % 256
 
 abbrev pub word16 : ℕ → ℕ → ℕ
 word16 h l = h * 256 + l

@@ -2,7 +2,7 @@
 use mathlib.Core.Bool.{Bool, true, false, _&&_, _||_, not, cond}
 use mathlib.Core.List.{List, [], _∷_}
 use Prim.Native.Nat.{ℕ, zero, suc, _+_, _*_}
-use Rattle.bits.specs.Bits.{bit, digit}
+use Rattle.bits.specs.Bits.{bit, oneWhere}
 
 module _ {A : Type 0} where
   -- the test holds of each element
@@ -25,9 +25,9 @@ abbrev pub bitsOf : ℕ → ℕ → List Bool
 bitsOf n x = tabulate (λ k. bit k x) n 0
 
 -- the number that bits write, bit 0 first
-abbrev pub number : List Bool → ℕ
-number [] = 0
-number (b ∷ l) = digit b + 2 * number l
+abbrev pub numberOfBits : List Bool → ℕ
+numberOfBits [] = 0
+numberOfBits (b ∷ l) = oneWhere b + 2 * numberOfBits l
 
 -- whether an odd number of them is set
 abbrev pub oddOnes : List Bool → Bool

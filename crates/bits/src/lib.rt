@@ -1,7 +1,7 @@
 // Bits and bytes of numbers.
 ghost use mathlib.Core.Path.{_≡_};
 ghost use Prim.Native.Nat.{_-_, _<_};
-ghost use Rattle.bits.specs.Bits.{bit, digit, withBit, setWhere, flipWhere, low, high, word16};
+ghost use Rattle.bits.specs.Bits.{bit, oneWhere, withBit, setWhere, flipWhere, lowByte, highByte, word16};
 
 // Whether bit k of a byte is set.
 pub fn bit8(x: u8, k: u8) -> bool
@@ -20,8 +20,8 @@ pub fn bit32(x: u32, k: u32) -> bool
 }
 
 // A yes as 1, a no as 0.
-pub fn digit8(on: bool) -> u8
-    ensures { λ r. ⌜ r ≡ digit on ⌝ }
+pub fn one_where(on: bool) -> u8
+    ensures { λ r. ⌜ r ≡ oneWhere on ⌝ }
 {
     if on { 1 } else { 0 }
 }
@@ -64,14 +64,14 @@ pub fn flip_where(x: u8, k: u8, on: bool) -> u8
 
 // The lower byte of a 16-bit number.
 pub fn low_byte(x: u16) -> u8
-    ensures { λ r. ⌜ r ≡ low x ⌝ }
+    ensures { λ r. ⌜ r ≡ lowByte x ⌝ }
 {
     (x % 256) as u8
 }
 
 // The upper byte of a 16-bit number.
 pub fn high_byte(x: u16) -> u8
-    ensures { λ r. ⌜ r ≡ high x ⌝ }
+    ensures { λ r. ⌜ r ≡ highByte x ⌝ }
 {
     (x / 256 % 256) as u8
 }

@@ -5,37 +5,38 @@ use Prim.Native.Nat.{ℕ, zero, suc, _+_, _-_, _≤_, _<_}
 use native.Mathlib.Omega.{arith}
 use lib.Dec.{ltb, eqb}
 use borrow.Author.Tests.{ne-eqb, eqb-true, le-ltb}
-use Rattle.bits.proofs.Cond.{digit-le}
+use Rattle.bits.proofs.Cond.{one-where-le}
 use Rattle.counters.specs.declared.time.Clocks.{Clocks}
 use Rattle.counters.specs.declared.a.CounterA.{CounterA}
 use Rattle.counters.specs.declared.b.CounterB.{CounterB}
-use Rattle.counters.specs.Counters.{clockA, countsA, downA, runsA, passA, countedA, clockB, downB, reloadB, runsB}
+use Rattle.counters.specs.Counters.{clockA, countsA, downA, countsThroughA, passA, countedA, clockB, downB}
+use Rattle.counters.specs.Counters.{reloadB, countsThroughB}
 use Rattle.counters.specs.Counters.{passB, countedB, atB, ticksOf}
 
 abbrev pub clocks : ℕ → Clocks
 clocks n = record { 0 = n }
 
--- a clock without a rise, on which a counter that runs is above 0000h, is a gap of one clock
-pub clock-passes-a : (c : CounterA) (mode : ℕ) (low : Bool) → (runsA mode low ≡ true → 0 < c .count)
-    → clockA c mode false low ≡ countedA (passA c (runsA mode low) (clocks 1)) false
-unfolding clockA runsA passA downA
+-- a clock without a rise, on which a counter that counts is above 0000h, is a gap of one clock
+pub clock-passes-a : (c : CounterA) (mode : ℕ) (low : Bool) → (countsThroughA mode low ≡ true → 0 < c .count)
+    → clockA c mode false low ≡ countedA (passA c (countsThroughA mode low) (clocks 1)) false
+unfolding clockA countsThroughA passA downA
 clock-passes-a c mode low = by-test (countsA mode false low) refl
   where
     by-test : (t : Bool) → countsA mode false low ≡ t → (countsA mode false low ≡ true → 0 < c .count)
-        → clockA c mode false low ≡ countedA (passA c (runsA mode low) (clocks 1)) false
+        → clockA c mode false low ≡ countedA (passA c (countsThroughA mode low) (clocks 1)) false
     by-test true e h =
         let p : 0 < c .count = h e in
         let z : c .count ≡ 0 → ⊥ = λ q. omega arith in
         rw (e, ne-eqb (c .count) 0 z)
     by-test false e h = rw e
 
-pub clock-passes-b : (c : CounterB) (mode : ℕ) → (runsB mode ≡ true → 0 < c .count)
-    → clockB c mode false ≡ countedB (passB c (runsB mode) (clocks 1)) false
-unfolding clockB runsB passB downB
+pub clock-passes-b : (c : CounterB) (mode : ℕ) → (countsThroughB mode ≡ true → 0 < c .count)
+    → clockB c mode false ≡ countedB (passB c (countsThroughB mode) (clocks 1)) false
+unfolding clockB countsThroughB passB downB
 clock-passes-b c mode = by-test (ltb mode 2) (eqb mode 2) refl refl
   where
     Passes : Type 0
-    Passes = clockB c mode false ≡ countedB (passB c (runsB mode) (clocks 1)) false
+    Passes = clockB c mode false ≡ countedB (passB c (countsThroughB mode) (clocks 1)) false
 
     down : (0 < c .count) → downB c mode ≡ countedB (passB c true (clocks 1)) false
     down p = let z : c .count ≡ 0 → ⊥ = λ q. omega arith in rw (ne-eqb (c .count) 0 z)
@@ -49,14 +50,14 @@ clock-passes-b c mode = by-test (ltb mode 2) (eqb mode 2) refl refl
     by-test false false e f h = rw (e, f) (down (h (rw f)))
 
 -- gaps add up
-pub pass-add-a : (c : CounterA) (running : Bool) (m n : ℕ)
-    → passA (passA c running (clocks m)) running (clocks n) ≡ passA c running (clocks (m + n))
+pub pass-add-a : (c : CounterA) (counting : Bool) (m n : ℕ)
+    → passA (passA c counting (clocks m)) counting (clocks n) ≡ passA c counting (clocks (m + n))
 unfolding passA
 pass-add-a c true m n = let e : c .count - m - n ≡ c .count - (m + n) = omega arith in rw e
 pass-add-a c false m n = refl
 
-pub pass-add-b : (c : CounterB) (running : Bool) (m n : ℕ)
-    → passB (passB c running (clocks m)) running (clocks n) ≡ passB c running (clocks (m + n))
+pub pass-add-b : (c : CounterB) (counting : Bool) (m n : ℕ)
+    → passB (passB c counting (clocks m)) counting (clocks n) ≡ passB c counting (clocks (m + n))
 unfolding passB
 pass-add-b c true m n = let e : c .count - m - n ≡ c .count - (m + n) = omega arith in rw e
 pass-add-b c false m n = refl
@@ -64,7 +65,7 @@ pass-add-b c false m n = refl
 -- 01, One clock, 3: a clock has one tick at most
 pub ticks-le : (underflow : Bool) → ticksOf underflow .0 ≤ 1
 unfolding ticksOf
-ticks-le underflow = digit-le underflow
+ticks-le underflow = one-where-le underflow
 
 -- 01, Joints: "PA5 rise and underflow on one clock counted as both": a rise in mode 11 reloads from latch B and is no
 -- underflow

@@ -2,7 +2,7 @@
 use mathlib.Core.Bool.{Bool, true, false, _&&_, not, cond}
 use Prim.Native.Nat.{ℕ, _+_, _-_, _*_, _/_, _%_}
 use lib.Dec.{leb, ltb, eqb}
-use Rattle.bits.specs.Bits.{low, high, word16, digit}
+use Rattle.bits.specs.Bits.{lowByte, highByte, word16, oneWhere}
 use Rattle.counters.specs.declared.time.Clocks.{Clocks}
 use Rattle.counters.specs.declared.time.Ticks.{Ticks}
 use Rattle.counters.specs.declared.a.CounterA.{CounterA}
@@ -12,7 +12,7 @@ use Rattle.counters.specs.declared.b.CountedB.{CountedB}
 
 -- 01, One clock, 3: "at each underflow of A; that is a tick"
 unfoldable pub ticksOf : Bool → Ticks
-ticksOf underflow = record { 0 = digit underflow }
+ticksOf underflow = record { 0 = oneWhere underflow }
 
 -- "holds A to mode 00"
 unfoldable pub inForce : Bool → ℕ → ℕ
@@ -41,19 +41,19 @@ unfoldable pub clockA : CounterA → ℕ → Bool → Bool → CountedA
 clockA c mode rise isLow = cond (countsA mode rise isLow) (downA c) (countedA c false)
 
 -- 01, Run and leaps: "each counter that counts in all of it": in a gap no pin changes, so there is no rise
-unfoldable pub runsA : ℕ → Bool → Bool
-runsA mode isLow = countsA mode false isLow
+unfoldable pub countsThroughA : ℕ → Bool → Bool
+countsThroughA mode isLow = countsA mode false isLow
 
 -- "the gap passed: .. each counter that counts in all of it minus gap"
 unfoldable pub passA : CounterA → Bool → Clocks → CounterA
-passA c running gap = atA c (cond running (c .count - gap .0) (c .count))
+passA c counting gap = atA c (cond counting (c .count - gap .0) (c .count))
 
 -- 001, 6.1: the latch's bytes, and "the contents of the 16-bit latch are transferred to Counter A"
 unfoldable pub lowerA : CounterA → ℕ → CounterA
-lowerA c v = record { count = c .count; latch = word16 (high (c .latch)) v }
+lowerA c v = record { count = c .count; latch = word16 (highByte (c .latch)) v }
 
 unfoldable pub upperA : CounterA → ℕ → CounterA
-upperA c v = record { count = c .count; latch = word16 v (low (c .latch)) }
+upperA c v = record { count = c .count; latch = word16 v (lowByte (c .latch)) }
 
 unfoldable pub loadCounterA : CounterA → CounterA
 loadCounterA c = atA c (c .latch)
@@ -81,21 +81,21 @@ clockB c mode rise =
     (cond (eqb mode 2) (cond rise (downB c mode) (countedB c false))
     (cond rise (countedB (reloadB c mode) false) (downB c mode)))
 
-unfoldable pub runsB : ℕ → Bool
-runsB mode = not (eqb mode 2)
+unfoldable pub countsThroughB : ℕ → Bool
+countsThroughB mode = not (eqb mode 2)
 
 unfoldable pub passB : CounterB → Bool → Clocks → CounterB
-passB c running gap = atB c (cond running (c .count - gap .0) (c .count)) (c .turnc)
+passB c counting gap = atB c (cond counting (c .count - gap .0) (c .count)) (c .turnc)
 
 abbrev pub latchesB : CounterB → ℕ → ℕ → CounterB
 latchesB c b c′ = record { count = c .count; latchb = b; latchc = c′; turnc = c .turnc }
 
 -- 001, 6.2: latch B's bytes, latch C a copy of it, the counter loaded from latch B
 unfoldable pub lowerB : CounterB → ℕ → CounterB
-lowerB c v = latchesB c (word16 (high (c .latchb)) v) (c .latchc)
+lowerB c v = latchesB c (word16 (highByte (c .latchb)) v) (c .latchc)
 
 unfoldable pub upperB : CounterB → ℕ → CounterB
-upperB c v = latchesB c (word16 v (low (c .latchb))) (c .latchc)
+upperB c v = latchesB c (word16 v (lowByte (c .latchb))) (c .latchc)
 
 unfoldable pub copyB : CounterB → CounterB
 copyB c = latchesB c (c .latchb) (c .latchb)

@@ -1,6 +1,7 @@
 // A counter with one latch: counter A.
 ghost use mathlib.Core.Path.{_≡_};
-ghost use Rattle.counters.specs.Counters.{downA, countsA, clockA, runsA, passA, lowerA, upperA, loadCounterA};
+ghost use Rattle.counters.specs.Counters.{downA, countsA, clockA, countsThroughA, passA, lowerA, upperA};
+ghost use Rattle.counters.specs.Counters.{loadCounterA};
 use crate::time::Clocks;
 use crate::time::count_after;
 
@@ -31,8 +32,8 @@ pub fn counts(mode: u8, rise: bool, low: bool) -> bool
 }
 
 // Whether it counts in every clock of a gap, where no pin changes.
-pub fn runs(mode: u8, low: bool) -> bool
-    ensures { λ r. ⌜ r ≡ runsA mode low ⌝ }
+pub fn counts_through(mode: u8, low: bool) -> bool
+    ensures { λ r. ⌜ r ≡ countsThroughA mode low ⌝ }
 {
     counts(mode, false, low)
 }
@@ -70,10 +71,10 @@ impl CounterA {
     }
 
     // A gap without an underflow, in all of which it counts or in none.
-    pub fn pass(mut self, running: bool, gap: Clocks) -> CounterA
-        ensures { λ r. ⌜ r ≡ passA self running gap ⌝ }
+    pub fn pass(mut self, counting: bool, gap: Clocks) -> CounterA
+        ensures { λ r. ⌜ r ≡ passA self counting gap ⌝ }
     {
-        if running {
+        if counting {
             self.count = count_after(self.count, gap);
             return self;
         }

@@ -1,6 +1,6 @@
 // A counter with two latches: counter B with latches B and C.
 ghost use mathlib.Core.Path.{_≡_};
-ghost use Rattle.counters.specs.Counters.{reloadB, downB, clockB, runsB, passB, lowerB, upperB, copyB};
+ghost use Rattle.counters.specs.Counters.{reloadB, downB, clockB, countsThroughB, passB, lowerB, upperB, copyB};
 ghost use Rattle.counters.specs.Counters.{loadCounterB, turnToC};
 use crate::time::Clocks;
 use crate::time::count_after;
@@ -21,8 +21,8 @@ pub struct CountedB {
 }
 
 // Whether it counts in every clock of a gap, where no pin changes: in all modes but 10.
-pub fn runs(mode: u8) -> bool
-    ensures { λ r. ⌜ r ≡ runsB mode ⌝ }
+pub fn counts_through(mode: u8) -> bool
+    ensures { λ r. ⌜ r ≡ countsThroughB mode ⌝ }
 {
     mode != 2
 }
@@ -91,10 +91,10 @@ impl CounterB {
     }
 
     // A gap without an underflow, in all of which it counts or in none.
-    pub fn pass(mut self, running: bool, gap: Clocks) -> CounterB
-        ensures { λ r. ⌜ r ≡ passB self running gap ⌝ }
+    pub fn pass(mut self, counting: bool, gap: Clocks) -> CounterB
+        ensures { λ r. ⌜ r ≡ passB self counting gap ⌝ }
     {
-        if running {
+        if counting {
             self.count = count_after(self.count, gap);
             return self;
         }

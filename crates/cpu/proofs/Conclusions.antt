@@ -11,7 +11,7 @@ use Rattle.cpu_opcodes.specs.declared.Mode.{Mode}
 use Rattle.cpu_opcodes.specs.declared.Mode.the-variants.{Implied, Accumulator, Immediate, ZeroPage, ZeroPageX}
 use Rattle.cpu_opcodes.specs.declared.Mode.the-variants.{ZeroPageY, Absolute, AbsoluteX, AbsoluteY, IndexedIndirect}
 use Rattle.cpu_opcodes.specs.declared.Mode.the-variants.{IndirectIndexed, Indirect, Relative, ZeroPageRelative}
-use Rattle.cpu_opcodes.specs.Table.{modeNumber}
+use Rattle.cpu_opcodes.specs.TableInCode.{modeNumber}
 use Rattle.cpu_opcodes.specs.declared.operation.Operation.{Operation}
 use Rattle.cpu_opcodes.specs.declared.operation.Operation.the-variants as operation
 use Rattle.cpu_alu.specs.declared.Status.{Status}
@@ -20,30 +20,33 @@ use Rattle.cpu_access.specs.declared.stack.Write.{Write}
 use Rattle.cpu_access.specs.Stack.{writeAt}
 use Rattle.cpu_access.specs.Waiting.{byteWaits}
 use Rattle.cpu_access.specs.Accesses.{Accesses, ends, reads, writes, _>>=_, RegisterFile, performed}
-use Rattle.cpu_modes.specs.Operands.{Located, located, branchTarget}
+use Rattle.cpu_modes.specs.ModeAccesses.{Located, located, branchTarget}
 use Rattle.cpu_kinds.proofs.Flags.{Kept, same-kept, read-keeps, change-keeps, pulled-keeps, register-keeps}
 use Rattle.cpu_kinds.proofs.Flags.{flag-keeps}
 use Rattle.cpu_operations.proofs.Stores.{stores}
 use Rattle.cpu_kinds.specs.Updates.{withPc}
 use Rattle.cpu_kinds.specs.Kinds.{branchTaken, bitBranchTaken}
 use Rattle.cpu_access.specs.Bus.{nextAddress}
-use Rattle.cpu.specs.Sequence.{Conclusion, completion, storeAt, modifyAccesses, branchOn, bitBranchAccesses}
-use Rattle.cpu.specs.Sequence.{jumpTo, pushAccesses, pullAccesses, returnAccesses, interruptReturnAccesses}
-use Rattle.cpu.specs.Sequence.{entryAccesses, breakAccesses, callAccesses, pastOperand, operationAccesses}
+use Rattle.cpu.specs.InstructionAccesses.{Conclusion, completion, storeAt, modifyAccesses, branchOn}
+use Rattle.cpu.specs.InstructionAccesses.{bitBranchAccesses}
+use Rattle.cpu.specs.InstructionAccesses.{jumpTo, pushAccesses, pullAccesses, returnAccesses}
+use Rattle.cpu.specs.InstructionAccesses.{interruptReturnAccesses}
+use Rattle.cpu.specs.InstructionAccesses.{entryAccesses, breakAccesses, jsrAccesses, pastOperand}
+use Rattle.cpu.specs.InstructionAccesses.{operationAccesses}
 use Rattle.cpu.proofs.Laws.{storesOf}
 
 -- ---- whatever is read, of the writes and of the end
 
 abbrev pub EndsIn : {A : Type 0} → (List Write → A → Type 0) → List Write → Accesses A → Type 0
 EndsIn P before (ends x) = P before x
-EndsIn P before (reads latch a go) = (v : ℕ) → EndsIn P before (go v)
+EndsIn P before (reads modify a go) = (v : ℕ) → EndsIn P before (go v)
 EndsIn P before (writes a v t) = EndsIn P (before ++ (writeAt a v ∷ [])) t
 
 pub ends-then : {A B : Type 0} (Q : List Write → A → Type 0) (P : List Write → B → Type 0) (t : Accesses A)
     (next : A → Accesses B) (before : List Write)
     → EndsIn Q before t → ((ws : List Write) (x : A) → Q ws x → EndsIn P ws (next x)) → EndsIn P before (t >>= next)
 ends-then Q P (ends x) next before q h = h before x q
-ends-then Q P (reads latch a go) next before q h = λ v. ends-then Q P (go v) next before (q v) h
+ends-then Q P (reads modify a go) next before q h = λ v. ends-then Q P (go v) next before (q v) h
 ends-then Q P (writes a v t) next before q h = ends-then Q P t next (before ++ (writeAt a v ∷ [])) q h
 
 -- so of what is performed
@@ -52,7 +55,7 @@ pub performed-ends : {S A : Type 0} (file : RegisterFile S) (memory : List ℕ) 
     → EndsIn P before t → P (performed file memory p before t .writes) (performed file memory p before t .end)
 unfolding performed
 performed-ends file memory P p before (ends x) q = q
-performed-ends file memory P p before (reads latch a go) q = performed-ends file memory P _ before (go _) (q _)
+performed-ends file memory P p before (reads modify a go) q = performed-ends file memory P _ before (go _) (q _)
 performed-ends file memory P p before (writes a v t) q =
     performed-ends file memory P _ (before ++ (writeAt a v ∷ [])) t q
 
@@ -123,7 +126,7 @@ module _ (mode : Mode) (n : ℕ) (r : CpuRegisters) where
 
   pub operation-concludes : (o : Operation) → EndsIn (Concludes o mode n (r .status)) [] (operationAccesses o mode n r)
   unfolding operationAccesses completion storeAt modifyAccesses branchOn bitBranchAccesses jumpTo pushAccesses
-      pullAccesses returnAccesses interruptReturnAccesses entryAccesses breakAccesses callAccesses byteWaits
+      pullAccesses returnAccesses interruptReturnAccesses entryAccesses breakAccesses jsrAccesses byteWaits
   operation-concludes (operation.Read o) =
       placed (operation.Read o) _
       (λ ws p q v. concludes _ mode n (r .status) ws _ refl refl (read-keeps o (pastOperand p r) v))

@@ -12,7 +12,7 @@ use Rattle.cpu_effects.specs.declared.Writing.the-variants.{Nothing, Pushed, St
 use Rattle.cpu_effects.specs.Effects.{writesNothing}
 use Rattle.cpu.specs.declared.Outcome.the-variants.{Done}
 use Rattle.cpu.specs.declared.work.Work.{Work}
-use Rattle.cpu.specs.Instruction.{instructionOf}
+use Rattle.cpu.specs.InstructionInCode.{instructionOf}
 use Rattle.cpu.specs.Work.{WithinSpan, nextWork, ReadOnly, none, more}
 
 module _ (span : ℕ) (answers memory : List ℕ) (start : Work) where

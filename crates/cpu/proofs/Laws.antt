@@ -8,7 +8,7 @@ use native.Mathlib.Omega.{arith}
 use lib.Dec.{T, leb, eqb, leb→le, lit≤}
 use lib.ListN.{length}
 use Rattle.bits.proofs.Cond.{cond-both, both-left, both-right}
-use Rattle.cpu_opcodes.specs.Rows.{rows}
+use Rattle.cpu_opcodes.specs.InstructionSet.{rows}
 use Rattle.cpu_opcodes.specs.Decode.{decodeOf}
 use Rattle.cpu_opcodes.specs.declared.Decoded.{Decoded}
 use Rattle.cpu_opcodes.specs.declared.Decoded.the-variants as decoded
@@ -17,20 +17,20 @@ use Rattle.cpu_opcodes.specs.declared.Mode.{Mode}
 use Rattle.cpu_opcodes.specs.declared.Mode.the-variants.{Implied, Accumulator, Immediate, ZeroPage, ZeroPageX}
 use Rattle.cpu_opcodes.specs.declared.Mode.the-variants.{ZeroPageY, Absolute, AbsoluteX, AbsoluteY, IndexedIndirect}
 use Rattle.cpu_opcodes.specs.declared.Mode.the-variants.{IndirectIndexed, Indirect, Relative, ZeroPageRelative}
-use Rattle.cpu_opcodes.specs.Table.{modeNumber}
+use Rattle.cpu_opcodes.specs.TableInCode.{modeNumber}
 use Rattle.cpu_opcodes.proofs.Laws.{passes, looked-up}
 use Rattle.cpu_access.specs.declared.Bus.{Bus}
 use Rattle.cpu_access.specs.declared.CpuRegisters.{CpuRegisters}
 use Rattle.cpu_modes.specs.declared.Place.{Place}
 use Rattle.cpu_access.specs.declared.stack.Write.{Write}
 use Rattle.cpu_access.specs.declared.stack.Writes.{Writes}
-use Rattle.cpu_access.specs.Bus.{idle, got, askOf, readOf, fetchOf}
+use Rattle.cpu_access.specs.Bus.{unasked, got, askOf, readOf, fetchOf}
 use Rattle.memory.specs.Memory.{isRegister}
 use Rattle.cpu_access.specs.Stack.{noWrites, pushAddress, readAfter}
 use Rattle.cpu_modes.specs.Modes.{indexedBy, relativeTo, locateOf}
 use Rattle.cpu_modes.proofs.Accesses.{readsOfMode, read-keeps, fetch-keeps, read-after-keeps, locate-keeps}
-use Rattle.cpu_access.proofs.Asks.{AsksRegister, idle-asks-register, register-more, register-asks, Answered, Within}
-use Rattle.cpu_access.proofs.Asks.{idle-answered, answered-more, answered-asks}
+use Rattle.cpu_access.proofs.Asks.{AsksRegister, unasked-asks-register, register-more, register-asks, Answered, Within}
+use Rattle.cpu_access.proofs.Asks.{unasked-answered, answered-more, answered-asks}
 use Rattle.cpu.specs.declared.Ask.{Ask}
 use Rattle.cpu_effects.specs.declared.Worked.{Worked}
 use Rattle.cpu_effects.specs.declared.Writing.the-variants.{Pushed, Stored}
@@ -38,11 +38,12 @@ use Rattle.cpu.specs.declared.Outcome.{Outcome}
 use Rattle.cpu.specs.declared.Outcome.the-variants.{Stopped, Asked, Done}
 use Rattle.cpu_effects.specs.declared.Executed.{Executed}
 use Rattle.cpu_operations.specs.declared.Access.{Access}
-use Rattle.cpu_operations.specs.declared.Access.the-variants.{Nothing, Read, Modify, Call}
+use Rattle.cpu_operations.specs.declared.Access.the-variants.{Nothing, Read, Modify, Jsr}
 use Rattle.cpu_effects.specs.Effects.{withPc, pushesOf}
-use Rattle.cpu_operations.specs.Operations.{accessOf, isCall}
-use Rattle.cpu.specs.Instruction.{askWith, outcomeOf, operandByte, operandOf, carriedOut, writesAsked, callTo}
-use Rattle.cpu.specs.Instruction.{subroutineCall, executeOf, decodedTo, instructionOf}
+use Rattle.cpu_operations.specs.Operations.{accessOf, isJsr}
+use Rattle.cpu.specs.InstructionInCode.{askWith, outcomeOf, operandByte, operandOf, carriedOut, writesAsked}
+use Rattle.cpu.specs.InstructionInCode.{jsrTo}
+use Rattle.cpu.specs.InstructionInCode.{jsrOutcome, executeOf, decodedTo, instructionOf}
 use Rattle.cpu_operations.proofs.Sound.{Cost, costOf, Sound, operate-sound}
 use Rattle.cpu_operations.proofs.Stores.{isStore, stores, Stores, operate-stores}
 
@@ -72,7 +73,7 @@ abbrev pub readsOfAccess : Access → ℕ → ℕ
 readsOfAccess Nothing k = k
 readsOfAccess Read k = suc k
 readsOfAccess Modify k = suc k
-readsOfAccess Call k = k
+readsOfAccess Jsr k = k
 
 -- the reads of an entry, the opcode's included
 abbrev readsOf : Entry → ℕ
@@ -125,9 +126,9 @@ pushed-writes : (sp pc : ℕ) → pushAddress sp pc .count ≤ 3
 unfolding pushAddress
 pushed-writes sp pc = lit≤ tt
 
-called-writes : (sp pc : ℕ) → pushesOf (Pushed (pushAddress sp pc)) .count ≤ 3
+jsr-writes : (sp pc : ℕ) → pushesOf (Pushed (pushAddress sp pc)) .count ≤ 3
 unfolding pushesOf
-called-writes sp pc = pushed-writes sp pc
+jsr-writes sp pc = pushed-writes sp pc
 
 asking-writes : (b : Bus) (sp pc : ℕ) → writesAsked b (pushAddress sp pc) .count ≤ 3
 unfolding writesAsked
@@ -155,8 +156,8 @@ locate-accumulator answers memory ZeroPageRelative r b = refl
 
 module _ (P : ℕ → Bus → Type 0) (answers memory : List ℕ)
     (more : (k : ℕ) (b : Bus) → P k b → P (suc k) b)
-    (asks : (k a : ℕ) (latch : Bool) (b : Bus) → isRegister a ≡ true → P k b
-    → P (suc k) (askOf answers a latch b .bus)) where
+    (asks : (k a : ℕ) (modify : Bool) (b : Bus) → isRegister a ≡ true → P k b
+    → P (suc k) (askOf answers a modify b .bus)) where
   operand-keeps : (access : Access) (k a : ℕ) (p : Place) → P k (p .bus)
       → P (readsOfAccess access k) (operandByte answers memory access a p .bus)
   unfolding operandByte
@@ -167,7 +168,7 @@ module _ (P : ℕ → Bus → Type 0) (answers memory : List ℕ)
       (readOf answers memory (p .address) true (p .bus))
       (λ t. more k (p .bus) h)
       (λ t. read-keeps P answers memory more asks k (p .address) true (p .bus) h)
-  operand-keeps Call k a p h = h
+  operand-keeps Jsr k a p h = h
 
   asked-lawful : (k : ℕ) (w : Writes) (b : Bus) → k ≤ 5 → P k b → b .missing ≡ true → w .count ≤ 3
       → Lawful P (Asked (askWith w b))
@@ -205,25 +206,25 @@ module _ (P : ℕ → Bus → Type 0) (answers memory : List ℕ)
         store = λ h. rw (t .clocks (k ∙ h)) (c .store (a ∙ k ∙ h));
       })
 
-  call-lawful : (r : CpuRegisters) (n : ℕ) (b : Bus) → 2 ≤ n → n ≤ 7 → P 1 b
-      → Lawful P (subroutineCall answers memory r n b)
-  unfolding subroutineCall
-  call-lawful r n b l m h =
+  jsr-lawful : (r : CpuRegisters) (n : ℕ) (b : Bus) → 2 ≤ n → n ≤ 7 → P 1 b
+      → Lawful P (jsrOutcome answers memory r n b)
+  unfolding jsrOutcome
+  jsr-lawful r n b l m h =
       let f = fetchOf answers memory (r .pc) b in
       let w = pushAddress (r .sp) (f .pc) in
       let g = readAfter answers memory w (f .pc) (f .bus) in
       let q = read-after-keeps P answers memory more asks 2 w (f .pc) (f .bus)
       (fetch-keeps P answers memory more asks 1 (r .pc) b h) in
-      outcome-lawful 3 (writesAsked (f .bus) w) (callTo r n f w g) (lit≤ tt) q (asking-writes (f .bus) (r .sp) (f .pc))
-      (record { writes = called-writes (r .sp) (f .pc); least = l; most = m; store = λ e. absurd (false≢true e) })
+      outcome-lawful 3 (writesAsked (f .bus) w) (jsrTo r n f w g) (lit≤ tt) q (asking-writes (f .bus) (r .sp) (f .pc))
+      (record { writes = jsr-writes (r .sp) (f .pc); least = l; most = m; store = λ e. absurd (false≢true e) })
 
   execute-lawful : (e : Entry) (r : CpuRegisters) (b : Bus) → CostFits e → P 1 b
       → Lawful P (executeOf answers memory e r b)
   unfolding executeOf
   execute-lawful e r b c h =
-      cond-both (Lawful P) (isCall (accessOf (e .operation))) (subroutineCall answers memory r (e .length) b)
+      cond-both (Lawful P) (isJsr (accessOf (e .operation))) (jsrOutcome answers memory r (e .length) b)
       (outcomeOf noWrites (carriedOut answers memory e r b))
-      (λ t. call-lawful r (e .length) b (c .least) (let m = c .most in omega arith) h)
+      (λ t. jsr-lawful r (e .length) b (c .least) (let m = c .most in omega arith) h)
       (λ t. carried-lawful e r b c h)
 
   decoded-lawful : (d : Decoded) (r : CpuRegisters) (b : Bus) → T (passes costFits d) → P 1 b
@@ -231,11 +232,11 @@ module _ (P : ℕ → Bus → Type 0) (answers memory : List ℕ)
   decoded-lawful decoded.Undefined r b t h = tt
   decoded-lawful (decoded.Defined e) r b t h = execute-lawful e r b (cost-fits e t) h
 
-  pub lawful : (r : CpuRegisters) → P 0 idle → Lawful P (instructionOf r answers memory)
+  pub lawful : (r : CpuRegisters) → P 0 unasked → Lawful P (instructionOf r answers memory)
   unfolding instructionOf
   lawful r h =
-      let f = fetchOf answers memory (r .pc) idle in
-      let q = fetch-keeps P answers memory more asks 0 (r .pc) idle h in
+      let f = fetchOf answers memory (r .pc) unasked in
+      let q = fetch-keeps P answers memory more asks 0 (r .pc) unasked h in
       cond-both (Lawful P) (f .bus .missing) (Asked (askWith noWrites (f .bus)))
       (decodedTo answers memory (withPc (f .pc) r) (f .bus) (decodeOf (f .value)))
       (λ t. asked-lawful 1 noWrites (f .bus) (lit≤ tt) q t (lit≤ tt))
@@ -243,11 +244,12 @@ module _ (P : ℕ → Bus → Type 0) (answers memory : List ℕ)
 
 module _ (r : CpuRegisters) (answers memory : List ℕ) where
   by-register : Lawful AsksRegister (instructionOf r answers memory)
-  by-register = lawful AsksRegister answers memory register-more (register-asks answers) r (idle-asks-register 0)
+  by-register = lawful AsksRegister answers memory register-more (register-asks answers) r (unasked-asks-register 0)
 
   by-answers : Lawful (Answered answers) (instructionOf r answers memory)
   by-answers =
-      lawful (Answered answers) answers memory (answered-more answers) (answered-asks answers) r (idle-answered answers)
+      lawful (Answered answers) answers memory (answered-more answers) (answered-asks answers) r
+      (unasked-answered answers)
 
   -- an instruction that is done made at most three writes and takes 2 to 7 clocks
   pub done-fits : (w : Worked) → instructionOf r answers memory ≡ Done w → Fits w

@@ -1,5 +1,5 @@
 pub mod Laws
 pub mod Ranges
-pub mod Sequence
+pub mod InstructionAccesses
 pub mod Kept
 pub mod Conclusions

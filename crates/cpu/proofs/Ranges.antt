@@ -9,9 +9,9 @@ use lib.Bits.{and-lt, or-lt, xor-lt}
 use lib.Dec.{ltb, leb, eqb}
 use lib.IntN.{ℤ, pos, negsuc}
 use lib.ListN.{getD, length}
-use Rattle.bits.specs.Bits.{bit, digit, withBit, word16, wrapping8, wrapping16}
+use Rattle.bits.specs.Bits.{bit, oneWhere, withBit, word16, wrapping8, wrapping16}
 use Rattle.bits.proofs.Bits.{bit-room}
-use Rattle.bits.proofs.Cond.{cond-both, digit-le}
+use Rattle.bits.proofs.Cond.{cond-both, one-where-le}
 use Rattle.cpu_opcodes.specs.Decode.{decodeOf}
 use Rattle.cpu_opcodes.specs.declared.Decoded.{Decoded}
 use Rattle.cpu_opcodes.specs.declared.Decoded.the-variants as decoded
@@ -50,7 +50,7 @@ use Rattle.cpu_access.specs.declared.CpuRegisters.{CpuRegisters}
 use Rattle.cpu_modes.specs.declared.Place.{Place}
 use Rattle.cpu_access.specs.declared.stack.Write.{Write}
 use Rattle.cpu_access.specs.declared.stack.Writes.{Writes}
-use Rattle.cpu_access.specs.Bus.{nextAddress, memoryByte, vectorOf, idle, got, answered, asking, askOf, readOf}
+use Rattle.cpu_access.specs.Bus.{nextAddress, memoryByte, vectorOf, unasked, got, answered, asking, askOf, readOf}
 use Rattle.cpu_access.specs.Bus.{readAddress, fetchOf, fetchAddress, resetVector}
 use Rattle.memory.specs.Memory.{isRegister}
 use Rattle.cpu_access.specs.Stack.{noWrites, stackAddress, up, pushAddress, pushInterrupt, pullOf, pullAddress}
@@ -58,7 +58,7 @@ use Rattle.cpu_access.specs.Stack.{writtenOver}
 use Rattle.cpu_access.specs.Stack.{readAfter}
 use Rattle.cpu_modes.specs.Modes.{zeroPageIndexed, zeroPagePointer, secondAddress, indexedBy, relativeTo, locateOf}
 use Rattle.cpu_operations.specs.declared.Access.{Access}
-use Rattle.cpu_operations.specs.declared.Access.the-variants.{Nothing, Read, Modify, Call}
+use Rattle.cpu_operations.specs.declared.Access.the-variants.{Nothing, Read, Modify, Jsr}
 use Rattle.cpu_effects.specs.declared.Worked.{Worked}
 use Rattle.cpu_effects.specs.declared.Writing.{Writing}
 use Rattle.cpu_effects.specs.declared.Writing.the-variants as writing
@@ -69,12 +69,13 @@ use Rattle.cpu_effects.specs.Effects.{completed, stored, modified, branched, br
 use Rattle.cpu_effects.specs.Effects.{pushedByte, pulledByte, returned, returnedFromInterrupt, interrupted}
 use Rattle.cpu_effects.specs.Effects.{breakTaken}
 use Rattle.cpu_kinds.specs.Kinds.{withRead, changedBy, byteToStore, byteToPush, withPulled, withRegister}
-use Rattle.cpu_operations.specs.Operations.{accessOf, isCall, operateOf}
+use Rattle.cpu_operations.specs.Operations.{accessOf, isJsr, operateOf}
 use Rattle.cpu.specs.declared.Outcome.{Outcome}
 use Rattle.cpu.specs.declared.Outcome.the-variants.{Stopped, Asked, Done}
-use Rattle.cpu.specs.Entries.{resetEntry, interruptEntry}
-use Rattle.cpu.specs.Instruction.{askWith, outcomeOf, operandByte, operandOf, carriedOut, writesAsked, callTo}
-use Rattle.cpu.specs.Instruction.{subroutineCall, executeOf, decodedTo, instructionOf}
+use Rattle.cpu.specs.EntriesInCode.{resetEntry, interruptEntry}
+use Rattle.cpu.specs.InstructionInCode.{askWith, outcomeOf, operandByte, operandOf, carriedOut, writesAsked}
+use Rattle.cpu.specs.InstructionInCode.{jsrTo}
+use Rattle.cpu.specs.InstructionInCode.{jsrOutcome, executeOf, decodedTo, instructionOf}
 
 -- each element of a list is a byte
 abbrev pub Bytes : List ℕ → Type 0
@@ -206,11 +207,11 @@ lsr-lt x s h = omega arith
 
 rol-lt : (x : ℕ) (s : Status) → rolOf x s .value < 256
 unfolding rolOf
-rol-lt x s = let d = digit-le (s .c) in omega arith
+rol-lt x s = let d = one-where-le (s .c) in omega arith
 
 ror-lt : (x : ℕ) (s : Status) → x < 256 → rorOf x s .value < 256
 unfolding rorOf
-ror-lt x s h = let d = digit-le (s .c) in omega arith
+ror-lt x s h = let d = one-where-le (s .c) in omega arith
 
 increment-lt : (x : ℕ) (s : Status) → incrementOf x s .value < 256
 unfolding incrementOf
@@ -230,7 +231,7 @@ set-bit-lt x m h = bit-room 8 (m % 8) x (omega arith) h
 
 pushed-lt : (s : Status) (brk : Bool) → pushed s brk < 256
 unfolding pushed
-pushed-lt s brk = omega (arith, packed-le s, digit-le brk)
+pushed-lt s brk = omega (arith, packed-le s, one-where-le brk)
 
 -- by kind
 read-in : (p : ReadOperation) (r : CpuRegisters) (v : ℕ) → v < 256 → InRange r → InRange (withRead p r v)
@@ -334,8 +335,9 @@ branched-fits : (o : Operand) (r : CpuRegisters) (taken : Bool) → o .address <
 unfolding branched
 branched-fits o r taken h i =
     cond-both (λ e. WorkedFits (e .worked)) taken
-    (readOnly (withPc (o .address) r) (o .length + 1 + digit (o .crossed)) (o .bus)) (readOnly r (o .length) (o .bus))
-    (λ t. read-only-fits (withPc (o .address) r) (o .length + 1 + digit (o .crossed)) (o .bus)
+    (readOnly (withPc (o .address) r) (o .length + 1 + oneWhere (o .crossed)) (o .bus))
+    (readOnly r (o .length) (o .bus))
+    (λ t. read-only-fits (withPc (o .address) r) (o .length + 1 + oneWhere (o .crossed)) (o .bus)
     (pc-in (o .address) r h i))
     (λ t. read-only-fits r (o .length) (o .bus) i)
 
@@ -368,17 +370,17 @@ module _ (answers memory : List ℕ) (given : Bytes answers) (bytes : Bytes memo
   vector-lt a =
       word16-lt (memoryByte memory (nextAddress a)) (memoryByte memory a) (memory-lt (nextAddress a)) (memory-lt a)
 
-  ask-lt : (a : ℕ) (latch : Bool) (b : Bus) → askOf answers a latch b .value < 256
+  ask-lt : (a : ℕ) (modify : Bool) (b : Bus) → askOf answers a modify b .value < 256
   unfolding askOf
-  ask-lt a latch b =
-      cond-both (λ g. g .value < 256) (ltb (b .used) (length answers)) (answered answers b) (got 0 (asking a latch b))
+  ask-lt a modify b =
+      cond-both (λ g. g .value < 256) (ltb (b .used) (length answers)) (answered answers b) (got 0 (asking a modify b))
       (λ t. given (b .used)) (λ t. omega arith)
 
-  read-lt : (a : ℕ) (latch : Bool) (b : Bus) → readOf answers memory a latch b .value < 256
+  read-lt : (a : ℕ) (modify : Bool) (b : Bus) → readOf answers memory a modify b .value < 256
   unfolding readOf
-  read-lt a latch b =
-      cond-both (λ g. g .value < 256) (isRegister a) (askOf answers a latch b) (got (memoryByte memory a) b)
-      (λ t. ask-lt a latch b) (λ t. memory-lt a)
+  read-lt a modify b =
+      cond-both (λ g. g .value < 256) (isRegister a) (askOf answers a modify b) (got (memoryByte memory a) b)
+      (λ t. ask-lt a modify b) (λ t. memory-lt a)
 
   read-address-lt : (a c : ℕ) (b : Bus) → readAddress answers memory a c b .value < 65536
   unfolding readAddress
@@ -572,7 +574,7 @@ module _ (answers memory : List ℕ) (given : Bytes answers) (bytes : Bytes memo
   operand-lt Modify a p h =
       cond-both (λ g. g .value < 256) (p .accumulator) (got a (p .bus))
       (readOf answers memory (p .address) true (p .bus)) (λ t. h) (λ t. read-lt (p .address) true (p .bus))
-  operand-lt Call a p h = omega arith
+  operand-lt Jsr a p h = omega arith
 
   carried-fits : (e : Entry) (r : CpuRegisters) (b : Bus) → InRange r
       → WorkedFits (carriedOut answers memory e r b .worked)
@@ -590,14 +592,14 @@ module _ (answers memory : List ℕ) (given : Bytes answers) (bytes : Bytes memo
   outcome-fits w e f =
       cond-both DoneFits (e .bus .missing) (Asked (askWith w (e .bus))) (Done (e .worked)) (λ t. tt) (λ t. f)
 
-  call-fits : (r : CpuRegisters) (n : ℕ) (b : Bus) → InRange r → DoneFits (subroutineCall answers memory r n b)
-  unfolding subroutineCall
-  call-fits r n b i =
+  jsr-fits : (r : CpuRegisters) (n : ℕ) (b : Bus) → InRange r → DoneFits (jsrOutcome answers memory r n b)
+  unfolding jsrOutcome
+  jsr-fits r n b i =
       let l = fetchOf answers memory (r .pc) b in
       let w = pushAddress (r .sp) (l .pc) in
       let f = address-writes (r .sp) (l .pc) (i .sp) in
       let h = readAfter answers memory w (l .pc) (l .bus) in
-      outcome-fits (writesAsked (l .bus) w) (callTo r n l w h) (record {
+      outcome-fits (writesAsked (l .bus) w) (jsrTo r n l w h) (record {
         registers =
             pc-in (word16 (h .value) (l .value)) _
             (word16-lt (h .value) (l .value) (read-after-lt w (l .pc) (l .bus) f) (fetch-lt (r .pc) b))
@@ -608,9 +610,9 @@ module _ (answers memory : List ℕ) (given : Bytes answers) (bytes : Bytes memo
   execute-fits : (e : Entry) (r : CpuRegisters) (b : Bus) → InRange r → DoneFits (executeOf answers memory e r b)
   unfolding executeOf
   execute-fits e r b i =
-      cond-both DoneFits (isCall (accessOf (e .operation))) (subroutineCall answers memory r (e .length) b)
+      cond-both DoneFits (isJsr (accessOf (e .operation))) (jsrOutcome answers memory r (e .length) b)
       (outcomeOf noWrites (carriedOut answers memory e r b))
-      (λ t. call-fits r (e .length) b i)
+      (λ t. jsr-fits r (e .length) b i)
       (λ t. outcome-fits noWrites (carriedOut answers memory e r b) (carried-fits e r b i))
 
   decoded-fits : (d : Decoded) (r : CpuRegisters) (b : Bus) → InRange r → DoneFits (decodedTo answers memory r b d)
@@ -620,11 +622,12 @@ module _ (answers memory : List ℕ) (given : Bytes answers) (bytes : Bytes memo
   in-range : (r : CpuRegisters) → InRange r → DoneFits (instructionOf r answers memory)
   unfolding instructionOf
   in-range r i =
-      let f = fetchOf answers memory (r .pc) idle in
+      let f = fetchOf answers memory (r .pc) unasked in
       cond-both DoneFits (f .bus .missing) (Asked (askWith noWrites (f .bus)))
       (decodedTo answers memory (withPc (f .pc) r) (f .bus) (decodeOf (f .value)))
       (λ t. tt)
-      (λ t. decoded-fits (decodeOf (f .value)) (withPc (f .pc) r) (f .bus) (pc-in (f .pc) r (fetch-pc (r .pc) idle) i))
+      (λ t. decoded-fits (decodeOf (f .value)) (withPc (f .pc) r) (f .bus)
+      (pc-in (f .pc) r (fetch-pc (r .pc) unasked) i))
 
   -- an instruction that is done leaves registers and writes in range
   pub done-in-range : (r : CpuRegisters) (w : Worked) → InRange r → instructionOf r answers memory ≡ Done w

@@ -1,4 +1,4 @@
-pub mod Entries
-pub mod Instruction
+pub mod EntriesInCode
+pub mod InstructionInCode
 pub mod Work
-pub mod Sequence
+pub mod InstructionAccesses

@@ -6,7 +6,7 @@ use Rattle.cpu_effects.specs.declared.Worked.{Worked}
 use Rattle.cpu_effects.specs.declared.Writing.the-variants.{Nothing}
 use Rattle.cpu.specs.declared.Outcome.the-variants.{Done}
 use Rattle.cpu.specs.declared.work.Work.{Work}
-use Rattle.cpu.specs.Instruction.{instructionOf}
+use Rattle.cpu.specs.InstructionInCode.{instructionOf}
 
 -- what is gone lies in the span, and each leap took a clock at least
 pub record WithinSpan (w : Work) (span : ℕ) : Type 0 where

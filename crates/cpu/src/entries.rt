@@ -1,6 +1,6 @@
 // Interrupt entries: reset, NMI and IRQ.
 ghost use mathlib.Core.Path.{_≡_};
-ghost use Rattle.cpu.specs.Entries.{resetEntry, interruptEntry};
+ghost use Rattle.cpu.specs.EntriesInCode.{resetEntry, interruptEntry};
 use cpu_access::CpuRegisters;
 use cpu_access::RESET_VECTOR;
 use cpu_effects::Worked;

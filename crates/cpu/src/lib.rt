@@ -2,10 +2,11 @@
 // register of the chip is asked for, and the instruction is worked again once the answer is there.
 ghost use mathlib.Core.Path.{_≡_};
 ghost use Prim.Native.Nat.{_≤_};
-ghost use Rattle.cpu_opcodes.specs.Table.{opcodeTable};
+ghost use Rattle.cpu_opcodes.specs.TableInCode.{opcodeTable};
 ghost use Rattle.cpu_operations.specs.Operations.{accessOf};
-ghost use Rattle.cpu.specs.Instruction.{askWith, outcomeOf, operandByte, operandOf, carriedOut, writesAsked};
-ghost use Rattle.cpu.specs.Instruction.{subroutineCall, executeOf, instructionOf};
+ghost use Rattle.cpu.specs.InstructionInCode.{askWith, outcomeOf, operandByte, operandOf, carriedOut};
+ghost use Rattle.cpu.specs.InstructionInCode.{writesAsked};
+ghost use Rattle.cpu.specs.InstructionInCode.{jsrOutcome, executeOf, instructionOf};
 use cpu_access::Bus;
 use cpu_access::CpuRegisters;
 use cpu_access::Got;
@@ -30,7 +31,7 @@ pub mod work; // work.rt: instructions one after the other
 // is what is there after the writes, which only JSR has.
 pub struct Ask {
     pub address: u16,
-    pub latch: bool,
+    pub modify: bool,
     pub writes: Writes,
 }
 
@@ -49,7 +50,7 @@ fn ask_with(writes: Writes, bus: Bus) -> Ask
 {
     Ask {
         address: bus.address,
-        latch: bus.latch,
+        modify: bus.modify,
         writes: writes,
     }
 }
@@ -80,7 +81,7 @@ fn operand_byte(answers: &[u8], memory: &[u8], access: Access, a: u8, place: Pla
             }
             bus.read(answers, memory, place.address, true)
         }
-        Access::Call => Got { value: 0, bus: bus },
+        Access::Jsr => Got { value: 0, bus: bus },
     }
 }
 
@@ -131,8 +132,8 @@ fn writes_asked(bus: Bus, writes: Writes) -> Writes
 }
 
 // JSR: the low byte of the target, the pushes, and only then the high byte.
-fn call(answers: &[u8], memory: &[u8], registers: CpuRegisters, length: u8, bus: Bus) -> Outcome
-    ensures { λ r. ⌜ r ≡ subroutineCall (now (answers .entry)) (now (memory .entry)) registers length bus ⌝ }
+fn jsr(answers: &[u8], memory: &[u8], registers: CpuRegisters, length: u8, bus: Bus) -> Outcome
+    ensures { λ r. ⌜ r ≡ jsrOutcome (now (answers .entry)) (now (memory .entry)) registers length bus ⌝ }
 {
     let sp = registers.sp;
     let lower = bus.fetch(answers, memory, registers.pc);
@@ -159,8 +160,8 @@ fn execute(
 {
     let operation = entry.operation;
     let access = cpu_operations::access_of(operation);
-    if cpu_operations::is_call(access) {
-        return call(answers, memory, registers, entry.length, bus);
+    if cpu_operations::is_jsr(access) {
+        return jsr(answers, memory, registers, entry.length, bus);
     }
     outcome_of(
         no_writes(),
@@ -173,7 +174,7 @@ fn instruction(registers: CpuRegisters, answers: &[u8], memory: &[u8], entries: 
     requires { ⌜ now entries ≡ opcodeTable ⌝ }
     ensures { λ r. ⌜ r ≡ instructionOf registers (now (answers .entry)) (now (memory .entry)) ⌝ }
 {
-    let opcode = Bus::idle().fetch(answers, memory, registers.pc);
+    let opcode = Bus::unasked().fetch(answers, memory, registers.pc);
     let bus = opcode.bus;
     if bus.missing {
         return Outcome::Asked(ask_with(no_writes(), bus));

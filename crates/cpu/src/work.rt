@@ -2,8 +2,8 @@
 // so it is built into that loop, and the registers stay in the host's own.
 ghost use mathlib.Core.Path.{_≡_};
 ghost use Prim.Native.Nat.{_+_, _-_, _≤_};
-ghost use Rattle.cpu_opcodes.specs.Table.{opcodeTable};
-ghost use Rattle.cpu.specs.Instruction.{instructionOf};
+ghost use Rattle.cpu_opcodes.specs.TableInCode.{opcodeTable};
+ghost use Rattle.cpu.specs.InstructionInCode.{instructionOf};
 ghost use Rattle.cpu.specs.Work.{WithinSpan, nextWork, ReadOnly};
 use crate::Outcome;
 use crate::instruction;

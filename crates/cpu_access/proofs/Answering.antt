@@ -27,12 +27,12 @@ module _ {P : Type 0} (file : RegisterFile P) where
   all-more p (v ∷ ws) w = all-more (peripheralsWritten file p (v .address) (v .value)) ws w
 
   -- a register read
-  register-read : {A : Type 0} (memory : List ℕ) (p : P) (before : List Write) (latch : Bool) (a : ℕ)
+  register-read : {A : Type 0} (memory : List ℕ) (p : P) (before : List Write) (modify : Bool) (a : ℕ)
       (go : ℕ → Accesses A) → isRegister a ≡ true
-      → performed file memory (file .afterRead p a) before (go (file .value p latch a))
-      ≡ performed file memory p before (reads latch a go)
+      → performed file memory (file .afterRead p a) before (go (file .value p modify a))
+      ≡ performed file memory p before (reads modify a go)
   unfolding performed valueRead peripheralsRead
-  register-read memory p before latch a go e = rw e refl
+  register-read memory p before modify a go e = rw e refl
 
   module _ (commute : (p : P) (a v b : ℕ)
       → file .afterRead (file .afterWrite p a v) b ≡ file .afterWrite (file .afterRead p b) a v) where
@@ -62,11 +62,11 @@ module _ {P : Type 0} (file : RegisterFile P) where
         (finish : Performed P A → R) (most : ℕ)
         (over-from : (n : ℕ) (p : P) (answers : List ℕ) (x : A) (ws : List Write) → round answers ≡ over x ws
         → from (suc n) p answers ≡ finish (record { end = x; peripherals = allWritten p ws; writes = ws }))
-        (asks-from : (n : ℕ) (p : P) (answers : List ℕ) (latch : Bool) (a : ℕ) (ws : List Write)
-        → round answers ≡ asks latch a ws
+        (asks-from : (n : ℕ) (p : P) (answers : List ℕ) (modify : Bool) (a : ℕ) (ws : List Write)
+        → round answers ≡ asks modify a ws
         → from (suc n) p answers
-        ≡ from n (file .afterRead p a) (answers ++ (file .value (allWritten p ws) latch a ∷ [])))
-        (bound : (answers : List ℕ) (latch : Bool) (a : ℕ) (ws : List Write) → round answers ≡ asks latch a ws
+        ≡ from n (file .afterRead p a) (answers ++ (file .value (allWritten p ws) modify a ∷ [])))
+        (bound : (answers : List ℕ) (modify : Bool) (a : ℕ) (ws : List Write) → round answers ≡ asks modify a ws
         → length answers < most) where
       -- with rounds enough, what is left of the accesses is performed
       abbrev Performs : Accesses A → Type 0
@@ -89,36 +89,37 @@ module _ {P : Type 0} (file : RegisterFile P) where
       performs-writes a v t then n p answers before room same =
           rw (all-more p before (writeAt a v)) at (then n p answers (before ++ (writeAt a v ∷ [])) room same)
 
-      performs-register : (latch : Bool) (a : ℕ) (go : ℕ → Accesses A) → ((v : ℕ) → Performs (go v))
-          → isRegister a ≡ true → Performs (reads latch a go)
+      performs-register : (modify : Bool) (a : ℕ) (go : ℕ → Accesses A) → ((v : ℕ) → Performs (go v))
+          → isRegister a ≡ true → Performs (reads modify a go)
       unfolding asked
-      performs-register latch a go then e zero p answers before room same =
-          absurd (let few = bound answers latch a before (rw e at (round-now (reads latch a go) answers before same)) in
+      performs-register modify a go then e zero p answers before room same =
+          absurd (let few = bound answers modify a before
+          (rw e at (round-now (reads modify a go) answers before same)) in
           omega (arith, few))
-      performs-register latch a go then e (suc n) p answers before room same =
-          let v = file .value (allWritten p before) latch a in
-          asks-from (suc n) p answers latch a before (rw e at (round-now (reads latch a go) answers before same))
+      performs-register modify a go then e (suc n) p answers before room same =
+          let v = file .value (allWritten p before) modify a in
+          asks-from (suc n) p answers modify a before (rw e at (round-now (reads modify a go) answers before same))
           ∙ then v n (file .afterRead p a) (answers ++ (v ∷ [])) before
           (rw (length-append answers (v ∷ [])) (omega arith))
           (λ more. ap round (append-assoc answers (v ∷ []) more) ∙ rw e at (same (v ∷ more)))
           ∙ ap (λ (q : P). finish (performed file memory q before (go v))) (sym (all-read p before a))
-          ∙ ap finish (register-read memory (allWritten p before) before latch a go e)
+          ∙ ap finish (register-read memory (allWritten p before) before modify a go e)
 
-      performs-memory : (latch : Bool) (a : ℕ) (go : ℕ → Accesses A) → ((v : ℕ) → Performs (go v))
-          → isRegister a ≡ false → Performs (reads latch a go)
+      performs-memory : (modify : Bool) (a : ℕ) (go : ℕ → Accesses A) → ((v : ℕ) → Performs (go v))
+          → isRegister a ≡ false → Performs (reads modify a go)
       unfolding performed asked valueRead peripheralsRead
-      performs-memory latch a go then e n p answers before room same =
+      performs-memory modify a go then e n p answers before room same =
           rw e (then (byteAfter before a (memoryByte memory a)) n p answers before room (λ more. rw e at (same more)))
 
-      performs-reads : (latch : Bool) (a : ℕ) (go : ℕ → Accesses A) → ((v : ℕ) → Performs (go v))
-          → Performs (reads latch a go)
-      performs-reads latch a go then = by-place (isRegister a) refl
+      performs-reads : (modify : Bool) (a : ℕ) (go : ℕ → Accesses A) → ((v : ℕ) → Performs (go v))
+          → Performs (reads modify a go)
+      performs-reads modify a go then = by-place (isRegister a) refl
         where
-          by-place : (t : Bool) → isRegister a ≡ t → Performs (reads latch a go)
-          by-place true e = performs-register latch a go then e
-          by-place false e = performs-memory latch a go then e
+          by-place : (t : Bool) → isRegister a ≡ t → Performs (reads modify a go)
+          by-place true e = performs-register modify a go then e
+          by-place false e = performs-memory modify a go then e
 
       pub performs : (t : Accesses A) → Performs t
       performs (ends x) = performs-ends x
-      performs (reads latch a go) = performs-reads latch a go (λ v. performs (go v))
+      performs (reads modify a go) = performs-reads modify a go (λ v. performs (go v))
       performs (writes a v t) = performs-writes a v t (performs t)

@@ -11,7 +11,7 @@ use lib.Dec.{ltb}
 use lib.ListN.{length}
 use Rattle.bits.proofs.Cond.{cond-both}
 use Rattle.cpu_access.specs.declared.Bus.{Bus}
-use Rattle.cpu_access.specs.Bus.{idle, got, answered, asking, askOf}
+use Rattle.cpu_access.specs.Bus.{unasked, got, answered, asking, askOf}
 use Rattle.memory.specs.Memory.{isRegister}
 
 -- what is asked for is a register; or nothing is asked
@@ -26,28 +26,28 @@ pub record Within (k : ℕ) (b : Bus) : Type 0 where
 unfoldable pub Answered : List ℕ → ℕ → Bus → Type 0
 Answered answers k b = k ≤ length answers → Within k b
 
-pub idle-asks-register : (k : ℕ) → AsksRegister k idle
+pub unasked-asks-register : (k : ℕ) → AsksRegister k unasked
 unfolding AsksRegister
-idle-asks-register k e = absurd (false≢true e)
+unasked-asks-register k e = absurd (false≢true e)
 
 pub register-more : (k : ℕ) (b : Bus) → AsksRegister k b → AsksRegister (suc k) b
 unfolding AsksRegister
 register-more k b h = h
 
 pub register-asks :
-    (answers : List ℕ) (k a : ℕ) (latch : Bool) (b : Bus) → isRegister a ≡ true → AsksRegister k b
-    → AsksRegister (suc k) (askOf answers a latch b .bus)
+    (answers : List ℕ) (k a : ℕ) (modify : Bool) (b : Bus) → isRegister a ≡ true → AsksRegister k b
+    → AsksRegister (suc k) (askOf answers a modify b .bus)
 unfolding AsksRegister askOf
-register-asks answers k a latch b e h =
+register-asks answers k a modify b e h =
     cond-both (λ g. g .bus .missing ≡ true → g .bus .address < 0x40) (ltb (b .used) (length answers))
-    (answered answers b) (got 0 (asking a latch b))
+    (answered answers b) (got 0 (asking a modify b))
     (λ t. h)
     (λ t. cond-both (λ q. q .missing ≡ true → q .address < 0x40) (b .missing) b
-    (record { used = b .used; missing = true; latch = latch; address = a }) (λ m. h) (λ m n. ltb-true a 0x40 e))
+    (record { used = b .used; missing = true; modify = modify; address = a }) (λ m. h) (λ m n. ltb-true a 0x40 e))
 
-pub idle-answered : (answers : List ℕ) → Answered answers 0 idle
+pub unasked-answered : (answers : List ℕ) → Answered answers 0 unasked
 unfolding Answered
-idle-answered answers l = record { given = refl; used = omega arith }
+unasked-answered answers l = record { given = refl; used = omega arith }
 
 pub answered-more : (answers : List ℕ) (k : ℕ) (b : Bus) → Answered answers k b → Answered answers (suc k) b
 unfolding Answered
@@ -56,12 +56,12 @@ answered-more answers k b h l =
     record { given = w .given; used = omega (arith, w .used) }
 
 pub answered-asks :
-    (answers : List ℕ) (k a : ℕ) (latch : Bool) (b : Bus) → isRegister a ≡ true → Answered answers k b
-    → Answered answers (suc k) (askOf answers a latch b .bus)
+    (answers : List ℕ) (k a : ℕ) (modify : Bool) (b : Bus) → isRegister a ≡ true → Answered answers k b
+    → Answered answers (suc k) (askOf answers a modify b .bus)
 unfolding Answered askOf
-answered-asks answers k a latch b e h l =
+answered-asks answers k a modify b e h l =
     let w : Within k b = h (omega arith) in
     cond-both (λ g. Within (suc k) (g .bus)) (ltb (b .used) (length answers)) (answered answers b)
-    (got 0 (asking a latch b))
+    (got 0 (asking a modify b))
     (λ t. record { given = w .given; used = omega (arith, w .used) })
     (λ t. absurd (let f = ltb-false (b .used) (length answers) t in omega (arith, w .used)))

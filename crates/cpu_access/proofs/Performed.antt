@@ -15,14 +15,14 @@ abbrev pub SameAbove : List ℕ → List ℕ → Type 0
 SameAbove m m' = (a : ℕ) → isRegister a ≡ false → memoryByte m' a ≡ memoryByte m a
 
 module _ {P : Type 0} (file : RegisterFile P) (m m' : List ℕ) (same : SameAbove m m') where
-  value-same : (p : P) (before : List Write) (latch : Bool) (a : ℕ)
-      → valueRead file m' p before latch a ≡ valueRead file m p before latch a
+  value-same : (p : P) (before : List Write) (modify : Bool) (a : ℕ)
+      → valueRead file m' p before modify a ≡ valueRead file m p before modify a
   unfolding valueRead
-  value-same p before latch a = by-place (isRegister a) refl
+  value-same p before modify a = by-place (isRegister a) refl
     where
       by-place : (t : Bool) → isRegister a ≡ t
-          → cond t (file .value p latch a) (byteAfter before a (memoryByte m' a))
-          ≡ cond t (file .value p latch a) (byteAfter before a (memoryByte m a))
+          → cond t (file .value p modify a) (byteAfter before a (memoryByte m' a))
+          ≡ cond t (file .value p modify a) (byteAfter before a (memoryByte m a))
       by-place true e = refl
       by-place false e = ap (byteAfter before a) (same a e)
 
@@ -30,8 +30,8 @@ module _ {P : Type 0} (file : RegisterFile P) (m m' : List ℕ) (same : SameAbov
       → performed file m' p before t ≡ performed file m p before t
   unfolding performed
   performed-same (ends x) p before = refl
-  performed-same (reads latch a go) p before =
-      performed-same (go (valueRead file m' p before latch a)) (peripheralsRead file p a) before
-      ∙ ap (λ v. performed file m (peripheralsRead file p a) before (go v)) (value-same p before latch a)
+  performed-same (reads modify a go) p before =
+      performed-same (go (valueRead file m' p before modify a)) (peripheralsRead file p a) before
+      ∙ ap (λ v. performed file m (peripheralsRead file p a) before (go v)) (value-same p before modify a)
   performed-same (writes a v t) p before =
       performed-same t (peripheralsWritten file p a v) (before ++ (writeAt a v ∷ []))

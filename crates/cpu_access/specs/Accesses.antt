@@ -13,17 +13,17 @@ use Rattle.cpu_access.specs.Bus.{memoryByte}
 use Rattle.cpu_access.specs.Stack.{writeAt, noWrites, oneWrite, twoWrites, stackAddress}
 
 -- They are over, with what came of them; or a byte is read, and what follows depends on it; or a byte is written.
--- `latch`: it is the read of a read-modify-write instruction (001, 4.1).
+-- `modify`: it is the read of a read-modify-write instruction (001, 4.1).
 pub data Accesses (A : Type 0) : Type 0 where
   ends : A → Accesses A
-  reads : (latch : Bool) (address : ℕ) → (ℕ → Accesses A) → Accesses A
+  reads : (modify : Bool) (address : ℕ) → (ℕ → Accesses A) → Accesses A
   writes : (address value : ℕ) → Accesses A → Accesses A
 
 infixl 10 _>>=_ _>>_
 -- In a `do`, `v ← t` is the accesses t, of which v comes; what stands below follows.
 abbrev pub _>>=_ : {A B : Type 0} → Accesses A → (A → Accesses B) → Accesses B
 _>>=_ (ends x) next = next x
-_>>=_ (reads latch a go) next = reads latch a (λ (v : ℕ). go v >>= next)
+_>>=_ (reads modify a go) next = reads modify a (λ (v : ℕ). go v >>= next)
 _>>=_ (writes a v t) next = writes a v (t >>= next)
 
 abbrev pub _>>_ : {A B : Type 0} → Accesses A → Accesses B → Accesses B
@@ -34,8 +34,8 @@ abbrev pub byteAt : ℕ → Accesses ℕ
 byteAt a = reads false a ends
 
 -- and by a read-modify-write instruction
-abbrev pub latchAt : ℕ → Accesses ℕ
-latchAt a = reads true a ends
+abbrev pub byteToModify : ℕ → Accesses ℕ
+byteToModify a = reads true a ends
 
 -- two bytes read, the low byte first
 abbrev pub addressAt : ℕ → ℕ → Accesses ℕ
@@ -78,14 +78,14 @@ module _ {P : Type 0} (file : RegisterFile P) where
   -- a read below 40h gives the register's value as it is then, any other the byte of memory as the writes before it
   -- leave it
   unfoldable pub valueRead : List ℕ → P → List Write → Bool → ℕ → ℕ
-  valueRead memory p before latch a =
-      cond (isRegister a) (file .value p latch a) (byteAfter before a (memoryByte memory a))
+  valueRead memory p before modify a =
+      cond (isRegister a) (file .value p modify a) (byteAfter before a (memoryByte memory a))
 
   -- one after the other; `before` are the writes so far, and every write is told
   unfoldable pub performed : {A : Type 0} → List ℕ → P → List Write → Accesses A → Performed P A
   performed memory p before (ends x) = record { end = x; peripherals = p; writes = before }
-  performed memory p before (reads latch a go) =
-      performed memory (peripheralsRead p a) before (go (valueRead memory p before latch a))
+  performed memory p before (reads modify a go) =
+      performed memory (peripheralsRead p a) before (go (valueRead memory p before modify a))
   performed memory p before (writes a v t) =
       performed memory (peripheralsWritten p a v) (before ++ (writeAt a v ∷ [])) t
 

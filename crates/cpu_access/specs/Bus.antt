@@ -35,8 +35,8 @@ unfoldable pub vectorOf : List ℕ → ℕ → ℕ
 vectorOf memory a = word16 (memoryByte memory (nextAddress a)) (memoryByte memory a)
 
 -- nothing asked yet
-abbrev pub idle : Bus
-idle = record { used = 0; missing = false; latch = false; address = 0 }
+abbrev pub unasked : Bus
+unasked = record { used = 0; missing = false; modify = false; address = 0 }
 
 abbrev pub got : ℕ → Bus → Got
 got v b = record { value = v; bus = b }
@@ -48,31 +48,31 @@ answered answers b =
       used =
           b .used + 1;
       missing = b .missing;
-      latch = b .latch;
+      modify = b .modify;
       address = b .address;
     })
 
 -- what is asked first stays the question
 abbrev pub asking : ℕ → Bool → Bus → Bus
-asking a latch b = cond (b .missing) b (record { used = b .used; missing = true; latch = latch; address = a })
+asking a modify b = cond (b .missing) b (record { used = b .used; missing = true; modify = modify; address = a })
 
--- a read of the register at a; latch: it is the read of a read-modify-write instruction (001, 4.1)
+-- a read of the register at a; `modify`: it is the read of a read-modify-write instruction (001, 4.1)
 unfoldable pub askOf : List ℕ → ℕ → Bool → Bus → Got
-askOf answers a latch b = cond (ltb (b .used) (length answers)) (answered answers b) (got 0 (asking a latch b))
+askOf answers a modify b = cond (ltb (b .used) (length answers)) (answered answers b) (got 0 (asking a modify b))
 
 -- a read at any address
 unfoldable pub readOf : List ℕ → List ℕ → ℕ → Bool → Bus → Got
-readOf answers memory a latch b = cond (isRegister a) (askOf answers a latch b) (got (memoryByte memory a) b)
+readOf answers memory a modify b = cond (isRegister a) (askOf answers a modify b) (got (memoryByte memory a) b)
 
 -- two reads: the low byte, then the high byte
 abbrev pub addressWith : ℕ → Got → GotAddress
 addressWith l g = record { value = word16 (g .value) l; bus = g .bus }
 
-abbrev pub highAfter : List ℕ → List ℕ → ℕ → Got → GotAddress
-highAfter answers memory a g = addressWith (g .value) (readOf answers memory a false (g .bus))
+abbrev pub highByteAfter : List ℕ → List ℕ → ℕ → Got → GotAddress
+highByteAfter answers memory a g = addressWith (g .value) (readOf answers memory a false (g .bus))
 
 unfoldable pub readAddress : List ℕ → List ℕ → ℕ → ℕ → Bus → GotAddress
-readAddress answers memory a h b = highAfter answers memory h (readOf answers memory a false b)
+readAddress answers memory a h b = highByteAfter answers memory h (readOf answers memory a false b)
 
 -- the byte at PC, and PC past it
 abbrev pub fetchedAt : ℕ → Got → Fetched

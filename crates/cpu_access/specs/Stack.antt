@@ -4,7 +4,7 @@ use mathlib.Core.Bool.{Bool, true, false, _&&_, cond}
 use mathlib.Core.List.{List}
 use Prim.Native.Nat.{ℕ, _+_, _*_, _/_, _%_}
 use lib.Dec.{ltb, eqb}
-use Rattle.bits.specs.Bits.{low, high, word16, wrapping8}
+use Rattle.bits.specs.Bits.{lowByte, highByte, word16, wrapping8}
 use Rattle.cpu_access.specs.declared.Bus.{Bus}
 use Rattle.cpu_access.specs.declared.Got.{Got}
 use Rattle.cpu_access.specs.declared.stack.Write.{Write}
@@ -55,10 +55,10 @@ pushAt sp v = writeAt (stackAddress sp) v
 
 -- PC pushed, high byte first
 abbrev pub pushHigh : ℕ → ℕ → Write
-pushHigh sp pc = pushAt sp (high pc)
+pushHigh sp pc = pushAt sp (highByte pc)
 
 abbrev pub pushLow : ℕ → ℕ → Write
-pushLow sp pc = pushAt (down sp) (low pc)
+pushLow sp pc = pushAt (down sp) (lowByte pc)
 
 unfoldable pub pushAddress : ℕ → ℕ → Writes
 pushAddress sp pc = twoWrites (pushHigh sp pc) (pushLow sp pc)

@@ -3,7 +3,7 @@
 // result is thrown away. All other addresses are read from the lent memory. Nothing is written: the writes are handed
 // on.
 ghost use mathlib.Core.Path.{_≡_};
-ghost use Rattle.cpu_access.specs.Bus.{nextAddress, memoryByte, vectorOf, idle, askOf, readOf, readAddress};
+ghost use Rattle.cpu_access.specs.Bus.{nextAddress, memoryByte, vectorOf, unasked, askOf, readOf, readAddress};
 ghost use Rattle.cpu_access.specs.Bus.{fetchOf};
 ghost use Rattle.cpu_access.specs.Bus.{fetchAddress};
 ghost use Rattle.memory.specs.Memory.{isRegister};
@@ -38,7 +38,7 @@ pub struct CpuRegisters {
 pub struct Bus {
     pub used: usize,
     pub missing: bool,
-    pub latch: bool,
+    pub modify: bool,
     pub address: u16,
 }
 
@@ -97,20 +97,20 @@ pub fn vector(memory: &[u8], address: u16) -> u16
 
 impl Bus {
     // Nothing asked yet.
-    pub fn idle() -> Bus
-        ensures { λ r. ⌜ r ≡ idle ⌝ }
+    pub fn unasked() -> Bus
+        ensures { λ r. ⌜ r ≡ unasked ⌝ }
     {
         Bus {
             used: 0,
             missing: false,
-            latch: false,
+            modify: false,
             address: 0,
         }
     }
 
     // A read of a register: the next answer, or the question.
-    pub fn ask(self, answers: &[u8], address: u16, latch: bool) -> Got
-        ensures { λ r. ⌜ r ≡ askOf (now (answers .entry)) address latch self ⌝ }
+    pub fn ask(self, answers: &[u8], address: u16, modify: bool) -> Got
+        ensures { λ r. ⌜ r ≡ askOf (now (answers .entry)) address modify self ⌝ }
     {
         let used = self.used;
         if used < answers.len() {
@@ -119,7 +119,7 @@ impl Bus {
                 bus: Bus {
                     used: used + 1,
                     missing: self.missing,
-                    latch: self.latch,
+                    modify: self.modify,
                     address: self.address,
                 },
             };
@@ -135,18 +135,18 @@ impl Bus {
             bus: Bus {
                 used: used,
                 missing: true,
-                latch: latch,
+                modify: modify,
                 address: address,
             },
         }
     }
 
     // A read at any address.
-    pub fn read(self, answers: &[u8], memory: &[u8], address: u16, latch: bool) -> Got
-        ensures { λ r. ⌜ r ≡ readOf (now (answers .entry)) (now (memory .entry)) address latch self ⌝ }
+    pub fn read(self, answers: &[u8], memory: &[u8], address: u16, modify: bool) -> Got
+        ensures { λ r. ⌜ r ≡ readOf (now (answers .entry)) (now (memory .entry)) address modify self ⌝ }
     {
         if is_register(address) {
-            return self.ask(answers, address, latch);
+            return self.ask(answers, address, modify);
         }
         Got {
             value: memory_byte(memory, address),

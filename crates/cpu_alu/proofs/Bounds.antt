@@ -3,7 +3,7 @@ use mathlib.Core.Path.{_≡_, refl}
 use mathlib.Core.Bool.{Bool, true, false, not, cond}
 use Prim.Native.Nat.{ℕ, _+_, _*_, _/_, _%_, _^_, _≤_, _<_}
 use native.Mathlib.Omega.{arith}
-use Rattle.bits.proofs.Cond.{digit-le}
+use Rattle.bits.proofs.Cond.{one-where-le}
 use Rattle.cpu_alu.specs.Status.{packed}
 use Rattle.cpu_alu.specs.declared.Status.{Status}
 
@@ -11,4 +11,12 @@ use Rattle.cpu_alu.specs.declared.Status.{Status}
 pub packed-le : (s : Status) → packed s ≤ 207
 unfolding packed
 packed-le s =
-    omega (arith, digit-le (s .n), digit-le (s .v), digit-le (s .d), digit-le (s .i), digit-le (s .z), digit-le (s .c))
+    omega (
+      arith,
+      one-where-le (s .n),
+      one-where-le (s .v),
+      one-where-le (s .d),
+      one-where-le (s .i),
+      one-where-le (s .z),
+      one-where-le (s .c),
+    )

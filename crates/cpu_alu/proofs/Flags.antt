@@ -7,14 +7,14 @@ use native.Mathlib.Nat.{zero-mul}
 use native.Mathlib.Omega.{arith}
 use borrow.Author.Tests.{eqb-false}
 use lib.Dec.{T, eqb, eqb→eq}
-use Rattle.bits.specs.Bits.{bit, digit, withBit}
+use Rattle.bits.specs.Bits.{bit, oneWhere, withBit}
 use Rattle.bits.proofs.Tables.{below}
 use Rattle.cpu_alu.specs.Status.{packed, unpacked, pushed}
 use Rattle.cpu_alu.specs.declared.Status.{Status}
-use Rattle.bits.proofs.Cond.{digit-le}
+use Rattle.bits.proofs.Cond.{one-where-le}
 
--- a digit says which flag it came from
-flag : (b : Bool) (x : ℕ) → x ≡ digit b → eqb x 1 ≡ b
+-- a 1 or 0 says which flag it came from
+flag : (b : Bool) (x : ℕ) → x ≡ oneWhere b → eqb x 1 ≡ b
 flag true x h = rw h
 flag false x h = rw h
 
@@ -22,12 +22,12 @@ flag false x h = rw h
 pub unpacked-over : (s : Status) (k : ℕ) → k < 4 → unpacked (packed s + 16 * k) ≡ s
 unfolding packed unpacked
 unpacked-over s k h =
-    let n = digit-le (s .n) in
-    let v = digit-le (s .v) in
-    let d = digit-le (s .d) in
-    let i = digit-le (s .i) in
-    let z = digit-le (s .z) in
-    let c = digit-le (s .c) in
+    let n = one-where-le (s .n) in
+    let v = one-where-le (s .v) in
+    let d = one-where-le (s .d) in
+    let i = one-where-le (s .i) in
+    let z = one-where-le (s .z) in
+    let c = one-where-le (s .c) in
     let p = packed s + 16 * k in
     rw (
       flag (s .n) (p / 128 % 2) (omega arith),
@@ -44,9 +44,9 @@ unpacked-packed s = ap unpacked (omega arith) ∙ unpacked-over s 0 (omega arith
 pub unpacked-pushed : (s : Status) (brk : Bool) → unpacked (pushed s brk) ≡ s
 unfolding pushed
 unpacked-pushed s brk =
-    let b = digit-le brk in
-    let e : packed s + 32 + digit brk * 16 ≡ packed s + 16 * (2 + digit brk) = omega arith in
-    ap unpacked e ∙ unpacked-over s (2 + digit brk) (omega arith)
+    let b = one-where-le brk in
+    let e : packed s + 32 + oneWhere brk * 16 ≡ packed s + 16 * (2 + oneWhere brk) = omega arith in
+    ap unpacked e ∙ unpacked-over s (2 + oneWhere brk) (omega arith)
 
 -- a byte packed again has bits 4 and 5 cleared, and its other bits as they were
 againAt : ℕ → Bool

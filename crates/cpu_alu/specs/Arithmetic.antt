@@ -4,7 +4,7 @@ use Prim.Native.Nat.{ℕ, _+_, _-_, _*_, _/_, _%_, _^_}
 use lib.Dec.{leb, eqb}
 use lib.IntN.{ℤ, pos, negsuc, subℕ, _+ℤ_, _-ℤ_}
 use lib.Signed.{nonNeg}
-use Rattle.bits.specs.Bits.{bit, digit, wrapping8}
+use Rattle.bits.specs.Bits.{bit, oneWhere, wrapping8}
 use Rattle.cpu_alu.specs.Status.{withNZ, withV, withC, computed}
 use Rattle.cpu_alu.specs.declared.Status.{Status}
 use Rattle.cpu_alu.specs.declared.Computed.{Computed}
@@ -15,7 +15,7 @@ overflow a m r = Bool·beq (bit 7 a) (bit 7 m) && not (Bool·beq (bit 7 a) (bit 
 
 -- a + m + C
 abbrev pub sum : ℕ → ℕ → Bool → ℕ
-sum a m c = a + m + digit c
+sum a m c = a + m + oneWhere c
 
 unfoldable pub addBinary : ℕ → ℕ → Status → Computed
 addBinary a m s =
@@ -27,7 +27,7 @@ abbrev pub carried : ℕ → ℕ
 carried l = cond (leb 10 l) ((l + 6) % 16 + 16) l
 
 unfoldable pub lowSum : ℕ → ℕ → Bool → ℕ
-lowSum a m c = carried (a % 16 + m % 16 + digit c)
+lowSum a m c = carried (a % 16 + m % 16 + oneWhere c)
 
 -- "Add the high digits"
 unfoldable pub digitSum : ℕ → ℕ → Bool → ℕ
@@ -64,7 +64,7 @@ modulo (negsuc k) n = n - 1 - k % n
 
 -- 01, Instructions: "low difference less borrow"
 abbrev pub lowDifference : ℕ → ℕ → Bool → ℤ
-lowDifference a m c = subℕ (a % 16) (m % 16 + digit (not c))
+lowDifference a m c = subℕ (a % 16) (m % 16 + oneWhere (not c))
 
 -- "if negative, ((it - 6) mod 16) - 16"
 abbrev pub borrowed : ℤ → ℤ

@@ -1,7 +1,7 @@
 -- The instructions that read, modify and write a byte: shifts, counts by one, single bits.
 use mathlib.Core.Bool.{Bool, true, false}
 use Prim.Native.Nat.{ℕ, _+_, _*_, _/_, _%_, _^_}
-use Rattle.bits.specs.Bits.{bit, digit, withBit, wrapping8}
+use Rattle.bits.specs.Bits.{bit, oneWhere, withBit, wrapping8}
 use Rattle.cpu_alu.specs.Status.{withC, computed}
 use Rattle.cpu_alu.specs.declared.Status.{Status}
 use Rattle.cpu_alu.specs.declared.Computed.{Computed}
@@ -14,10 +14,10 @@ unfoldable pub lsrOf : ℕ → Status → Computed
 lsrOf x s = computed (x / 2) (withC (bit 0 x) s)
 
 unfoldable pub rolOf : ℕ → Status → Computed
-rolOf x s = computed (x * 2 % 256 + digit (s .c)) (withC (bit 7 x) s)
+rolOf x s = computed (x * 2 % 256 + oneWhere (s .c)) (withC (bit 7 x) s)
 
 unfoldable pub rorOf : ℕ → Status → Computed
-rorOf x s = computed (x / 2 + digit (s .c) * 128) (withC (bit 0 x) s)
+rorOf x s = computed (x / 2 + oneWhere (s .c) * 128) (withC (bit 0 x) s)
 
 -- INC, INX, INY and DEC, DEX, DEY
 unfoldable pub incrementOf : ℕ → Status → Computed

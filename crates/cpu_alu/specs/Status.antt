@@ -2,14 +2,15 @@
 use mathlib.Core.Bool.{Bool, true, false}
 use Prim.Native.Nat.{ℕ, _+_, _*_, _/_, _%_, _^_}
 use lib.Dec.{eqb}
-use Rattle.bits.specs.Bits.{bit, digit}
+use Rattle.bits.specs.Bits.{bit, oneWhere}
 use Rattle.cpu_alu.specs.declared.Status.{Status}
 use Rattle.cpu_alu.specs.declared.Computed.{Computed}
 
 -- 01, Machine state: "Bits 4 and 5 of P are 0"
 unfoldable pub packed : Status → ℕ
 packed s =
-    digit (s .n) * 128 + digit (s .v) * 64 + digit (s .d) * 8 + digit (s .i) * 4 + digit (s .z) * 2 + digit (s .c)
+    oneWhere (s .n) * 128 + oneWhere (s .v) * 64 + oneWhere (s .d) * 8 + oneWhere (s .i) * 4 + oneWhere (s .z) * 2
+    + oneWhere (s .c)
 
 -- "a pull drops both"
 unfoldable pub unpacked : ℕ → Status
@@ -17,7 +18,7 @@ unpacked p = record { n = bit 7 p; v = bit 6 p; d = bit 3 p; i = bit 2 p; z = bi
 
 -- "a push sets bit 5 in the byte, PHP and BRK bit 4 too"
 unfoldable pub pushed : Status → Bool → ℕ
-pushed s brk = packed s + 32 + digit brk * 16
+pushed s brk = packed s + 32 + oneWhere brk * 16
 
 -- N is bit 7 of a byte, Z says that it is 0; the others are kept
 abbrev pub withNZ : ℕ → Status → Status

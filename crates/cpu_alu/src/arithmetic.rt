@@ -6,7 +6,7 @@ ghost use Rattle.cpu_alu.specs.Arithmetic.{overflow, addBinary, lowSum, 
 ghost use Rattle.cpu_alu.specs.Arithmetic.{lowDifference, borrowed, decimalDifference, sbcOf, compareOf};
 use crate::Computed;
 use crate::Status;
-use bits::digit8;
+use bits::one_where;
 
 // V: operands of one sign and a result of the other.
 fn overflow(a: u8, m: u8, result: u8) -> bool
@@ -21,7 +21,7 @@ fn overflow(a: u8, m: u8, result: u8) -> bool
 fn add_binary(a: u8, m: u8, status: Status) -> Computed
     ensures { λ r. ⌜ r ≡ addBinary a m status ⌝ }
 {
-    let sum = a as u16 + m as u16 + digit8(status.c) as u16;
+    let sum = a as u16 + m as u16 + one_where(status.c) as u16;
     let value = (sum % 256) as u8;
     let v = overflow(a, m, value);
     Computed {
@@ -41,7 +41,7 @@ fn add_binary(a: u8, m: u8, status: Status) -> Computed
 fn low_sum(a: u8, m: u8, c: bool) -> u8
     ensures { λ r. ⌜ r ≡ lowSum a m c ⌝ }
 {
-    let sum = a % 16 + m % 16 + digit8(c);
+    let sum = a % 16 + m % 16 + one_where(c);
     if 10 <= sum { (sum + 6) % 16 + 16 } else { sum }
 }
 
@@ -59,7 +59,7 @@ fn add_decimal(a: u8, m: u8, status: Status) -> Computed
     let sum = low_sum(a, m, status.c) as u16 + (a / 16 * 16) as u16 + (m / 16 * 16) as u16;
     let seen = (sum % 256) as u8;
     let v = overflow(a, m, seen);
-    let z = (a as u16 + m as u16 + digit8(status.c) as u16) % 256 == 0;
+    let z = (a as u16 + m as u16 + one_where(status.c) as u16) % 256 == 0;
     let total = corrected(sum);
     Computed {
         value: (total % 256) as u8,
@@ -89,7 +89,7 @@ pub fn adc(a: u8, m: u8, status: Status) -> Computed
 fn low_difference(a: u8, m: u8, c: bool) -> u8
     ensures { λ r. ⌜ (r < 32) × (subℕ r 16 ≡ borrowed (lowDifference a m c)) ⌝ }
 {
-    let difference = a % 16 + 15 + digit8(c) - m % 16;
+    let difference = a % 16 + 15 + one_where(c) - m % 16;
     if difference < 16 {
         (difference + 10) % 16
     } else {

@@ -2,7 +2,7 @@
 ghost use mathlib.Core.Path.{_≡_};
 ghost use mathlib.Core.Bool.{true, false};
 ghost use Rattle.cpu_alu.specs.Status.{packed, unpacked, pushed, withNZ, withV, withD, withI, withC, computed};
-use bits::digit8;
+use bits::one_where;
 
 pub mod arithmetic; // arithmetic.rt: ADC, SBC and the compares
 pub mod logic; // logic.rt: AND, ORA, EOR and BIT
@@ -29,12 +29,12 @@ impl Status {
     pub fn pack(self) -> u8
         ensures { λ r. ⌜ r ≡ packed self ⌝ }
     {
-        digit8(self.n) * 128
-            + digit8(self.v) * 64
-            + digit8(self.d) * 8
-            + digit8(self.i) * 4
-            + digit8(self.z) * 2
-            + digit8(self.c)
+        one_where(self.n) * 128
+            + one_where(self.v) * 64
+            + one_where(self.d) * 8
+            + one_where(self.i) * 4
+            + one_where(self.z) * 2
+            + one_where(self.c)
     }
 
     // The flags of a byte that was pulled, or of P.
@@ -55,7 +55,7 @@ impl Status {
     pub fn pushed(self, brk: bool) -> u8
         ensures { λ r. ⌜ r ≡ pushed self brk ⌝ }
     {
-        self.pack() + 32 + digit8(brk) * 16
+        self.pack() + 32 + one_where(brk) * 16
     }
 
     // N and Z of a value: loads, transfers and pulls.

@@ -5,7 +5,7 @@ ghost use Rattle.cpu_alu.specs.Status.{withC};
 use crate::Computed;
 use crate::Status;
 use crate::resulting;
-use bits::digit8;
+use bits::one_where;
 use bits::with_bit;
 
 // The status with C as given.
@@ -31,14 +31,14 @@ pub fn lsr(x: u8, status: Status) -> Computed
 pub fn rol(x: u8, status: Status) -> Computed
     ensures { λ r. ⌜ r ≡ rolOf x status ⌝ }
 {
-    let value = (x << 1) + digit8(status.c);
+    let value = (x << 1) + one_where(status.c);
     resulting(value, with_carry(status, x / 128 % 2 == 1))
 }
 
 pub fn ror(x: u8, status: Status) -> Computed
     ensures { λ r. ⌜ r ≡ rorOf x status ⌝ }
 {
-    let value = x / 2 + digit8(status.c) * 128;
+    let value = x / 2 + one_where(status.c) * 128;
     resulting(value, with_carry(status, x % 2 == 1))
 }
 

@@ -3,7 +3,7 @@ use mathlib.Core.Bool.{Bool, true, false, cond}
 use mathlib.Core.List.{List}
 use Prim.Native.Nat.{ℕ, _+_, _*_, _/_, _%_}
 use lib.Dec.{eqb}
-use Rattle.bits.specs.Bits.{bit, digit}
+use Rattle.bits.specs.Bits.{bit, oneWhere}
 use Rattle.cpu_opcodes.specs.declared.operation.PullOperation.{PullOperation}
 use Rattle.cpu_alu.specs.Status.{unpacked, pushed, withI}
 use Rattle.cpu_alu.specs.declared.Status.{Status}
@@ -54,7 +54,7 @@ readOnly r n b = executed r Nothing n b
 
 -- a byte was read, or none: one clock more where indexing crossed a page (001, A.3, *)
 unfoldable pub completed : Operand → CpuRegisters → Executed
-completed o r = readOnly r (o .length + digit (o .crossed)) (o .bus)
+completed o r = readOnly r (o .length + oneWhere (o .crossed)) (o .bus)
 
 -- the byte v is stored at the operand's address
 unfoldable pub stored : Operand → CpuRegisters → ℕ → Executed
@@ -68,7 +68,7 @@ modified o r k =
 -- one clock more where a branch is taken, two where its target lies in another page (001, A.3, **)
 unfoldable pub branched : Operand → CpuRegisters → Bool → Executed
 branched o r taken =
-    cond taken (readOnly (withPc (o .address) r) (o .length + 1 + digit (o .crossed)) (o .bus))
+    cond taken (readOnly (withPc (o .address) r) (o .length + 1 + oneWhere (o .crossed)) (o .bus))
     (readOnly r (o .length) (o .bus))
 
 -- BBR and BBS: the offset is fetched after the tested byte, whether or not the branch is taken

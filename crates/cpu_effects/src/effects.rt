@@ -49,7 +49,7 @@ pub fn completed(o: Operand, registers: CpuRegisters) -> Executed
     ensures { λ r. ⌜ r ≡ completed o registers ⌝ }
 {
     let bus = o.bus;
-    read_only(registers, o.length + bits::digit8(o.crossed), bus)
+    read_only(registers, o.length + bits::one_where(o.crossed), bus)
 }
 
 // A byte is stored at the operand's address.
@@ -83,7 +83,7 @@ pub fn branched(o: Operand, registers: CpuRegisters, taken: bool) -> Executed
 {
     let bus = o.bus;
     if taken {
-        let length = o.length + 1 + bits::digit8(o.crossed);
+        let length = o.length + 1 + bits::one_where(o.crossed);
         return read_only(with_pc(registers, o.address), length, bus);
     }
     read_only(registers, o.length, bus)

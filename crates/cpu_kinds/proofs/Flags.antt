@@ -6,7 +6,7 @@ use Prim.Native.Nat.{ℕ}
 use lib.Dec.{eqb}
 use Rattle.bits.specs.Lists.{anyOf}
 use Rattle.bits.proofs.Cond.{cond-both}
-use Rattle.cpu_opcodes.specs.Table.{operationNumber}
+use Rattle.cpu_opcodes.specs.TableInCode.{operationNumber}
 use Rattle.cpu_opcodes.specs.declared.operation.Operation.{Operation}
 use Rattle.cpu_opcodes.specs.declared.operation.Operation.the-variants.{Read, Modify, Store, Branch, BitBranch, Push}
 use Rattle.cpu_opcodes.specs.declared.operation.Operation.the-variants.{Pull, Register, Flag, Brk, Jmp, Jsr, Nop, Rti}

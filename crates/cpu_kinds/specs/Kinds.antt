@@ -47,8 +47,8 @@ withRead Ora r v = intoA (oraOf (r .a) v (r .status)) r
 withRead Sbc r v = intoA (sbcOf (r .a) v (r .status)) r
 
 -- a byte that was changed with no effect on the flags: RMB and SMB
-abbrev pub unflagged : ℕ → Status → Computed
-unflagged v s = record { value = v; status = s }
+abbrev pub flagsKept : ℕ → Status → Computed
+flagsKept v s = record { value = v; status = s }
 
 -- the byte that goes back, with the flags, where v was read
 unfoldable pub changedBy : ModifyOperation → ℕ → Status → Computed
@@ -58,8 +58,8 @@ changedBy Inc v s = incrementOf v s
 changedBy Lsr v s = lsrOf v s
 changedBy Rol v s = rolOf v s
 changedBy Ror v s = rorOf v s
-changedBy (Rmb m) v s = unflagged (resetBitOf v m) s
-changedBy (Smb m) v s = unflagged (setBitOf v m) s
+changedBy (Rmb m) v s = flagsKept (resetBitOf v m) s
+changedBy (Smb m) v s = flagsKept (setBitOf v m) s
 
 -- the register that is stored
 unfoldable pub byteToStore : StoreOperation → CpuRegisters → ℕ

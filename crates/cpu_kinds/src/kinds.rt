@@ -1,6 +1,6 @@
 // The operations of each kind (source document 001, appendix A): what each computes of registers, flags and a byte.
 ghost use mathlib.Core.Path.{_≡_};
-ghost use Rattle.cpu_kinds.specs.Kinds.{withRead, unflagged, changedBy, byteToStore, branchTaken};
+ghost use Rattle.cpu_kinds.specs.Kinds.{withRead, flagsKept, changedBy, byteToStore, branchTaken};
 ghost use Rattle.cpu_kinds.specs.Kinds.{bitBranchTaken, byteToPush, withPulled, withRegister, withFlag};
 use crate::updates::into_a;
 use crate::updates::into_x;
@@ -48,8 +48,8 @@ pub fn with_read(operation: ReadOperation, r: CpuRegisters, value: u8) -> CpuReg
 }
 
 // A changed byte, with the flags as they were.
-fn unflagged(value: u8, status: Status) -> Computed
-    ensures { λ r. ⌜ r ≡ unflagged value status ⌝ }
+fn flags_kept(value: u8, status: Status) -> Computed
+    ensures { λ r. ⌜ r ≡ flagsKept value status ⌝ }
 {
     Computed {
         value: value,
@@ -68,8 +68,8 @@ pub fn changed(operation: ModifyOperation, value: u8, status: Status) -> Compute
         ModifyOperation::Lsr => shift::lsr(value, status),
         ModifyOperation::Rol => shift::rol(value, status),
         ModifyOperation::Ror => shift::ror(value, status),
-        ModifyOperation::Rmb(m) => unflagged(shift::reset_bit(value, m), status),
-        ModifyOperation::Smb(m) => unflagged(shift::set_bit(value, m), status),
+        ModifyOperation::Rmb(m) => flags_kept(shift::reset_bit(value, m), status),
+        ModifyOperation::Smb(m) => flags_kept(shift::set_bit(value, m), status),
     }
 }
 

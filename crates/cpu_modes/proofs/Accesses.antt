@@ -39,13 +39,13 @@ readsOfMode ZeroPageRelative k = suc k
 
 module _ (P : ℕ → Bus → Type 0) (answers memory : List ℕ)
     (more : (k : ℕ) (b : Bus) → P k b → P (suc k) b)
-    (asks : (k a : ℕ) (latch : Bool) (b : Bus) → isRegister a ≡ true → P k b
-    → P (suc k) (askOf answers a latch b .bus)) where
-  pub read-keeps : (k a : ℕ) (latch : Bool) (b : Bus) → P k b → P (suc k) (readOf answers memory a latch b .bus)
+    (asks : (k a : ℕ) (modify : Bool) (b : Bus) → isRegister a ≡ true → P k b
+    → P (suc k) (askOf answers a modify b .bus)) where
+  pub read-keeps : (k a : ℕ) (modify : Bool) (b : Bus) → P k b → P (suc k) (readOf answers memory a modify b .bus)
   unfolding readOf
-  read-keeps k a latch b h =
-      cond-both (λ g. P (suc k) (g .bus)) (isRegister a) (askOf answers a latch b) (got (memoryByte memory a) b)
-      (λ e. asks k a latch b e h)
+  read-keeps k a modify b h =
+      cond-both (λ g. P (suc k) (g .bus)) (isRegister a) (askOf answers a modify b) (got (memoryByte memory a) b)
+      (λ e. asks k a modify b e h)
       (λ e. more k b h)
 
   pub read-after-keeps : (k : ℕ) (w : Writes) (a : ℕ) (b : Bus) → P k b

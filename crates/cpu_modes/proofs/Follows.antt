@@ -18,14 +18,14 @@ use Rattle.cpu_access.specs.Stack.{stackAddress, up, pullOf, pullAddress, writt
 use Rattle.cpu_modes.specs.Modes.{zeroPageIndexed, zeroPagePointer, secondAddress, indexedBy, relativeTo}
 use Rattle.cpu_modes.specs.Modes.{locateOf}
 use Rattle.cpu_access.specs.Accesses.{Accesses, ends, reads, writes, _>>=_, byteAt, addressAt, byteAfter}
-use Rattle.cpu_modes.specs.Operands.{Located, operandAt, indexedFrom, pastAddress, located}
+use Rattle.cpu_modes.specs.ModeAccesses.{Located, operandAt, indexedFrom, pastAddress, located}
 use Rattle.cpu_access.proofs.Asked.{onwards, read-follows}
 
 -- what follows what follows
 pub then-then : {A B C : Type 0} (t : Accesses A) (f : A → Accesses B) (g : B → Accesses C)
     → (t >>= f) >>= g ≡ t >>= (λ x. f x >>= g)
 then-then (ends x) f g = refl
-then-then (reads latch a go) f g = ap (reads latch a) (fun-ext (λ v. then-then (go v) f g))
+then-then (reads modify a go) f g = ap (reads modify a) (fun-ext (λ v. then-then (go v) f g))
 then-then (writes a v t) f g = ap (writes a v) (then-then t f g)
 
 -- a place by its accesses, which know no bus
@@ -36,11 +36,11 @@ module _ {A : Type 0} (answers memory : List ℕ) where
   abbrev Onwards : Bus → Accesses A → Bus → Accesses A → Type 0
   Onwards b t c u = onwards answers memory [] b t ≡ onwards answers memory [] c u
 
-  pub read-on : (a : ℕ) (latch : Bool) (b : Bus) (go : ℕ → Accesses A)
-      → Onwards b (reads latch a go) (readOf answers memory a latch b .bus)
-      (go (readOf answers memory a latch b .value))
+  pub read-on : (a : ℕ) (modify : Bool) (b : Bus) (go : ℕ → Accesses A)
+      → Onwards b (reads modify a go) (readOf answers memory a modify b .bus)
+      (go (readOf answers memory a modify b .value))
   unfolding readOf byteAfter
-  read-on a latch b go = read-follows answers memory [] latch a b go (memoryByte memory a) refl
+  read-on a modify b go = read-follows answers memory [] modify a b go (memoryByte memory a) refl
 
   -- a read after writes
   pub read-after-on : (before : List Write) (w : Writes) (a : ℕ) (b : Bus) (go : ℕ → Accesses A)

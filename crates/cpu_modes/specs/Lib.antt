@@ -1,2 +1,2 @@
 pub mod Modes
-pub mod Operands
+pub mod ModeAccesses

@@ -4,7 +4,7 @@ use mathlib.Core.Bool.{Bool, true, false, not, cond}
 use mathlib.Core.List.{List}
 use Prim.Native.Nat.{ℕ, _+_, _*_, _/_, _%_}
 use lib.Dec.{ltb, eqb}
-use Rattle.bits.specs.Bits.{low, high, word16, wrapping8, wrapping16}
+use Rattle.bits.specs.Bits.{lowByte, highByte, word16, wrapping8, wrapping16}
 use Rattle.cpu_opcodes.specs.declared.Mode.{Mode}
 use Rattle.cpu_opcodes.specs.declared.Mode.the-variants.{Implied, Accumulator, Immediate, ZeroPage, ZeroPageX}
 use Rattle.cpu_opcodes.specs.declared.Mode.the-variants.{ZeroPageY, Absolute, AbsoluteX, AbsoluteY, IndexedIndirect}
@@ -74,7 +74,7 @@ atIndirectIndexed answers memory y f = pointedIndexed y (f .pc) (zeroPagePointer
 -- 02, U5, JMP indirect: "the high byte comes from the start of that same page" where the pointer ends in FFh, else from
 -- the pointer plus 1: the page stays, and the low byte wraps
 abbrev pub secondAddress : ℕ → ℕ
-secondAddress p = word16 (high p) (wrapping8 (low p) 1)
+secondAddress p = word16 (highByte p) (wrapping8 (lowByte p) 1)
 
 abbrev pub atIndirect : List ℕ → List ℕ → FetchedAddress → Place
 atIndirect answers memory f =

@@ -9,7 +9,7 @@ use lib.ListN.{length}
 use Rattle.bits.specs.Lists.{allOf, tabulate}
 use Rattle.bits.proofs.Cond.{cond-both, both-left, both-right}
 use Rattle.bits.proofs.Tables.{upTo, below}
-use Rattle.cpu_opcodes.specs.Rows.{Row, rows}
+use Rattle.cpu_opcodes.specs.InstructionSet.{Row, rows}
 use Rattle.cpu_opcodes.specs.Decode.{lookUp, decodeOf, defined, countDefined}
 use Rattle.cpu_opcodes.specs.declared.Decoded.{Decoded}
 use Rattle.cpu_opcodes.specs.declared.Decoded.the-variants.{Undefined, Defined}

@@ -9,7 +9,7 @@ use lib.ListN.{getD, length}
 use Rattle.bits.specs.Lists.{tabulate}
 use Rattle.bits.proofs.Tables.{getD-tabulate}
 use Rattle.cpu_opcodes.specs.Decode.{decodeOf}
-use Rattle.cpu_opcodes.specs.Table.{opcodeTable, entryNumber, operationOf, modeOf}
+use Rattle.cpu_opcodes.specs.TableInCode.{opcodeTable, entryNumber, operationOf, modeOf}
 use Rattle.cpu_opcodes.specs.declared.Decoded.{Decoded}
 use Rattle.cpu_opcodes.specs.declared.Decoded.the-variants.{Undefined, Defined}
 

@@ -1,3 +1,3 @@
-pub mod Rows
+pub mod InstructionSet
 pub mod Decode
-pub mod Table
+pub mod TableInCode

@@ -1,7 +1,7 @@
 // The opcodes of the enhanced R6502: which operation, addressing mode and length each of the 256 has, if any.
 ghost use mathlib.Core.Path.{_≡_};
 ghost use Rattle.cpu_opcodes.specs.Decode.{decodeOf};
-ghost use Rattle.cpu_opcodes.specs.Table.{opcodeTable, modeOf};
+ghost use Rattle.cpu_opcodes.specs.TableInCode.{opcodeTable, modeOf};
 use operation::Operation;
 use operation::operation_of;
 

@@ -1,8 +1,9 @@
 // What an instruction does: its operation, by kind. The kind says how memory is used, the operation what is done.
 ghost use mathlib.Core.Path.{_≡_};
-ghost use Rattle.cpu_opcodes.specs.Table.{operationOf, readOperation, modifyOperation, storeOperation};
-ghost use Rattle.cpu_opcodes.specs.Table.{branchOperation, bitBranchOperation, pushOperation, pullOperation};
-ghost use Rattle.cpu_opcodes.specs.Table.{registerOperation, flagOperation};
+ghost use Rattle.cpu_opcodes.specs.TableInCode.{operationOf, readOperation, modifyOperation, storeOperation};
+ghost use Rattle.cpu_opcodes.specs.TableInCode.{branchOperation, bitBranchOperation, pushOperation};
+ghost use Rattle.cpu_opcodes.specs.TableInCode.{pullOperation};
+ghost use Rattle.cpu_opcodes.specs.TableInCode.{registerOperation, flagOperation};
 
 // Reads of the byte at the operand's address.
 pub enum ReadOperation {

@@ -5,8 +5,8 @@ use mathlib.Core.List.{List}
 use Prim.Native.Nat.{ℕ, suc, _+_, _/_, _%_, _^_, _≤_}
 use native.Mathlib.Omega.{arith}
 use lib.Dec.{lit≤, eqb}
-use Rattle.bits.specs.Bits.{bit, digit}
-use Rattle.bits.proofs.Cond.{cond-both, digit-le}
+use Rattle.bits.specs.Bits.{bit, oneWhere}
+use Rattle.bits.proofs.Cond.{cond-both, one-where-le}
 use Rattle.cpu_opcodes.specs.declared.operation.Operation.{Operation}
 use Rattle.cpu_opcodes.specs.declared.operation.Operation.the-variants as operation
 use Rattle.cpu_opcodes.specs.declared.operation.PullOperation.{PullOperation}
@@ -79,13 +79,13 @@ pub record Sound (P : ℕ → Bus → Type 0) (k n : ℕ) (c : Cost) (e : Execut
 
 module _ (P : ℕ → Bus → Type 0) (answers memory : List ℕ)
     (more : (k : ℕ) (b : Bus) → P k b → P (suc k) b)
-    (asks : (k a : ℕ) (latch : Bool) (b : Bus) → isRegister a ≡ true → P k b
-    → P (suc k) (askOf answers a latch b .bus)) where
+    (asks : (k a : ℕ) (modify : Bool) (b : Bus) → isRegister a ≡ true → P k b
+    → P (suc k) (askOf answers a modify b .bus)) where
   completed-sound : (k : ℕ) (o : Operand) (r : CpuRegisters) → P k (o .bus)
       → Sound P k (o .length) settling (completed o r)
   unfolding completed pushesOf
   completed-sound k o r h =
-      let d = digit-le (o .crossed) in
+      let d = one-where-le (o .crossed) in
       record { bus = h; writes = lit≤ tt; least = λ l. omega arith; most = λ l. omega arith }
 
   stored-sound : (k : ℕ) (o : Operand) (r : CpuRegisters) (v : ℕ) → P k (o .bus)
@@ -110,9 +110,10 @@ module _ (P : ℕ → Bus → Type 0) (answers memory : List ℕ)
       → Sound P k (o .length) branching (branched o r taken)
   unfolding branched pushesOf
   branched-sound k o r taken h =
-      let d = digit-le (o .crossed) in
+      let d = one-where-le (o .crossed) in
       cond-both (Sound P k (o .length) branching) taken
-      (readOnly (withPc (o .address) r) (o .length + 1 + digit (o .crossed)) (o .bus)) (readOnly r (o .length) (o .bus))
+      (readOnly (withPc (o .address) r) (o .length + 1 + oneWhere (o .crossed)) (o .bus))
+      (readOnly r (o .length) (o .bus))
       (λ t. record { bus = h; writes = lit≤ tt; least = λ l. omega arith; most = λ l. omega arith })
       (λ t. record { bus = h; writes = lit≤ tt; least = λ l. l; most = λ l. omega arith })
 

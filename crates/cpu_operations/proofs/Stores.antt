@@ -5,7 +5,7 @@ use mathlib.Core.List.{List, [], _∷_}
 use Prim.Native.Nat.{ℕ}
 use lib.Dec.{T}
 use Rattle.bits.proofs.Cond.{equal}
-use Rattle.cpu_opcodes.specs.Rows.{rows}
+use Rattle.cpu_opcodes.specs.InstructionSet.{rows}
 use Rattle.cpu_opcodes.specs.Decode.{decodeOf}
 use Rattle.cpu_opcodes.specs.declared.Decoded.the-variants.{Defined}
 use Rattle.cpu_opcodes.specs.declared.Entry.{Entry}
@@ -41,7 +41,7 @@ abbrev pub modifies : Access → Bool
 modifies access.Nothing = false
 modifies access.Read = false
 modifies access.Modify = true
-modifies access.Call = false
+modifies access.Jsr = false
 
 eightModify : Entry → Bool
 eightModify e = Bool·beq (modifies (accessOf (e .operation))) (listed readModifyWrite (e .operation))

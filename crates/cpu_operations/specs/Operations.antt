@@ -8,7 +8,7 @@ use Rattle.cpu_access.specs.declared.CpuRegisters.{CpuRegisters}
 use Rattle.cpu_effects.specs.declared.Operand.{Operand}
 use Rattle.cpu_effects.specs.declared.Executed.{Executed}
 use Rattle.cpu_operations.specs.declared.Access.{Access}
-use Rattle.cpu_operations.specs.declared.Access.the-variants.{Nothing, Read, Modify, Call}
+use Rattle.cpu_operations.specs.declared.Access.the-variants.{Nothing, Read, Modify, Jsr}
 use Rattle.cpu_kinds.specs.Updates.{withStatus}
 use Rattle.cpu_kinds.specs.Kinds.{withRead, changedBy, byteToStore, branchTaken, bitBranchTaken, byteToPush}
 use Rattle.cpu_kinds.specs.Kinds.{withRegister, withFlag}
@@ -29,18 +29,18 @@ accessOf (operation.Register o) = Nothing
 accessOf (operation.Flag o) = Nothing
 accessOf operation.Brk = Nothing
 accessOf operation.Jmp = Nothing
-accessOf operation.Jsr = Call
+accessOf operation.Jsr = Jsr
 accessOf operation.Nop = Nothing
 accessOf operation.Rti = Nothing
 accessOf operation.Rts = Nothing
 
-abbrev pub isCall : Access → Bool
-isCall Nothing = false
-isCall Read = false
-isCall Modify = false
-isCall Call = true
+abbrev pub isJsr : Access → Bool
+isJsr Nothing = false
+isJsr Read = false
+isJsr Modify = false
+isJsr Jsr = true
 
--- r has PC behind the operand bytes. Of JSR's own work this is no part: see subroutineCall.
+-- r has PC behind the operand bytes. Of JSR's own work this is no part: see jsrOutcome.
 unfoldable pub operateOf : List ℕ → List ℕ → Operation → CpuRegisters → Operand → Executed
 operateOf answers memory (operation.Read p) r o = completed o (withRead p r (o .value))
 operateOf answers memory (operation.Modify p) r o = modified o r (changedBy p (o .value) (r .status))

@@ -1,7 +1,7 @@
 // What each operation does: how it uses the byte at its operand's address, and what it leaves.
 ghost use mathlib.Core.Path.{_≡_};
 ghost use Prim.Native.Nat.{_≤_};
-ghost use Rattle.cpu_operations.specs.Operations.{accessOf, isCall, operateOf};
+ghost use Rattle.cpu_operations.specs.Operations.{accessOf, isJsr, operateOf};
 use cpu_access::CpuRegisters;
 use cpu_effects::Executed;
 use cpu_effects::Operand;
@@ -32,7 +32,7 @@ pub enum Access {
     Nothing,
     Read,
     Modify,
-    Call,
+    Jsr,
 }
 
 pub fn access_of(operation: Operation) -> Access
@@ -50,21 +50,21 @@ pub fn access_of(operation: Operation) -> Access
         Operation::Flag(_) => Access::Nothing,
         Operation::Brk => Access::Nothing,
         Operation::Jmp => Access::Nothing,
-        Operation::Jsr => Access::Call,
+        Operation::Jsr => Access::Jsr,
         Operation::Nop => Access::Nothing,
         Operation::Rti => Access::Nothing,
         Operation::Rts => Access::Nothing,
     }
 }
 
-pub fn is_call(access: Access) -> bool
-    ensures { λ r. ⌜ r ≡ isCall access ⌝ }
+pub fn is_jsr(access: Access) -> bool
+    ensures { λ r. ⌜ r ≡ isJsr access ⌝ }
 {
     match access {
         Access::Nothing => false,
         Access::Read => false,
         Access::Modify => false,
-        Access::Call => true,
+        Access::Jsr => true,
     }
 }
 

@@ -3,18 +3,18 @@ use mathlib.Core.Path.{_≡_, refl, sym, ap, _∙_}
 use mathlib.Core.Bool.{Bool, true, false, _&&_, cond}
 use Prim.Native.Nat.{ℕ, zero, suc, _+_}
 use lib.Dec.{ltb}
-use Rattle.bits.specs.Bits.{digit}
+use Rattle.bits.specs.Bits.{oneWhere}
 use Rattle.bits.proofs.Cond.{cond-along}
 use Rattle.leaps.specs.Leaps.{System, Run, plains, leapOf, movedOf, leftAfter, leapsOf, run}
 
-pub record Unseen {W : Type 0} (S : System W) (f : W → W) : Type 0 where
+pub record Unaffected {W : Type 0} (S : System W) (f : W → W) : Type 0 where
   pub plain : (w : W) → S .plain (f w) ≡ f (S .plain w)
   pub pass : (g : ℕ) (w : W) → S .pass g (f w) ≡ f (S .pass g w)
   pub gap : (n : ℕ) (w : W) → S .gap n (f w) ≡ S .gap n w
   pub running : (w : W) → S .running (f w) ≡ S .running w
   pub clock : (w : W) → S .clock (f w) ≡ S .clock w
 
-module _ {W : Type 0} (S : System W) (f : W → W) (k : Unseen S f) where
+module _ {W : Type 0} (S : System W) (f : W → W) (k : Unaffected S f) where
   pub plains-along : (n : ℕ) (w : W) → plains S n (f w) ≡ f (plains S n w)
   unfolding plains
   plains-along zero w = refl

@@ -16,13 +16,13 @@ use Rattle.refusals.proofs.Accepted.{Accepted, accepted, accepts}
 use Rattle.leaps.specs.Leaps.{plains, leapCount, trace, leadingQuiet}
 use Rattle.leaps.specs.Chip.{ChipRules}
 use Rattle.leaps.specs.World.{WorldOf, plainOf, runningIn, doneIn, systemOf}
-use Rattle.leaps.specs.Lists.{Machine, Call, runFor, Listed, calls, FairOf, stepOf, runOf, plainRunOf}
+use Rattle.leaps.specs.CallLists.{Machine, Call, runFor, Listed, calls, FairOf, stepOf, runOf, plainRunOf}
 use Rattle.leaps.specs.Calls.{ResultOf, HandedOf, stopOf, callStart, handedBackOf, refusedWith, lentOf}
 use Rattle.leaps.specs.Calls.{afterCallOf, resultByOf, refusalIn, refusedHanded, refusedCall, machineOf, Room}
 use Rattle.leaps.specs.Calls.{Fit}
 use Rattle.leaps.proofs.Laws.{Lawful, plains-stopped, gap-leads}
-use Rattle.leaps.proofs.Lists as lists
-use Rattle.leaps.proofs.Lists.{Callable}
+use Rattle.leaps.proofs.CallLists as lists
+use Rattle.leaps.proofs.CallLists.{Callable}
 use Rattle.leaps.proofs.Chips.{ChipLaws, lawful, no-gap-event, plain-fits, plains-stop, clock-most}
 use Rattle.leaps.proofs.Parts.{wholeOf, Rest, plains-rest, plains-whole, lent-whole, count-whole}
 
@@ -36,11 +36,11 @@ drop-eqb k l m a b = rw (length-drop k l, length-drop k m) (by-test (eqb (length
     by-test false e = ne-eqb (length l - k) (length m - k) (λ z. eqb-false (length l) (length m) e (omega arith))
 
 -- the number of a refusal is no stop
-pub refusal-no-stop : (limits : Limits) (formed : Bool) (clock span : ℕ) (clocks codes : List ℕ) (times words n : ℕ)
-    → stopOf (refusalOf limits formed clock span clocks codes times words n) ≡ 0
+pub refusal-no-stop : (limits : Limits) (formed : Bool) (clock bytes : ℕ) (clocks codes : List ℕ) (times words n : ℕ)
+    → stopOf (refusalOf limits formed clock bytes clocks codes times words n) ≡ 0
 unfolding stopOf refusalOf
-refusal-no-stop limits formed clock span clocks codes times words n =
-    first (not (eqb span (limits .memory))) (not formed)
+refusal-no-stop limits formed clock bytes clocks codes times words n =
+    first (not (eqb bytes (limits .memory))) (not formed)
     (not (eqb (length clocks) (length codes)) || not (eqb times words))
     (ltb lastClock (clock + n)) (not (pinsRight (limits .pin) clock clocks codes))
   where

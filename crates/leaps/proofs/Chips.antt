@@ -8,13 +8,14 @@ use native.Mathlib.Omega.{arith}
 use lib.Dec.{ltb, eqb}
 use lib.ListN.{length, take, drop, set, length-set}
 use borrow.Author.Tests.{ltb-true, eqb-true, eq-eqb, ne-eqb}
-use Rattle.bits.specs.Bits.{digit}
+use Rattle.bits.specs.Bits.{oneWhere}
 use Rattle.bits.proofs.Cond.{cond-both}
-use Rattle.pin_lists.specs.PinLists.{pinsRight, dueCount}
-use Rattle.pin_lists.proofs.PinLists.{right-read, due-within}
+use Rattle.pin_lists.specs.PinLists.{pinsRight, inputCount}
+use Rattle.pin_lists.proofs.PinLists.{right-read, input-count-within}
 use Rattle.leaps.specs.Chip.{ChipRules, ClockEnd, ClockOutcome, stopped, ended}
 use Rattle.leaps.specs.Leaps.{System, plains}
-use Rattle.leaps.specs.World.{WorldOf, putRecord, stoppedAt, movedTo, after, dueIn, outcomeIn, plainOf, runningIn}
+use Rattle.leaps.specs.World.{WorldOf, putRecord, stoppedAt, movedTo, after, inputCountIn, outcomeIn, plainOf}
+use Rattle.leaps.specs.World.{runningIn}
 use Rattle.leaps.specs.World.{isDone, doneIn, eventIn, passIn, systemOf}
 use Rattle.leaps.specs.Calls.{isStop, stopOf, Fit}
 use Rattle.leaps.proofs.Laws.{Lawful}
@@ -43,7 +44,7 @@ pub record ChipLaws {S : Type 0} (C : ChipRules S) : Type 0 where
       → isStop number ≡ true
   -- the first clock of a gap has no input, is no event clock, is done, and is a gap of one clock passed: nothing else
   -- changes
-  pub gap-input : (n : ℕ) (s : S) (clocks : List ℕ) → 0 < C .gap n s clocks → dueCount (C .clock s + 1) clocks ≡ 0
+  pub gap-input : (n : ℕ) (s : S) (clocks : List ℕ) → 0 < C .gap n s clocks → inputCount (C .clock s + 1) clocks ≡ 0
   pub gap-quiet : (n : ℕ) (s : S) (clocks : List ℕ) → 0 < C .gap n s clocks → C .event s [] ≡ false
   pub gapWord : S → ℕ
   pub gap-outcome : (n : ℕ) (s : S) (clocks memory : List ℕ) (free : Bool) → 0 < C .gap n s clocks
@@ -55,7 +56,7 @@ pub record ChipLaws {S : Type 0} (C : ChipRules S) : Type 0 where
   -- with a clock left and no gap, the next clock is an event clock, of a right pin list
   pub gap-event : (n : ℕ) (s : S) (clocks codes : List ℕ) → pinsRight (C .limits .pin) (C .clock s) clocks codes ≡ true
       → 0 < n
-      → C .gap n s clocks ≡ 0 → C .event s (take (dueCount (C .clock s + 1) clocks) codes) ≡ true
+      → C .gap n s clocks ≡ 0 → C .event s (take (inputCount (C .clock s + 1) clocks) codes) ≡ true
   -- gaps passed add up; "clock plus gap"
   pub pass-zero : (s : S) → C .pass 0 s ≡ s
   pub pass-add : (g h : ℕ) (s : S) → C .pass h (C .pass g s) ≡ C .pass (g + h) s
@@ -80,7 +81,7 @@ record-length differs at value l =
 
 -- the records written stay within the output space
 written-within : (differs : Bool) (written space : ℕ) → written ≤ space → (differs ≡ true → ltb written space ≡ true)
-    → written + digit differs ≤ space
+    → written + oneWhere differs ≤ space
 written-within true written space h room = let l = ltb-true written space (room refl) in omega arith
 written-within false written space h room = omega arith
 
@@ -96,7 +97,7 @@ pub record Advanced {S : Type 0} (C : ChipRules S) (w v : WorldOf S) : Type 0 wh
 module _ {S : Type 0} (C : ChipRules S) (L : ChipLaws C) where
   module _ (w : WorldOf S) where
     -- a clock where nothing has stopped, and one where something has
-    pub plain-on : runningIn w ≡ true → plainOf C w ≡ after C w (dueIn C w) (outcomeIn C w (dueIn C w))
+    pub plain-on : runningIn w ≡ true → plainOf C w ≡ after C w (inputCountIn C w) (outcomeIn C w (inputCountIn C w))
     unfolding plainOf
     plain-on e = rw e
 
@@ -104,7 +105,7 @@ module _ {S : Type 0} (C : ChipRules S) (L : ChipLaws C) where
     unfolding plainOf
     plain-off e = rw e
 
-    done-on : runningIn w ≡ true → doneIn C w ≡ isDone (outcomeIn C w (dueIn C w))
+    done-on : runningIn w ≡ true → doneIn C w ≡ isDone (outcomeIn C w (inputCountIn C w))
     unfolding doneIn
     done-on e = rw e
 
@@ -116,28 +117,28 @@ module _ {S : Type 0} (C : ChipRules S) (L : ChipLaws C) where
     done-counts : doneIn C w ≡ true → C .clock (plainOf C w .state) ≡ C .clock (w .state) + 1
     done-counts d = by-running (runningIn w) refl
       where
-        by-outcome : (o : ClockOutcome S) → outcomeIn C w (dueIn C w) ≡ o → isDone o ≡ true
-            → C .clock (after C w (dueIn C w) o .state) ≡ C .clock (w .state) + 1
+        by-outcome : (o : ClockOutcome S) → outcomeIn C w (inputCountIn C w) ≡ o → isDone o ≡ true
+            → C .clock (after C w (inputCountIn C w) o .state) ≡ C .clock (w .state) + 1
         by-outcome (stopped number) e z = absurd (false≢true z)
         by-outcome (ended end) e z = L .done-clock (w .state) _ (w .memory) _ end e
 
         by-running : (r : Bool) → runningIn w ≡ r → C .clock (plainOf C w .state) ≡ C .clock (w .state) + 1
-        by-running true e = rw (plain-on e) (by-outcome (outcomeIn C w (dueIn C w)) refl (sym (done-on e) ∙ d))
+        by-running true e = rw (plain-on e) (by-outcome (outcomeIn C w (inputCountIn C w)) refl (sym (done-on e) ∙ d))
         by-running false e = absurd (false≢true (sym (done-off e) ∙ d))
 
     undone-stays : doneIn C w ≡ false
         → (C .clock (plainOf C w .state) ≡ C .clock (w .state)) × (runningIn (plainOf C w) ≡ false)
     undone-stays d = by-running (runningIn w) refl
       where
-        by-outcome : (o : ClockOutcome S) → outcomeIn C w (dueIn C w) ≡ o → isDone o ≡ false
-            → (C .clock (after C w (dueIn C w) o .state) ≡ C .clock (w .state))
-            × (runningIn (after C w (dueIn C w) o) ≡ false)
+        by-outcome : (o : ClockOutcome S) → outcomeIn C w (inputCountIn C w) ≡ o → isDone o ≡ false
+            → (C .clock (after C w (inputCountIn C w) o .state) ≡ C .clock (w .state))
+            × (runningIn (after C w (inputCountIn C w) o) ≡ false)
         by-outcome (stopped number) e z = (refl, stop-some number (L .stopped-stop (w .state) _ (w .memory) _ number e))
         by-outcome (ended end) e z = absurd (false≢true (sym z))
 
         by-running : (r : Bool) → runningIn w ≡ r
             → (C .clock (plainOf C w .state) ≡ C .clock (w .state)) × (runningIn (plainOf C w) ≡ false)
-        by-running true e = rw (plain-on e) (by-outcome (outcomeIn C w (dueIn C w)) refl (sym (done-on e) ∙ d))
+        by-running true e = rw (plain-on e) (by-outcome (outcomeIn C w (inputCountIn C w)) refl (sym (done-on e) ∙ d))
         by-running false e = rw (plain-off e) (refl, e)
 
     -- a clock of a gap
@@ -197,7 +198,8 @@ module _ {S : Type 0} (C : ChipRules S) (L : ChipLaws C) where
   -- ---- what a plain clock keeps
 
   module _ (w : WorldOf S) (f : Fit C w) where
-    moved-fits : (d : ClockEnd S) → outcomeIn C w (dueIn C w) ≡ ended d → Fit C (movedTo C d (dueIn C w) w)
+    moved-fits : (d : ClockEnd S) → outcomeIn C w (inputCountIn C w) ≡ ended d
+        → Fit C (movedTo C d (inputCountIn C w) w)
     moved-fits d e =
         record {
           memory = L .done-memory (w .state) _ (w .memory) _ d e ∙ f .memory;
@@ -220,16 +222,17 @@ module _ {S : Type 0} (C : ChipRules S) (L : ChipLaws C) where
     -- a plain clock keeps what demand 3 starts from
     pub plain-fits : Fit C (plainOf C w)
     unfolding plainOf
-    plain-fits = cond-both (Fit C) (runningIn w) _ w (λ _. by-outcome (outcomeIn C w (dueIn C w)) refl) (λ _. f)
+    plain-fits = cond-both (Fit C) (runningIn w) _ w (λ _. by-outcome (outcomeIn C w (inputCountIn C w)) refl) (λ _. f)
       where
-        by-outcome : (o : ClockOutcome S) → outcomeIn C w (dueIn C w) ≡ o → Fit C (after C w (dueIn C w) o)
+        by-outcome : (o : ClockOutcome S) → outcomeIn C w (inputCountIn C w) ≡ o
+            → Fit C (after C w (inputCountIn C w) o)
         by-outcome (stopped number) d = stopped-fits number
         by-outcome (ended e) d = moved-fits e d
 
   pub plain-advances : (w : WorldOf S) → Advanced C w (plainOf C w)
   unfolding plainOf
   plain-advances w =
-      cond-both (Advanced C w) (runningIn w) _ w (λ _. by-outcome (outcomeIn C w (dueIn C w)) refl) (λ _. same)
+      cond-both (Advanced C w) (runningIn w) _ w (λ _. by-outcome (outcomeIn C w (inputCountIn C w)) refl) (λ _. same)
     where
       same : Advanced C w w
       same =
@@ -242,7 +245,8 @@ module _ {S : Type 0} (C : ChipRules S) (L : ChipLaws C) where
             written = λ h. h;
           }
 
-      by-outcome : (o : ClockOutcome S) → outcomeIn C w (dueIn C w) ≡ o → Advanced C w (after C w (dueIn C w) o)
+      by-outcome : (o : ClockOutcome S) → outcomeIn C w (inputCountIn C w) ≡ o
+          → Advanced C w (after C w (inputCountIn C w) o)
       by-outcome (stopped number) d =
           record {
             clock = omega arith;
@@ -255,7 +259,7 @@ module _ {S : Type 0} (C : ChipRules S) (L : ChipLaws C) where
       by-outcome (ended e) d =
           record {
             clock = omega (arith, L .done-clock (w .state) _ (w .memory) _ e d);
-            read = omega (arith, due-within (C .clock (w .state) + 1) (w .inputClocks));
+            read = omega (arith, input-count-within (C .clock (w .state) + 1) (w .inputClocks));
             memory = L .done-memory (w .state) _ (w .memory) _ e d;
             outputClocks = record-length (e .differs) _ _ (w .outputClocks);
             outputWords = record-length (e .differs) _ _ (w .outputWords);
@@ -275,10 +279,10 @@ module _ {S : Type 0} (C : ChipRules S) (L : ChipLaws C) where
   unfolding plainOf
   plain-stop w h =
       cond-both (λ (v : WorldOf S). stopOf (v .stop) ≡ v .stop) (runningIn w) _ w
-      (λ _. by-outcome (outcomeIn C w (dueIn C w)) refl) (λ _. h)
+      (λ _. by-outcome (outcomeIn C w (inputCountIn C w)) refl) (λ _. h)
     where
-      by-outcome : (o : ClockOutcome S) → outcomeIn C w (dueIn C w) ≡ o
-          → stopOf (after C w (dueIn C w) o .stop) ≡ after C w (dueIn C w) o .stop
+      by-outcome : (o : ClockOutcome S) → outcomeIn C w (inputCountIn C w) ≡ o
+          → stopOf (after C w (inputCountIn C w) o .stop) ≡ after C w (inputCountIn C w) o .stop
       by-outcome (stopped number) e = stop-itself number (L .stopped-stop (w .state) _ (w .memory) _ number e)
       by-outcome (ended d) e = L .done-stop (w .state) _ (w .memory) _ d e
 

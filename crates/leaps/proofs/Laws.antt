@@ -8,7 +8,7 @@ use native.Mathlib.Nat.{zero-add, add-zero, add-assoc, suc-add}
 use native.Mathlib.Omega.{arith}
 use lib.Dec.{ltb, eqb}
 use borrow.Author.Tests.{ltb-true, ltb-false, lt-ltb, le-ltb, eqb-true, eqb-false}
-use Rattle.bits.proofs.Cond.{and-left, and-right, digit-not}
+use Rattle.bits.proofs.Cond.{and-left, and-right, one-where-not}
 use Rattle.leaps.specs.Leaps.{System, eventsIn, quietEnd, plains, leapOf, movedOf, leftAfter, leapsOf, run, trace}
 use Rattle.leaps.specs.Leaps.{leapCount, leadingQuiet, ByLeaps, no-leap, one-more}
 
@@ -359,7 +359,7 @@ module _ {W : Type 0} (S : System W) (L : Lawful S) where
       ends : (b : Bool) → S .done w ≡ b → leapCount S 1 w ≡ movedOf S w (S .plain w)
       ends true d =
           let h = L .done-clock w d in
-          rw (moved-later w (S .plain w) (omega arith), d, trace) (omega (arith, digit-not (S .event w)))
+          rw (moved-later w (S .plain w) (omega arith), d, trace) (omega (arith, one-where-not (S .event w)))
       ends false d = rw (moved-by 0 w (S .plain w) (L .undone-clock w d ∙ omega arith), d, trace) (omega arith)
 
   -- What is owed besides, of the worlds that a run meets: with a clock left and no gap, the next clock is an event

@@ -10,11 +10,12 @@ use lib.Dec.{ltb, eqb}
 use lib.ListN.{length, take, drop, set, length-append, take-append-drop}
 use lib.Seq.{length-take-le, drop-drop}
 use borrow.Author.Tests.{ltb-true, ltb-false, lt-ltb, le-ltb}
-use Rattle.bits.specs.Bits.{digit}
+use Rattle.bits.specs.Bits.{oneWhere}
 use Rattle.bits.proofs.Cond.{cond-both}
 use Rattle.leaps.specs.Leaps.{plains, trace, leapCount, eventsIn, quietEnd}
 use Rattle.leaps.specs.Chip.{ChipRules, ClockEnd, ClockOutcome, stopped, ended}
-use Rattle.leaps.specs.World.{WorldOf, stoppedAt, movedTo, putRecord, after, dueIn, outcomeIn, plainOf, runningIn}
+use Rattle.leaps.specs.World.{WorldOf, stoppedAt, movedTo, putRecord, after, inputCountIn, outcomeIn, plainOf}
+use Rattle.leaps.specs.World.{runningIn}
 use Rattle.leaps.specs.World.{isDone, doneIn, eventIn, systemOf}
 use Rattle.leaps.specs.Calls.{lentOf, Room}
 use Rattle.leaps.proofs.Laws.{trace-done, trace-undone}
@@ -80,12 +81,13 @@ module _ {S : Type 0} (C : ChipRules S) where
 
   plain-rest : (u : WorldOf S) → Rest u (plainOf C u)
   unfolding plainOf
-  plain-rest u = cond-both (Rest u) (runningIn u) _ u (λ _. by-outcome (outcomeIn C u (dueIn C u))) (λ _. none-read u)
+  plain-rest u =
+      cond-both (Rest u) (runningIn u) _ u (λ _. by-outcome (outcomeIn C u (inputCountIn C u))) (λ _. none-read u)
     where
-      by-outcome : (o : ClockOutcome S) → Rest u (after C u (dueIn C u) o)
+      by-outcome : (o : ClockOutcome S) → Rest u (after C u (inputCountIn C u) o)
       by-outcome (stopped number) =
           record { count = 0; inputClocks = refl; inputCodes = refl; read = sym (add-zero (u .read)) }
-      by-outcome (ended e) = record { count = dueIn C u; inputClocks = refl; inputCodes = refl; read = refl }
+      by-outcome (ended e) = record { count = inputCountIn C u; inputClocks = refl; inputCodes = refl; read = refl }
 
   more-read : (u v x : WorldOf S) → Rest u v → Rest v x → Rest u x
   more-read u v x a b = record {
@@ -109,14 +111,15 @@ module _ {S : Type 0} (C : ChipRules S) where
     before-words : length (take (w .written) (w .outputWords)) ≡ w .written
     before-words = length-take-le (w .written) (w .outputWords) (room .outputWords)
 
-    outcome-whole : outcomeIn C (wholeOf w v) (dueIn C (wholeOf w v)) ≡ outcomeIn C v (dueIn C v)
+    outcome-whole : outcomeIn C (wholeOf w v) (inputCountIn C (wholeOf w v)) ≡ outcomeIn C v (inputCountIn C v)
     outcome-whole =
         rw (
           outcomeIn,
           free-behind (take (w .written) (w .outputClocks)) (v .outputClocks) (w .written) (v .written) before-clocks,
         )
 
-    after-whole : (o : ClockOutcome S) → after C (wholeOf w v) (dueIn C v) o ≡ wholeOf w (after C v (dueIn C v) o)
+    after-whole : (o : ClockOutcome S)
+        → after C (wholeOf w v) (inputCountIn C v) o ≡ wholeOf w (after C v (inputCountIn C v) o)
     after-whole (stopped number) = refl
     after-whole (ended e) =
         rw (
@@ -124,8 +127,8 @@ module _ {S : Type 0} (C : ChipRules S) where
               (C .clock (e .state)) before-clocks,
           put-behind (e .differs) (take (w .written) (w .outputWords)) (v .outputWords) (w .written) (v .written)
               (e .word) before-words,
-          add-assoc (w .read) (v .read) (dueIn C v),
-          add-assoc (w .written) (v .written) (digit (e .differs)),
+          add-assoc (w .read) (v .read) (inputCountIn C v),
+          add-assoc (w .written) (v .written) (oneWhere (e .differs)),
         )
 
     -- a plain clock
@@ -133,9 +136,10 @@ module _ {S : Type 0} (C : ChipRules S) where
     unfolding plainOf
     plain-whole = rw outcome-whole (by-test (runningIn v))
       where
-        by-test : (t : Bool) → cond t (after C (wholeOf w v) (dueIn C v) (outcomeIn C v (dueIn C v))) (wholeOf w v)
-            ≡ wholeOf w (cond t (after C v (dueIn C v) (outcomeIn C v (dueIn C v))) v)
-        by-test true = after-whole (outcomeIn C v (dueIn C v))
+        by-test : (t : Bool)
+            → cond t (after C (wholeOf w v) (inputCountIn C v) (outcomeIn C v (inputCountIn C v))) (wholeOf w v)
+            ≡ wholeOf w (cond t (after C v (inputCountIn C v) (outcomeIn C v (inputCountIn C v))) v)
+        by-test true = after-whole (outcomeIn C v (inputCountIn C v))
         by-test false = refl
 
     done-whole : doneIn C (wholeOf w v) ≡ doneIn C v

@@ -10,11 +10,12 @@ use native.Mathlib.Omega.{arith}
 use lib.Dec.{ltb, eqb}
 use lib.ListN.{length, take, drop, set, length-set}
 use borrow.Author.Tests.{ltb-true, ltb-false, eqb-true, eqb-false, lt-ltb, le-ltb, eq-eqb, ne-eqb}
-use Rattle.bits.specs.Bits.{digit}
-use Rattle.pin_lists.specs.PinLists.{pinOf, entryRight, restRight, pinsRight, dueCount}
+use Rattle.bits.specs.Bits.{oneWhere}
+use Rattle.pin_lists.specs.PinLists.{pinOf, entryRight, restRight, pinsRight, inputCount}
 use Rattle.leaps.specs.Chip.{ChipRules, ClockOutcome, stopped, ended}
 use Rattle.leaps.specs.Leaps.{Run, plains, leapOf, movedOf, leftAfter, leapsOf, run, trace, leapCount}
-use Rattle.leaps.specs.World.{WorldOf, putRecord, after, dueIn, outcomeIn, plainOf, runningIn, isDone, doneIn}
+use Rattle.leaps.specs.World.{WorldOf, putRecord, after, inputCountIn, outcomeIn, plainOf, runningIn, isDone}
+use Rattle.leaps.specs.World.{doneIn}
 use Rattle.leaps.specs.World.{eventIn, passIn, systemOf}
 use Rattle.leaps.specs.Shifted.{shiftedClocks, ShiftedRecords, shiftedOutcome, ShiftedWorld}
 
@@ -46,10 +47,10 @@ shifted-eqb k a b = by-test (eqb a b) refl
     by-test false e = ne-eqb (a + k) (b + k) (λ z. eqb-false a b e (omega arith))
 
 -- the inputs of a clock
-due-shifted : (k clock : ℕ) (ts : List ℕ) → dueCount (clock + k) (shiftedClocks k ts) ≡ dueCount clock ts
-unfolding dueCount
-due-shifted k clock [] = refl
-due-shifted k clock (t ∷ ts) = rw (shifted-eqb k t clock, due-shifted k clock ts)
+input-count-shifted : (k clock : ℕ) (ts : List ℕ) → inputCount (clock + k) (shiftedClocks k ts) ≡ inputCount clock ts
+unfolding inputCount
+input-count-shifted k clock [] = refl
+input-count-shifted k clock (t ∷ ts) = rw (shifted-eqb k t clock, input-count-shifted k clock ts)
 
 -- the rule of a pin list: "Clocks never fall", and "The first clock is above the state's."
 module _ (lastPin k : ℕ) where
@@ -102,7 +103,7 @@ take-set (suc n) x (y ∷ l) =
 module _ (k written time word : ℕ) (times words times' words' : List ℕ)
     (r : ShiftedRecords k written times words times' words') where
   put-shifted : (differs : Bool)
-      → ShiftedRecords k (written + digit differs) (putRecord differs written time times)
+      → ShiftedRecords k (written + oneWhere differs) (putRecord differs written time times)
       (putRecord differs written word words)
       (putRecord differs written (time + k) times') (putRecord differs written word words')
   unfolding putRecord
@@ -147,13 +148,13 @@ module _ {S : Type 0} (C : ChipRules S) (shift : ℕ → S → S) (L : ShiftLaws
     pub running-shifted : runningIn v ≡ runningIn w
     running-shifted = ap (λ (n : ℕ). eqb n 0) (r .stop)
 
-    dueIn-shifted : dueIn C v ≡ dueIn C w
-    dueIn-shifted =
+    inputCountIn-shifted : inputCountIn C v ≡ inputCountIn C w
+    inputCountIn-shifted =
         let e : C .clock (v .state) + 1 ≡ C .clock (w .state) + 1 + k = omega (arith, shifted-clock) in
-        rw (e, r .inputClocks) (due-shifted k (C .clock (w .state) + 1) (w .inputClocks))
+        rw (e, r .inputClocks) (input-count-shifted k (C .clock (w .state) + 1) (w .inputClocks))
 
-    outcome-shifted : (due : ℕ) → outcomeIn C v due ≡ shiftedOutcome shift k (outcomeIn C w due)
-    outcome-shifted due =
+    outcome-shifted : (inputs : ℕ) → outcomeIn C v inputs ≡ shiftedOutcome shift k (outcomeIn C w inputs)
+    outcome-shifted inputs =
         by-parts (v .state) (v .inputCodes) (v .memory) (v .written) (length (v .outputClocks)) (r .state)
         (r .inputCodes) (r .memory) (r .written)
         (r .records .clockSpace)
@@ -161,14 +162,16 @@ module _ {S : Type 0} (C : ChipRules S) (shift : ℕ → S → S) (L : ShiftLaws
         by-parts : (s : S) (codes memory : List ℕ) (written space : ℕ) → s ≡ shift k (w .state) → codes ≡ w .inputCodes
             → memory ≡ w .memory
             → written ≡ w .written → space ≡ length (w .outputClocks)
-            → C .outcome s (take due codes) memory (ltb written space) ≡ shiftedOutcome shift k (outcomeIn C w due)
+            → C .outcome s (take inputs codes) memory (ltb written space)
+            ≡ shiftedOutcome shift k (outcomeIn C w inputs)
         by-parts s codes memory written space a b c d e =
             rw (a, b, c, d, e)
-            (L .outcome k (w .state) (take due (w .inputCodes)) (w .memory)
+            (L .outcome k (w .state) (take inputs (w .inputCodes)) (w .memory)
             (ltb (w .written) (length (w .outputClocks))))
 
-    after-shifted : (due : ℕ) (o : ClockOutcome S) → Alike (after C w due o) (after C v due (shiftedOutcome shift k o))
-    after-shifted due (stopped number) = record {
+    after-shifted : (inputs : ℕ) (o : ClockOutcome S)
+        → Alike (after C w inputs o) (after C v inputs (shiftedOutcome shift k o))
+    after-shifted inputs (stopped number) = record {
       state = r .state;
       memory = r .memory;
       inputClocks = r .inputClocks;
@@ -178,17 +181,17 @@ module _ {S : Type 0} (C : ChipRules S) (shift : ℕ → S → S) (L : ShiftLaws
       written = r .written;
       stop = refl;
     }
-    after-shifted due (ended d) = record {
+    after-shifted inputs (ended d) = record {
       state = refl;
       memory = refl;
-      inputClocks = ap (drop due) (r .inputClocks) ∙ drop-map (λ (t : ℕ). t + k) due (w .inputClocks);
-      inputCodes = ap (drop due) (r .inputCodes);
+      inputClocks = ap (drop inputs) (r .inputClocks) ∙ drop-map (λ (t : ℕ). t + k) inputs (w .inputClocks);
+      inputCodes = ap (drop inputs) (r .inputCodes);
       records =
           rw (r .written, L .clock k (d .state))
           (put-shifted k (w .written) (C .clock (d .state)) (d .word) (w .outputClocks) (w .outputWords)
           (v .outputClocks) (v .outputWords) (r .records) (d .differs));
-      read = ap (λ (n : ℕ). n + due) (r .read);
-      written = ap (λ (n : ℕ). n + digit (d .differs)) (r .written);
+      read = ap (λ (n : ℕ). n + inputs) (r .read);
+      written = ap (λ (n : ℕ). n + oneWhere (d .differs)) (r .written);
       stop = refl;
     }
 
@@ -196,21 +199,22 @@ module _ {S : Type 0} (C : ChipRules S) (shift : ℕ → S → S) (L : ShiftLaws
     pub plain-shifted : Alike (plainOf C w) (plainOf C v)
     unfolding plainOf
     plain-shifted =
-        by-parts (runningIn w) (runningIn v) running-shifted (dueIn C w) (dueIn C v) dueIn-shifted
-        (outcomeIn C v (dueIn C v)) (ap (outcomeIn C v) dueIn-shifted ∙ outcome-shifted (dueIn C w))
+        by-parts (runningIn w) (runningIn v) running-shifted (inputCountIn C w) (inputCountIn C v) inputCountIn-shifted
+        (outcomeIn C v (inputCountIn C v))
+        (ap (outcomeIn C v) inputCountIn-shifted ∙ outcome-shifted (inputCountIn C w))
       where
-        by-parts : (t u : Bool) → u ≡ t → (due due' : ℕ) → due' ≡ due
-            → (o : ClockOutcome S) → o ≡ shiftedOutcome shift k (outcomeIn C w due)
-            → Alike (cond t (after C w due (outcomeIn C w due)) w) (cond u (after C v due' o) v)
-        by-parts true u e due due' d o f = rw (e, d, f) (after-shifted due (outcomeIn C w due))
-        by-parts false u e due due' d o f = rw e r
+        by-parts : (t u : Bool) → u ≡ t → (inputs inputs' : ℕ) → inputs' ≡ inputs
+            → (o : ClockOutcome S) → o ≡ shiftedOutcome shift k (outcomeIn C w inputs)
+            → Alike (cond t (after C w inputs (outcomeIn C w inputs)) w) (cond u (after C v inputs' o) v)
+        by-parts true u e inputs inputs' d o f = rw (e, d, f) (after-shifted inputs (outcomeIn C w inputs))
+        by-parts false u e inputs inputs' d o f = rw e r
 
     -- whether the next clock is done, and whether it is an event clock
     done-shifted : doneIn C v ≡ doneIn C w
     unfolding doneIn
     done-shifted =
-        rw (running-shifted, dueIn-shifted, outcome-shifted (dueIn C w))
-        (ap (λ (b : Bool). cond (runningIn w) b false) (same (outcomeIn C w (dueIn C w))))
+        rw (running-shifted, inputCountIn-shifted, outcome-shifted (inputCountIn C w))
+        (ap (λ (b : Bool). cond (runningIn w) b false) (same (outcomeIn C w (inputCountIn C w))))
       where
         same : (o : ClockOutcome S) → isDone (shiftedOutcome shift k o) ≡ isDone o
         same (stopped number) = refl
@@ -218,11 +222,13 @@ module _ {S : Type 0} (C : ChipRules S) (shift : ℕ → S → S) (L : ShiftLaws
 
     event-shifted : eventIn C v ≡ eventIn C w
     unfolding eventIn
-    event-shifted = by-parts (v .state) (v .inputCodes) (dueIn C v) (r .state) (r .inputCodes) dueIn-shifted
+    event-shifted =
+        by-parts (v .state) (v .inputCodes) (inputCountIn C v) (r .state) (r .inputCodes) inputCountIn-shifted
       where
-        by-parts : (s : S) (codes : List ℕ) (due : ℕ) → s ≡ shift k (w .state) → codes ≡ w .inputCodes → due ≡ dueIn C w
-            → C .event s (take due codes) ≡ C .event (w .state) (take (dueIn C w) (w .inputCodes))
-        by-parts s codes due a b c = rw (a, b, c) (L .event k (w .state) (take (dueIn C w) (w .inputCodes)))
+        by-parts : (s : S) (codes : List ℕ) (inputs : ℕ) → s ≡ shift k (w .state) → codes ≡ w .inputCodes
+            → inputs ≡ inputCountIn C w
+            → C .event s (take inputs codes) ≡ C .event (w .state) (take (inputCountIn C w) (w .inputCodes))
+        by-parts s codes inputs a b c = rw (a, b, c) (L .event k (w .state) (take (inputCountIn C w) (w .inputCodes)))
 
     -- the gap, and the gap passed
     gap-shifted : (n : ℕ) → C .gap n (v .state) (v .inputClocks) ≡ C .gap n (w .state) (w .inputClocks)
@@ -290,7 +296,7 @@ module _ {S : Type 0} (C : ChipRules S) (shift : ℕ → S → S) (L : ShiftLaws
   unfolding movedOf
   moved-shifted w v x y r s =
       rw (shifted-clock w v r, shifted-clock x y s)
-      (ap digit (shifted-ltb k (C .clock (w .state)) (C .clock (x .state))))
+      (ap oneWhere (shifted-ltb k (C .clock (w .state)) (C .clock (x .state))))
 
   leaps-shifted : (most n : ℕ) (w v : WorldOf S) → Alike w v
       → ShiftedRun shift k (leapsOf (systemOf C) most n w) (leapsOf (systemOf C) most n v)

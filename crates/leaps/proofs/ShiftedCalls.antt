@@ -14,8 +14,9 @@ use Rattle.refusals.specs.Refusals.{lastClock, firstOf, refusalOf}
 use Rattle.leaps.specs.Chip.{ChipRules}
 use Rattle.leaps.specs.Leaps.{plains, run, leapCount}
 use Rattle.leaps.specs.World.{WorldOf, plainOf, runningIn, systemOf}
-use Rattle.leaps.specs.Lists.{Machine, Call, countOf, Listed, stepOf, runOf, plainRunOf, calls, clocksAccepted}
-use Rattle.leaps.specs.Lists.{resultsBy}
+use Rattle.leaps.specs.CallLists.{Machine, Call, countOf, Listed, stepOf, runOf, plainRunOf, calls}
+use Rattle.leaps.specs.CallLists.{clocksAccepted}
+use Rattle.leaps.specs.CallLists.{resultsBy}
 use Rattle.leaps.specs.Calls.{ResultOf, HandedOf, callStart, handedBackOf, refusedWith, refusedHanded, resultByOf}
 use Rattle.leaps.specs.Calls.{refusalIn, refusedCall, machineOf, Room}
 use Rattle.leaps.specs.Shifted.{shiftedClocks, shiftedResult, ShiftedWorld, ShiftedHanded, ShiftedListed}
@@ -28,52 +29,52 @@ use Rattle.leaps.proofs.Shifted.{plains-shifted, moved-shifted, count-s
 -- ---- refusals
 
 -- the table's rows, of which only the fourth differs, and is so at the later clock where it is at the earlier
-rows-alike : (one two three late early five : Bool) → (early ≡ true → late ≡ true)
+refusals-alike : (one two three late early five : Bool) → (early ≡ true → late ≡ true)
     → (firstOf ((1, one) ∷ (2, two) ∷ (3, three) ∷ (4, late) ∷ (5, five) ∷ []) ≡ clockRefusal
     → firstOf ((1, one) ∷ (2, two) ∷ (3, three) ∷ (4, early) ∷ (5, five) ∷ []) ≡ clockRefusal)
     → firstOf ((1, one) ∷ (2, two) ∷ (3, three) ∷ (4, late) ∷ (5, five) ∷ [])
     ≡ firstOf ((1, one) ∷ (2, two) ∷ (3, three) ∷ (4, early) ∷ (5, five) ∷ [])
-rows-alike true two three late early five up alike = refl
-rows-alike false true three late early five up alike = refl
-rows-alike false false true late early five up alike = refl
-rows-alike false false false true true five up alike = refl
-rows-alike false false false true false five up alike = sym (alike refl)
-rows-alike false false false false true five up alike = absurd (false≢true (up refl))
-rows-alike false false false false false five up alike = refl
+refusals-alike true two three late early five up alike = refl
+refusals-alike false true three late early five up alike = refl
+refusals-alike false false true late early five up alike = refl
+refusals-alike false false false true true five up alike = refl
+refusals-alike false false false true false five up alike = sym (alike refl)
+refusals-alike false false false false true five up alike = absurd (false≢true (up refl))
+refusals-alike false false false false false five up alike = refl
 
 -- the table of a call, of which memory and lists are those of the earlier, but for the clocks
-module _ (limits : Limits) (formed : Bool) (clock span : ℕ) (clocks codes : List ℕ) (times words n k : ℕ) where
-  abbrev rows : Bool → ℕ
-  rows late =
-      firstOf ((1, not (eqb span (limits .memory))) ∷ (2, not formed)
+module _ (limits : Limits) (formed : Bool) (clock bytes : ℕ) (clocks codes : List ℕ) (times words n k : ℕ) where
+  abbrev refusalBy : Bool → ℕ
+  refusalBy late =
+      firstOf ((1, not (eqb bytes (limits .memory))) ∷ (2, not formed)
       ∷ (3, not (eqb (length clocks) (length codes)) || not (eqb times words)) ∷ (4, late)
       ∷ (5, not (pinsRight (limits .pin) clock clocks codes)) ∷ [])
 
-  rows-shifted : refusalOf limits formed (clock + k) span (shiftedClocks k clocks) codes times words n
-      ≡ rows (ltb lastClock (clock + k + n))
+  refusals-shifted : refusalOf limits formed (clock + k) bytes (shiftedClocks k clocks) codes times words n
+      ≡ refusalBy (ltb lastClock (clock + k + n))
   unfolding refusalOf
-  rows-shifted = rw (length-map clocks (λ (t : ℕ). t + k), pins-shifted (limits .pin) k clock clocks codes)
+  refusals-shifted = rw (length-map clocks (λ (t : ℕ). t + k), pins-shifted (limits .pin) k clock clocks codes)
 
-  refusal-alike : (refusalOf limits formed (clock + k) span (shiftedClocks k clocks) codes times words n ≡ clockRefusal
-      → refusalOf limits formed clock span clocks codes times words n ≡ clockRefusal)
-      → refusalOf limits formed (clock + k) span (shiftedClocks k clocks) codes times words n
-      ≡ refusalOf limits formed clock span clocks codes times words n
+  refusal-alike : (refusalOf limits formed (clock + k) bytes (shiftedClocks k clocks) codes times words n ≡ clockRefusal
+      → refusalOf limits formed clock bytes clocks codes times words n ≡ clockRefusal)
+      → refusalOf limits formed (clock + k) bytes (shiftedClocks k clocks) codes times words n
+      ≡ refusalOf limits formed clock bytes clocks codes times words n
   unfolding refusalOf
   refusal-alike alike =
-      rows-shifted
-      ∙ rows-alike (not (eqb span (limits .memory))) (not formed)
+      refusals-shifted
+      ∙ refusals-alike (not (eqb bytes (limits .memory))) (not formed)
       (not (eqb (length clocks) (length codes)) || not (eqb times words))
       (ltb lastClock (clock + k + n)) (ltb lastClock (clock + n)) (not (pinsRight (limits .pin) clock clocks codes))
       (λ h. lt-ltb lastClock (clock + k + n) (omega (arith, ltb-true lastClock (clock + n) h)))
-      (λ e. alike (rows-shifted ∙ e))
+      (λ e. alike (refusals-shifted ∙ e))
 
 -- clocks that fit are not refused with 4
-fit-number : (limits : Limits) (formed : Bool) (clock span : ℕ) (clocks codes : List ℕ) (times words n : ℕ)
+fit-number : (limits : Limits) (formed : Bool) (clock bytes : ℕ) (clocks codes : List ℕ) (times words n : ℕ)
     → clock + n ≤ lastClock
-    → refusalOf limits formed clock span clocks codes times words n ≡ clockRefusal → ⊥
+    → refusalOf limits formed clock bytes clocks codes times words n ≡ clockRefusal → ⊥
 unfolding refusalOf
-fit-number limits formed clock span clocks codes times words n h e =
-    other (not (eqb span (limits .memory))) (not formed)
+fit-number limits formed clock bytes clocks codes times words n h e =
+    other (not (eqb bytes (limits .memory))) (not formed)
     (not (eqb (length clocks) (length codes)) || not (eqb times words))
     (not (pinsRight (limits .pin) clock clocks codes)) (rw (le-ltb lastClock (clock + n) h) at e)
   where
@@ -100,14 +101,14 @@ module _ {S : Type 0} (C : ChipRules S) (shift : ℕ → S → S) (L : ShiftLaws
       (shifted-clock C shift L k w v r)
       (ap length (r .memory)) (r .inputClocks) (r .inputCodes) (r .records .clockSpace) (r .records .wordSpace) alike
     where
-      by-parts : (formed : Bool) (clock span : ℕ) (clocks codes : List ℕ) (times words : ℕ)
-          → formed ≡ C .wellFormed (w .state) → clock ≡ C .clock (w .state) + k → span ≡ length (w .memory)
+      by-parts : (formed : Bool) (clock bytes : ℕ) (clocks codes : List ℕ) (times words : ℕ)
+          → formed ≡ C .wellFormed (w .state) → clock ≡ C .clock (w .state) + k → bytes ≡ length (w .memory)
           → clocks ≡ shiftedClocks k (w .inputClocks) → codes ≡ w .inputCodes
           → times ≡ length (w .outputClocks) → words ≡ length (w .outputWords)
-          → (refusalOf (C .limits) formed clock span clocks codes times words n ≡ clockRefusal
+          → (refusalOf (C .limits) formed clock bytes clocks codes times words n ≡ clockRefusal
           → refusalIn C n w ≡ clockRefusal)
-          → refusalOf (C .limits) formed clock span clocks codes times words n ≡ refusalIn C n w
-      by-parts formed clock span clocks codes times words a b c d e f g =
+          → refusalOf (C .limits) formed clock bytes clocks codes times words n ≡ refusalIn C n w
+      by-parts formed clock bytes clocks codes times words a b c d e f g =
           rw (a, b, c, d, e, f, g)
           (refusal-alike (C .limits) (C .wellFormed (w .state)) (C .clock (w .state)) (length (w .memory))
           (w .inputClocks) (w .inputCodes) (length (w .outputClocks)) (length (w .outputWords)) n k)

@@ -6,16 +6,18 @@ use Prim.Native.Nat.{ℕ, _+_, _%_, _<_}
 use native.Mathlib.Omega.{arith}
 use lib.ListN.{length, getD}
 use borrow.Author.Tests.{ne-eqb}
-use Rattle.memory.specs.Memory.{memorySpan}
-use Rattle.page_sums.specs.PageSums.{pageCount, sumSpan, sumAt, pageSum, sumsAfter, SixteenBits, Right, pageListRefused}
+use Rattle.memory.specs.Memory.{memoryLength}
+use Rattle.page_sums.specs.PageSums.{pageCount, sumModulus, sumAt, pageSum, sumsAfter, SixteenBits, Right}
+use Rattle.page_sums.specs.PageSums.{pageListRefused}
 use Rattle.page_sums.proofs.Sums.{sums-kept, sums-twice, sums-length, sixteen-after, exactly-changed, right-after}
 use Rattle.page_sums.proofs.Refused.{memory-wrong, list-wrong, list-right}
 use Rattle.refusals.specs.Refusals.{refusalOf}
 use Rattle.leaps.specs.Leaps.{plains}
 use Rattle.leaps.specs.Chip.{ChipRules}
 use Rattle.leaps.specs.World.{WorldOf, runningIn, systemOf}
-use Rattle.leaps.specs.Lists.{Call, singleClock, runFor, countOf, stepOf, runOf, callOf, Listed, listed, calls}
-use Rattle.leaps.specs.Lists.{clocksAccepted, resultsBy}
+use Rattle.leaps.specs.CallLists.{Call, singleClock, runFor, countOf, stepOf, runOf, callOf, Listed, listed}
+use Rattle.leaps.specs.CallLists.{calls}
+use Rattle.leaps.specs.CallLists.{clocksAccepted, resultsBy}
 use Rattle.leaps.specs.Calls.{ResultOf, HandedOf, refusedWith, refusedHanded, refusedCall, stopOf, lentOf}
 use Rattle.leaps.specs.Calls.{afterCallOf, refusalIn, machineOf, Room}
 use Rattle.leaps.specs.Summed.{withSums, listedSums, callsWithSums}
@@ -44,11 +46,11 @@ module _ {S : Type 0} (sums : List ℕ) (call : WorldOf S → HandedOf S) (w : W
   list-accepted right = rw right
 
   -- 13 comes behind 1
-  pub memory-first : (length (w .memory) ≡ memorySpan → ⊥) → withSums sums call w ≡ call w
+  pub memory-first : (length (w .memory) ≡ memoryLength → ⊥) → withSums sums call w ≡ call w
   memory-first m = list-accepted (memory-wrong (length (w .memory)) (length sums) m)
 
   -- and before all else
-  pub list-next : length (w .memory) ≡ memorySpan → (length sums ≡ pageCount → ⊥)
+  pub list-next : length (w .memory) ≡ memoryLength → (length sums ≡ pageCount → ⊥)
       → withSums sums call w ≡ refusedHanded 13 w
   list-next m n = list-refused (list-wrong (length (w .memory)) (length sums) m n)
 
@@ -124,9 +126,9 @@ module _ {S : Type 0} (call : Call → WorldOf S → HandedOf S) where
     -- so each sum changes, right or wrong before, by exactly what its page's bytes change over the list
     pub list-exactly : (cs : List Call) (sums : List ℕ) (w : WorldOf S) → length sums ≡ pageCount → SixteenBits sums
         → (p : ℕ) → p < pageCount → let end = callsWithSums call cs sums w in
-        (sumAt (end .sums) p < sumSpan)
-        × ((sumAt (end .sums) p + pageSum p (w .memory)) % sumSpan
-        ≡ (sumAt sums p + pageSum p (end .list .world .memory)) % sumSpan)
+        (sumAt (end .sums) p < sumModulus)
+        × ((sumAt (end .sums) p + pageSum p (w .memory)) % sumModulus
+        ≡ (sumAt sums p + pageSum p (end .list .world .memory)) % sumModulus)
     list-exactly cs sums w n words p h =
         rw (list-with-sums cs sums w n words)
         (exactly-changed sums (w .memory) (lacking cs w .world .memory) p (omega (arith, n)))
@@ -167,7 +169,7 @@ module _ {S : Type 0} (call : Call → WorldOf S → HandedOf S) where
       )
 
   -- with another number of sums, and a memory of 65,536 bytes, that is 13: of the first call of a list, and of all
-  module _ (sums : List ℕ) (w : WorldOf S) (m : length (w .memory) ≡ memorySpan) (n : length sums ≡ pageCount → ⊥)
+  module _ (sums : List ℕ) (w : WorldOf S) (m : length (w .memory) ≡ memoryLength) (n : length sums ≡ pageCount → ⊥)
       (words : SixteenBits sums) (on : w .stop ≡ 0) where
     pub thirteen-next : (c : Call) (cs : List Call)
         → callsWithSums call (c ∷ cs) sums w
@@ -212,9 +214,9 @@ module _ {S : Type 0} (C : ChipRules S) where
 
     pub calls-exactly : length sums ≡ pageCount → SixteenBits sums
         → (p : ℕ) → p < pageCount → let end = callsWithSums (callOf (machineOf C)) cs sums w in
-        (sumAt (end .sums) p < sumSpan)
-        × ((sumAt (end .sums) p + pageSum p (w .memory)) % sumSpan
-        ≡ (sumAt sums p + pageSum p (end .list .world .memory)) % sumSpan)
+        (sumAt (end .sums) p < sumModulus)
+        × ((sumAt (end .sums) p + pageSum p (w .memory)) % sumModulus
+        ≡ (sumAt sums p + pageSum p (end .list .world .memory)) % sumModulus)
     calls-exactly n words p h =
         list-exactly (callOf (machineOf C)) lackingOf calls-none calls-over calls-next cs sums w n words p h
 
@@ -234,14 +236,15 @@ module _ {S : Type 0} (C : ChipRules S) where
   fair-with-sums L cs sums w room n words = calls-alike cs sums w n words ∙ rw (fair C L cs w room) refl
 
   -- a memory of another length is 1, whatever the page list
-  memory-refused : C .limits .memory ≡ memorySpan → (c : Call) (w : WorldOf S) → (length (w .memory) ≡ memorySpan → ⊥)
+  memory-refused : C .limits .memory ≡ memoryLength → (c : Call) (w : WorldOf S)
+      → (length (w .memory) ≡ memoryLength → ⊥)
       → callOf (machineOf C) c w ≡ refusedHanded 1 w
   unfolding callOf stepOf runOf refusalOf
-  memory-refused e singleClock w m = rw (e, ne-eqb (length (w .memory)) memorySpan m)
-  memory-refused e (runFor n) w m = rw (e, ne-eqb (length (w .memory)) memorySpan m)
+  memory-refused e singleClock w m = rw (e, ne-eqb (length (w .memory)) memoryLength m)
+  memory-refused e (runFor n) w m = rw (e, ne-eqb (length (w .memory)) memoryLength m)
 
-  pub memory-hands-on : C .limits .memory ≡ memorySpan → (cs : List Call) (sums : List ℕ) (w : WorldOf S)
-      → (length (w .memory) ≡ memorySpan → ⊥) → SixteenBits sums → w .stop ≡ 0
+  pub memory-hands-on : C .limits .memory ≡ memoryLength → (cs : List Call) (sums : List ℕ) (w : WorldOf S)
+      → (length (w .memory) ≡ memoryLength → ⊥) → SixteenBits sums → w .stop ≡ 0
       → callsWithSums (callOf (machineOf C)) cs sums w
       ≡ listedSums (record { world = w; results = map (λ (c : Call). refusedWith 1 (w .state)) cs }) sums
   memory-hands-on e cs sums w m words on =

@@ -9,7 +9,7 @@ use Rattle.pin_lists.specs.PinLists.{pinsRight}
 use Rattle.refusals.specs.Refusals.{refusalOf}
 use Rattle.leaps.specs.Chip.{ChipRules}
 use Rattle.leaps.specs.World.{WorldOf, systemOf}
-use Rattle.leaps.specs.Lists.{Machine}
+use Rattle.leaps.specs.CallLists.{Machine}
 
 -- the result of a call: document 01's number, the state, the leaps, the inputs read and the records written
 pub record ResultOf (S : Type 0) : Type 0 where

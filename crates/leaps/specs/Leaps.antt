@@ -5,7 +5,7 @@ use mathlib.Core.Bool.{Bool, true, false, _&&_, not, cond}
 use mathlib.Core.List.{List, [], _∷_}
 use Prim.Native.Nat.{ℕ, zero, suc, _+_, _-_, _<_}
 use lib.Dec.{ltb}
-use Rattle.bits.specs.Bits.{digit}
+use Rattle.bits.specs.Bits.{oneWhere}
 
 -- What leaps ask of a machine. `W` is its world: all that a clock reads, changes or counts.
 pub record System (W : Type 0) : Type 0 where
@@ -32,12 +32,12 @@ pub record Run (W : Type 0) : Type 0 where
 -- "event clocks done", of clocks of which each is an event clock or not
 unfoldable pub eventsIn : List Bool → ℕ
 eventsIn [] = 0
-eventsIn (event ∷ later) = digit event + eventsIn later
+eventsIn (event ∷ later) = oneWhere event + eventsIn later
 
 -- "1 if the last clock done isn't an event clock; 0 if no clock is done"
 unfoldable pub quietEnd : List Bool → ℕ
 quietEnd [] = 0
-quietEnd (event ∷ []) = digit (not event)
+quietEnd (event ∷ []) = oneWhere (not event)
 quietEnd (event ∷ (next ∷ later)) = quietEnd (next ∷ later)
 
 -- the clocks before the first event clock
@@ -58,7 +58,7 @@ module _ {W : Type 0} (S : System W) where
 
   -- 1 where a clock was done from `w` to `v`, so that a leap that is stopped before its first clock is none
   unfoldable pub movedOf : W → W → ℕ
-  movedOf w v = digit (ltb (S .clock w) (S .clock v))
+  movedOf w v = oneWhere (ltb (S .clock w) (S .clock v))
 
   -- the clocks left after a leap
   abbrev pub leftAfter : ℕ → W → ℕ

@@ -1,7 +1,7 @@
 pub mod Leaps
 pub mod Chip
 pub mod World
-pub mod Lists
+pub mod CallLists
 pub mod Calls
 pub mod Lent
 pub mod Summed

@@ -8,7 +8,7 @@ use lib.Dec.{eqb}
 use lib.ListN.{length, take}
 use Rattle.leaps.specs.Chip.{ChipRules, ClockEnd, ClockOutcome, stopped, ended}
 use Rattle.leaps.specs.World.{WorldOf}
-use Rattle.leaps.specs.Lists.{Listed}
+use Rattle.leaps.specs.CallLists.{Listed}
 use Rattle.leaps.specs.Calls.{ResultOf, HandedOf, refusalIn}
 
 -- a list of clocks, each k later

@@ -5,7 +5,7 @@ use Prim.Native.Nat.{ℕ}
 use lib.ListN.{length}
 use Rattle.page_sums.specs.PageSums.{pageListRefused, sumsAfter}
 use Rattle.leaps.specs.World.{WorldOf, runningIn}
-use Rattle.leaps.specs.Lists.{Call, Listed, listed}
+use Rattle.leaps.specs.CallLists.{Call, Listed, listed}
 use Rattle.leaps.specs.Calls.{ResultOf, HandedOf, refusedHanded, lentOf, afterCallOf}
 
 module _ {S : Type 0} where

@@ -4,8 +4,8 @@ use mathlib.Core.List.{List}
 use Prim.Native.Nat.{ℕ, _+_}
 use lib.Dec.{ltb, eqb}
 use lib.ListN.{length, take, drop, set}
-use Rattle.bits.specs.Bits.{digit}
-use Rattle.pin_lists.specs.PinLists.{dueCount}
+use Rattle.bits.specs.Bits.{oneWhere}
+use Rattle.pin_lists.specs.PinLists.{inputCount}
 use Rattle.leaps.specs.Leaps.{System}
 use Rattle.leaps.specs.Chip.{ChipRules, ClockEnd, ClockOutcome, stopped, ended}
 
@@ -53,43 +53,43 @@ module _ {S : Type 0} where
 module _ {S : Type 0} (C : ChipRules S) where
   -- "Otherwise steps 1 to 5 happen once: inputs of its clock are read; its record, if any, takes the first free entry."
   abbrev pub movedTo : ClockEnd S → ℕ → WorldOf S → WorldOf S
-  movedTo d due w = record {
+  movedTo d inputs w = record {
     state = d .state;
     memory = d .memory;
-    inputClocks = drop due (w .inputClocks);
-    inputCodes = drop due (w .inputCodes);
+    inputClocks = drop inputs (w .inputClocks);
+    inputCodes = drop inputs (w .inputCodes);
     outputClocks = putRecord (d .differs) (w .written) (C .clock (d .state)) (w .outputClocks);
     outputWords = putRecord (d .differs) (w .written) (d .word) (w .outputWords);
-    read = w .read + due;
-    written = w .written + digit (d .differs);
+    read = w .read + inputs;
+    written = w .written + oneWhere (d .differs);
     stop = d .stop;
   }
 
-  -- the world after a clock of which `due` inputs are due
+  -- the world after a clock that has `inputs` inputs
   abbrev pub after : WorldOf S → ℕ → ClockOutcome S → WorldOf S
-  after w due (stopped number) = stoppedAt number w
-  after w due (ended d) = movedTo d due w
+  after w inputs (stopped number) = stoppedAt number w
+  after w inputs (ended d) = movedTo d inputs w
 
   -- the inputs of the next clock
-  abbrev pub dueIn : WorldOf S → ℕ
-  dueIn w = dueCount (C .clock (w .state) + 1) (w .inputClocks)
+  abbrev pub inputCountIn : WorldOf S → ℕ
+  inputCountIn w = inputCount (C .clock (w .state) + 1) (w .inputClocks)
 
   -- what the next clock comes to
   abbrev pub outcomeIn : WorldOf S → ℕ → ClockOutcome S
-  outcomeIn w due =
-      C .outcome (w .state) (take due (w .inputCodes)) (w .memory) (ltb (w .written) (length (w .outputClocks)))
+  outcomeIn w inputs =
+      C .outcome (w .state) (take inputs (w .inputCodes)) (w .memory) (ltb (w .written) (length (w .outputClocks)))
 
   -- one plain clock; "Each, after a stop, does nothing."
   unfoldable pub plainOf : WorldOf S → WorldOf S
-  plainOf w = cond (runningIn w) (after w (dueIn w) (outcomeIn w (dueIn w))) w
+  plainOf w = cond (runningIn w) (after w (inputCountIn w) (outcomeIn w (inputCountIn w))) w
 
   -- the next clock is done
   unfoldable pub doneIn : WorldOf S → Bool
-  doneIn w = cond (runningIn w) (isDone (outcomeIn w (dueIn w))) false
+  doneIn w = cond (runningIn w) (isDone (outcomeIn w (inputCountIn w))) false
 
   -- the next clock is an event clock
   unfoldable pub eventIn : WorldOf S → Bool
-  eventIn w = C .event (w .state) (take (dueIn w) (w .inputCodes))
+  eventIn w = C .event (w .state) (take (inputCountIn w) (w .inputCodes))
 
   -- "the gap passed": only the state changes
   abbrev pub passIn : ℕ → WorldOf S → WorldOf S

@@ -6,8 +6,8 @@ use lib.Dec.{ltb}
 use lib.ListN.{drop}
 
 -- "Memory: a lent slice of 65,536 bytes."
-abbrev pub memorySpan : ℕ
-memorySpan = 65536
+abbrev pub memoryLength : ℕ
+memoryLength = 65536
 
 -- "Its bytes at 0 to 3Fh, the registers, are never touched": memory's bytes below this are the registers
 abbrev pub registerEnd : ℕ
@@ -16,6 +16,6 @@ registerEnd = 0x40
 abbrev pub isRegister : ℕ → Bool
 isRegister a = ltb a registerEnd
 
--- a memory with other bytes at 0 to 3Fh, `low` being 40h bytes
-unfoldable pub withLow : List ℕ → List ℕ → List ℕ
-withLow low memory = low ++ drop registerEnd memory
+-- a memory with other bytes at 0 to 3Fh, `first` being 40h of them
+unfoldable pub withUntouched : List ℕ → List ℕ → List ℕ
+withUntouched first memory = first ++ drop registerEnd memory

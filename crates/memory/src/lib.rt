@@ -4,7 +4,7 @@ ghost use mathlib.Core.Path.{_≡_};
 ghost use Rattle.memory.specs.Memory.{isRegister};
 
 // The bytes of a memory.
-pub const MEMORY_SPAN: usize = 65536;
+pub const MEMORY_LENGTH: usize = 65536;
 
 // The addresses below this one are the registers'.
 pub const REGISTER_END: u16 = 0x40;

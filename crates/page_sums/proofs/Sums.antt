@@ -10,7 +10,7 @@ use lib.Dec.{eqb, ltb}
 use lib.ListN.{length, getD, set, replicate, length-set, length-replicate, getD-replicate, List·getD-eq-default}
 use lib.Seq.{ext-getD, getD-set-same, getD-set-other}
 use Rattle.bits.proofs.Tables.{getD-tabulate, length-tabulate}
-use Rattle.page_sums.specs.PageSums.{sumSpan, pageOf, partSum, pageSum, sumChanged, sumAt, sumAfter}
+use Rattle.page_sums.specs.PageSums.{sumModulus, pageOf, partSum, pageSum, sumChanged, sumAt, sumAfter}
 use Rattle.page_sums.specs.PageSums.{sumsAfterPart, sumsAfter, Right, SixteenBits}
 
 -- ---- one sum
@@ -18,21 +18,22 @@ use Rattle.page_sums.specs.PageSums.{sumsAfterPart, sumsAfter, Right, Si
 module _ (sum : ℕ) where
   -- modulo 65,536 the new sum with what was there before is the old one with what is there after; no other below 65,536
   -- is
-  pub changed-exactly : (before after : ℕ) → (sumChanged sum before after + before) % sumSpan ≡ (sum + after) % sumSpan
+  pub changed-exactly : (before after : ℕ)
+      → (sumChanged sum before after + before) % sumModulus ≡ (sum + after) % sumModulus
   unfolding sumChanged
   changed-exactly before after = omega arith
 
-  pub changed-alone : (before after x : ℕ) → x < sumSpan → (x + before) % sumSpan ≡ (sum + after) % sumSpan
+  pub changed-alone : (before after x : ℕ) → x < sumModulus → (x + before) % sumModulus ≡ (sum + after) % sumModulus
       → x ≡ sumChanged sum before after
   unfolding sumChanged
   changed-alone before after x h e = omega arith
 
-  pub changed-below : (before after : ℕ) → sumChanged sum before after < sumSpan
+  pub changed-below : (before after : ℕ) → sumChanged sum before after < sumModulus
   unfolding sumChanged
   changed-below before after = omega arith
 
   -- where the page's bytes stay, or sum to the same
-  pub unchanged : (before : ℕ) → sum < sumSpan → sumChanged sum before before ≡ sum
+  pub unchanged : (before : ℕ) → sum < sumModulus → sumChanged sum before before ≡ sum
   unfolding sumChanged
   unchanged before h = omega arith
 
@@ -47,8 +48,8 @@ module _ (sum : ℕ) where
   changed-as-much a b c d e = omega arith
 
   -- to add 65,536 less what was there is to take it off
-  pub taken-off : (before after : ℕ) → before ≤ sumSpan
-      → (sum + after + sumSpan - before) % sumSpan ≡ sumChanged sum before after
+  pub taken-off : (before after : ℕ) → before ≤ sumModulus
+      → (sum + after + sumModulus - before) % sumModulus ≡ sumChanged sum before after
   unfolding sumChanged
   taken-off before after h = omega arith
 
@@ -59,7 +60,7 @@ module _ (sum : ℕ) where
   changed-beside rest before after = omega arith
 
 -- a right sum is right afterwards
-pub changed-right : (before after : ℕ) → sumChanged (before % sumSpan) before after ≡ after % sumSpan
+pub changed-right : (before after : ℕ) → sumChanged (before % sumModulus) before after ≡ after % sumModulus
 unfolding sumChanged
 changed-right before after = omega arith
 
@@ -125,7 +126,7 @@ module _ (address : ℕ) (sums part later : List ℕ) where
 pub sixteen-after : (address : ℕ) (sums part later : List ℕ) → SixteenBits (sumsAfterPart address sums part later)
 sixteen-after address sums part later p = by-place (ltb p (length sums)) refl
   where
-    by-place : (t : Bool) → ltb p (length sums) ≡ t → sumAt (sumsAfterPart address sums part later) p < sumSpan
+    by-place : (t : Bool) → ltb p (length sums) ≡ t → sumAt (sumsAfterPart address sums part later) p < sumModulus
     by-place true e =
         rw (sum-after address sums part later p (ltb-true p (length sums) e))
         (changed-below (sumAt sums p) (partSum p address part) (partSum p address later))
@@ -204,7 +205,7 @@ byte-summed address k v sums part words h =
 -- a sum changes, right or wrong before, by exactly what its page's bytes change
 pub exactly-changed : (sums memory later : List ℕ) (p : ℕ) → p < length sums
     → let sum = getD (sumsAfter sums memory later) p 0 in
-    (sum < sumSpan) × ((sum + pageSum p memory) % sumSpan ≡ (sumAt sums p + pageSum p later) % sumSpan)
+    (sum < sumModulus) × ((sum + pageSum p memory) % sumModulus ≡ (sumAt sums p + pageSum p later) % sumModulus)
 exactly-changed sums memory later p h =
     let e = sum-after 0 sums memory later p h in (
       rw e (changed-below (sumAt sums p) (pageSum p memory) (pageSum p later)),
@@ -214,7 +215,8 @@ exactly-changed sums memory later p h =
 -- and no other list of as many sums below 65,536 does
 pub alone-changed : (sums memory later l : List ℕ) → length l ≡ length sums
     → ((p : ℕ) → p < length sums
-    → (sumAt l p < sumSpan) × ((sumAt l p + pageSum p memory) % sumSpan ≡ (sumAt sums p + pageSum p later) % sumSpan))
+    → (sumAt l p < sumModulus) × ((sumAt l p + pageSum p memory) % sumModulus
+    ≡ (sumAt sums p + pageSum p later) % sumModulus))
     → l ≡ sumsAfter sums memory later
 alone-changed sums memory later l n h =
     sums-are 0 sums memory later l n

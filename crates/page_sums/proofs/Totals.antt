@@ -12,8 +12,9 @@ use lib.Seq.{drop-cons, ext-getD}
 use borrow.Author.Tests.{eq-eqb}
 use Rattle.bits.specs.Lists.{tabulate}
 use Rattle.bits.proofs.Tables.{upTo, getD-tabulate, length-tabulate}
-use Rattle.memory.specs.Memory.{memorySpan}
-use Rattle.page_sums.specs.PageSums.{totalOf, pageCount, pageLength, sumSpan, pageSum, sumAt, Right, totalAlong}
+use Rattle.memory.specs.Memory.{memoryLength}
+use Rattle.page_sums.specs.PageSums.{totalOf, pageCount, pageLength, sumModulus, pageSum, sumAt, Right}
+use Rattle.page_sums.specs.PageSums.{totalAlong}
 use Rattle.page_sums.specs.PageSums.{totalResult, totalCall}
 use Rattle.page_sums.proofs.Pages.{pages-total}
 
@@ -50,15 +51,16 @@ in-order sums =
     getD-tabulate (sumAt sums) (length sums) 0 p 0 i ∙ ap (sumAt sums) (zero-add p))
 
 -- the total of a list of sums does not depend on the order of the pages
-pub along-any : (order sums : List ℕ) → Perm order (upTo (length sums)) → totalAlong order sums ≡ totalOf sums % sumSpan
+pub along-any : (order sums : List ℕ) → Perm order (upTo (length sums))
+    → totalAlong order sums ≡ totalOf sums % sumModulus
 along-any order sums p =
-    ap (λ n. n % sumSpan)
+    ap (λ n. n % sumModulus)
     (total-permuted (sumAt sums) order (upTo (length sums)) p
     ∙ ap totalOf (own-order (sumAt sums) (length sums) 0 ∙ in-order sums))
 
 -- totals of numbers that are equal modulo 65,536
-total-alike : (f g : ℕ → ℕ) (n i : ℕ) → ((p : ℕ) → p < i + n → f p % sumSpan ≡ g p % sumSpan)
-    → totalOf (tabulate f n i) % sumSpan ≡ totalOf (tabulate g n i) % sumSpan
+total-alike : (f g : ℕ → ℕ) (n i : ℕ) → ((p : ℕ) → p < i + n → f p % sumModulus ≡ g p % sumModulus)
+    → totalOf (tabulate f n i) % sumModulus ≡ totalOf (tabulate g n i) % sumModulus
 unfolding totalOf
 total-alike f g zero i h = refl
 total-alike f g (suc n) i h =
@@ -68,23 +70,23 @@ total-alike f g (suc n) i h =
 
 -- right sums, of pages that reach beyond the memory
 pub right-total : (sums memory : List ℕ) → length memory ≤ pageLength * length sums → Right sums memory
-    → totalOf sums % sumSpan ≡ totalOf memory % sumSpan
+    → totalOf sums % sumModulus ≡ totalOf memory % sumModulus
 right-total sums memory h right =
-    ap (λ l. totalOf l % sumSpan) (sym (in-order sums))
+    ap (λ l. totalOf l % sumModulus) (sym (in-order sums))
     ∙ total-alike (sumAt sums) (λ p. pageSum p memory) (length sums) 0
     (λ p u. let e = right p (omega arith) in omega (arith, e))
-    ∙ ap (λ n. n % sumSpan) (pages-total (length sums) memory h)
+    ∙ ap (λ n. n % sumModulus) (pages-total (length sums) memory h)
 
 -- 02, U7: "Where all are right, the total taken from them in any order of pages equals the straight sum of all bytes
 -- modulo 65,536", for every permutation of 0 to 255
 pub any-order : (order sums memory : List ℕ) → Perm order (upTo pageCount) → length sums ≡ pageCount
-    → length memory ≡ memorySpan → Right sums memory
-    → totalAlong order sums ≡ totalOf memory % sumSpan
+    → length memory ≡ memoryLength → Right sums memory
+    → totalAlong order sums ≡ totalOf memory % sumModulus
 any-order order sums memory p n m right =
     along-any order sums (rw n p) ∙ right-total sums memory (omega arith) right
 
 -- and so does the call
-pub total-called : (sums memory : List ℕ) → length sums ≡ pageCount → length memory ≡ memorySpan → Right sums memory
-    → totalCall sums ≡ totalResult 0 (totalOf memory % sumSpan)
+pub total-called : (sums memory : List ℕ) → length sums ≡ pageCount → length memory ≡ memoryLength → Right sums memory
+    → totalCall sums ≡ totalResult 0 (totalOf memory % sumModulus)
 unfolding totalCall
 total-called sums memory n m right = rw (eq-eqb (length sums) pageCount n, right-total sums memory (omega arith) right)

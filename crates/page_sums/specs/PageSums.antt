@@ -6,7 +6,7 @@ use Prim.Native.Nat.{ℕ, _+_, _*_, _/_, _%_, _<_}
 use lib.Dec.{eqb}
 use lib.ListN.{length, getD}
 use Rattle.bits.specs.Lists.{tabulate}
-use Rattle.memory.specs.Memory.{memorySpan}
+use Rattle.memory.specs.Memory.{memoryLength}
 use Rattle.page_sums.specs.declared.TotalResult.{TotalResult}
 
 -- the sum of numbers
@@ -22,8 +22,8 @@ abbrev pub pageLength : ℕ
 pageLength = 256
 
 -- "each modulo 65,536"
-abbrev pub sumSpan : ℕ
-sumSpan = 65536
+abbrev pub sumModulus : ℕ
+sumModulus = 65536
 
 -- the page of an address
 abbrev pub pageOf : ℕ → ℕ
@@ -42,7 +42,7 @@ pageSum p memory = partSum p 0 memory
 -- page's bytes summed to `before` and then to `after`. Numbers have no sign: modulo 65,536 to add 65,535 times `before`
 -- is to take it off.
 unfoldable pub sumChanged : ℕ → ℕ → ℕ → ℕ
-sumChanged sum before after = (sum + after + 65535 * before) % sumSpan
+sumChanged sum before after = (sum + after + 65535 * before) % sumModulus
 
 -- sum p of a list
 abbrev pub sumAt : List ℕ → ℕ → ℕ
@@ -50,7 +50,7 @@ sumAt sums p = getD sums p 0
 
 -- "each modulo 65,536": every sum of a lent list of 16-bit numbers
 abbrev pub SixteenBits : List ℕ → Type 0
-SixteenBits sums = (p : ℕ) → sumAt sums p < sumSpan
+SixteenBits sums = (p : ℕ) → sumAt sums p < sumModulus
 
 -- sum p, where the part of memory from an address onward became another
 abbrev pub sumAfter : ℕ → List ℕ → List ℕ → List ℕ → ℕ → ℕ
@@ -66,16 +66,16 @@ sumsAfter sums memory later = sumsAfterPart 0 sums memory later
 
 -- "Where all are right": each is its page's sum, modulo 65,536
 abbrev pub Right : List ℕ → List ℕ → Type 0
-Right sums memory = (p : ℕ) → p < length sums → sumAt sums p ≡ pageSum p memory % sumSpan
+Right sums memory = (p : ℕ) → p < length sums → sumAt sums p ≡ pageSum p memory % sumModulus
 
 -- "the total taken from them in any order of pages": in this order
 abbrev pub totalAlong : List ℕ → List ℕ → ℕ
-totalAlong order sums = totalOf (map (sumAt sums) order) % sumSpan
+totalAlong order sums = totalOf (map (sumAt sums) order) % sumModulus
 
 -- "13: a page list not of 256 sums, like 1 and directly after it": of a call that is lent a memory of so many bytes and
 -- so many sums. A memory of another length is 1, which comes before.
 unfoldable pub pageListRefused : ℕ → ℕ → Bool
-pageListRefused memory sums = eqb memory memorySpan && not (eqb sums pageCount)
+pageListRefused memory sums = eqb memory memoryLength && not (eqb sums pageCount)
 
 -- what the call for the total hands back: the number, and the total
 abbrev pub totalResult : ℕ → ℕ → TotalResult
@@ -83,4 +83,4 @@ totalResult n t = record { number = n; total = t }
 
 -- the call for the total: "a page list not of 256 sums" is 13
 unfoldable pub totalCall : List ℕ → TotalResult
-totalCall sums = cond (eqb (length sums) pageCount) (totalResult 0 (totalOf sums % sumSpan)) (totalResult 13 0)
+totalCall sums = cond (eqb (length sums) pageCount) (totalResult 0 (totalOf sums % sumModulus)) (totalResult 13 0)

@@ -1,5 +1,5 @@
 // Page sums beside a memory: one commit of a byte to both, and the total (document 02, U7).
-use memory::MEMORY_SPAN;
+use memory::MEMORY_LENGTH;
 ghost use mathlib.Core.Path.{_≡_};
 ghost use Prim.Native.Nat.{_+_, _<_, _^_};
 ghost use lib.ListN.{length, set};
@@ -47,7 +47,7 @@ pub fn commit_byte(part: &mut [u8], address: usize, sums: &mut [u16], k: usize, 
 pub fn page_list_refused(memory: usize, sums: usize) -> bool
     ensures { λ r. ⌜ r ≡ pageListRefused memory sums ⌝ }
 {
-    (memory == MEMORY_SPAN) & (sums != PAGE_COUNT)
+    (memory == MEMORY_LENGTH) & (sums != PAGE_COUNT)
 }
 
 // The total of 256 page sums, modulo 65,536.

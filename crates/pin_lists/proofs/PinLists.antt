@@ -10,7 +10,7 @@ use lib.Dec.{ltb, eqb}
 use lib.ListN.{length, getD, drop}
 use borrow.Author.Tests.{ltb-true, eqb-true, eqb-false, lt-ltb}
 use Rattle.bits.proofs.Cond.{cond-both, and-left, and-right, and-both}
-use Rattle.pin_lists.specs.PinLists.{pinOf, codeRight, entryRight, restRight, pinsRight, dueCount}
+use Rattle.pin_lists.specs.PinLists.{pinOf, codeRight, entryRight, restRight, pinsRight, inputCount}
 
 module _ (lastPin : ℕ) where
   -- an entry behind another: its code is right, and its clock is not below the other's
@@ -93,16 +93,16 @@ module _ (lastPin : ℕ) where
 
   -- what is left of two lists once the inputs of clock c are read is right for c
   abbrev ReadRight : ℕ → List ℕ → List ℕ → Type 0
-  ReadRight c ts cs = pinsRight lastPin c (drop (dueCount c ts) ts) (drop (dueCount c ts) cs) ≡ true
+  ReadRight c ts cs = pinsRight lastPin c (drop (inputCount c ts) ts) (drop (inputCount c ts) cs) ≡ true
 
   -- it is, where the first entry is at c or later, and what is left of the others is
   read-first : (c t d : ℕ) (ts ds : List ℕ) → codeRight lastPin d ≡ true → c ≤ t
       → restRight lastPin t (pinOf d) ts ds ≡ true
       → (restRight lastPin c (pinOf d) ts ds ≡ true → ReadRight c ts ds) → ReadRight c (t ∷ ts) (d ∷ ds)
-  unfolding pinsRight dueCount
+  unfolding pinsRight inputCount
   read-first c t d ts ds code from rest others =
       cond-both (λ (n : ℕ). pinsRight lastPin c (drop n (t ∷ ts)) (drop n (d ∷ ds)) ≡ true) (eqb t c)
-      (suc (dueCount c ts)) 0
+      (suc (inputCount c ts)) 0
       (λ h. others (subst (λ (u : ℕ). restRight lastPin u (pinOf d) ts ds ≡ true) (eqb-true t c h) rest))
       (λ h.
       let other = eqb-false t c h in
@@ -111,7 +111,7 @@ module _ (lastPin : ℕ) where
       (and-both (codeRight lastPin d) (ltb c t) code (lt-ltb c t later)) rest)
 
   rest-read : (c p : ℕ) (ts cs : List ℕ) → restRight lastPin c p ts cs ≡ true → ReadRight c ts cs
-  unfolding restRight pinsRight dueCount
+  unfolding restRight pinsRight inputCount
   rest-read c p [] [] e = refl
   rest-read c p [] (d ∷ ds) e = absurd (false≢true e)
   rest-read c p (t ∷ ts) [] e = absurd (false≢true e)
@@ -122,8 +122,8 @@ module _ (lastPin : ℕ) where
 
   -- a clock done: a right list without that clock's inputs is right for that clock
   pub right-read : (c : ℕ) (ts cs : List ℕ) → pinsRight lastPin c ts cs ≡ true
-      → pinsRight lastPin (c + 1) (drop (dueCount (c + 1) ts) ts) (drop (dueCount (c + 1) ts) cs) ≡ true
-  unfolding pinsRight dueCount
+      → pinsRight lastPin (c + 1) (drop (inputCount (c + 1) ts) ts) (drop (inputCount (c + 1) ts) cs) ≡ true
+  unfolding pinsRight inputCount
   right-read c [] [] e = refl
   right-read c [] (d ∷ ds) e = absurd (false≢true e)
   right-read c (t ∷ ts) [] e = absurd (false≢true e)
@@ -133,7 +133,7 @@ module _ (lastPin : ℕ) where
       (rest-read (c + 1) (pinOf d) ts ds)
 
   -- a clock without inputs
-  pub right-unread : (c : ℕ) (ts cs : List ℕ) → pinsRight lastPin c ts cs ≡ true → dueCount (c + 1) ts ≡ 0
+  pub right-unread : (c : ℕ) (ts cs : List ℕ) → pinsRight lastPin c ts cs ≡ true → inputCount (c + 1) ts ≡ 0
       → pinsRight lastPin (c + 1) ts cs ≡ true
   right-unread c ts cs e none =
       subst (λ (k : ℕ). pinsRight lastPin (c + 1) (drop k ts) (drop k cs) ≡ true) none (right-read c ts cs e)
@@ -151,26 +151,27 @@ module _ (lastPin : ℕ) where
       (behind-first c t d ts ds e)
 
 -- the inputs of a clock are entries of the list, at that clock; the one behind them is not
-pub due-within : (c : ℕ) (ts : List ℕ) → dueCount c ts ≤ length ts
-unfolding dueCount
-due-within c [] = omega arith
-due-within c (t ∷ ts) =
-    cond-both (λ (n : ℕ). n ≤ suc (length ts)) (eqb t c) (suc (dueCount c ts)) 0 (λ h. omega (arith, due-within c ts))
+pub input-count-within : (c : ℕ) (ts : List ℕ) → inputCount c ts ≤ length ts
+unfolding inputCount
+input-count-within c [] = omega arith
+input-count-within c (t ∷ ts) =
+    cond-both (λ (n : ℕ). n ≤ suc (length ts)) (eqb t c) (suc (inputCount c ts)) 0
+    (λ h. omega (arith, input-count-within c ts))
     (λ h. omega arith)
 
-pub due-at : (c : ℕ) (ts : List ℕ) (k : ℕ) → k < dueCount c ts → getD ts k 0 ≡ c
-unfolding dueCount
-due-at c [] k h = absurd (not-suc-le-zero h)
-due-at c (t ∷ ts) zero h =
-    cond-both (λ (n : ℕ). 0 < n → t ≡ c) (eqb t c) (suc (dueCount c ts)) 0 (λ e _. eqb-true t c e)
+pub input-count-at : (c : ℕ) (ts : List ℕ) (k : ℕ) → k < inputCount c ts → getD ts k 0 ≡ c
+unfolding inputCount
+input-count-at c [] k h = absurd (not-suc-le-zero h)
+input-count-at c (t ∷ ts) zero h =
+    cond-both (λ (n : ℕ). 0 < n → t ≡ c) (eqb t c) (suc (inputCount c ts)) 0 (λ e _. eqb-true t c e)
     (λ _ l. absurd (not-suc-le-zero l)) h
-due-at c (t ∷ ts) (suc k) h =
-    cond-both (λ (n : ℕ). suc k < n → getD ts k 0 ≡ c) (eqb t c) (suc (dueCount c ts)) 0
-    (λ _ l. due-at c ts k (le-of-suc-le-suc l)) (λ _ l. absurd (not-suc-le-zero l)) h
+input-count-at c (t ∷ ts) (suc k) h =
+    cond-both (λ (n : ℕ). suc k < n → getD ts k 0 ≡ c) (eqb t c) (suc (inputCount c ts)) 0
+    (λ _ l. input-count-at c ts k (le-of-suc-le-suc l)) (λ _ l. absurd (not-suc-le-zero l)) h
 
-pub due-ends : (c : ℕ) (ts : List ℕ) → dueCount c ts < length ts → getD ts (dueCount c ts) 0 ≡ c → ⊥
-unfolding dueCount
-due-ends c [] h = absurd (not-suc-le-zero h)
-due-ends c (t ∷ ts) h =
-    cond-both (λ (n : ℕ). n < suc (length ts) → getD (t ∷ ts) n 0 ≡ c → ⊥) (eqb t c) (suc (dueCount c ts)) 0
-    (λ _ l. due-ends c ts (le-of-suc-le-suc l)) (λ e _. eqb-false t c e) h
+pub input-count-ends : (c : ℕ) (ts : List ℕ) → inputCount c ts < length ts → getD ts (inputCount c ts) 0 ≡ c → ⊥
+unfolding inputCount
+input-count-ends c [] h = absurd (not-suc-le-zero h)
+input-count-ends c (t ∷ ts) h =
+    cond-both (λ (n : ℕ). n < suc (length ts) → getD (t ∷ ts) n 0 ≡ c → ⊥) (eqb t c) (suc (inputCount c ts)) 0
+    (λ _ l. input-count-ends c ts (le-of-suc-le-suc l)) (λ e _. eqb-false t c e) h

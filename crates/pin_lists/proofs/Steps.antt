@@ -10,7 +10,7 @@ use lib.ListN.{length, getD, drop, drop-of-length-le}
 use lib.Seq.{drop-cons}
 use borrow.Author.Tests.{ltb-true, ltb-false, leb-true, lt-ltb, le-ltb, eq-eqb, ne-eqb}
 use Rattle.bits.proofs.Cond.{and-right}
-use Rattle.pin_lists.specs.PinLists.{pinOf, codeRight, entryRight, restRight, pinsRight, dueCount}
+use Rattle.pin_lists.specs.PinLists.{pinOf, codeRight, entryRight, restRight, pinsRight, inputCount}
 use Rattle.pin_lists.proofs.PinLists.{right-lengths}
 
 module _ (lastPin : ℕ) where
@@ -58,16 +58,17 @@ module _ (lastPin : ℕ) where
 
 module _ (c i : ℕ) (ts : List ℕ) where
   -- no entry is left
-  pub due-end : length ts ≤ i → dueCount c (drop i ts) ≡ 0
-  unfolding dueCount
-  due-end h = rw (drop-of-length-le ts h)
+  pub input-count-end : length ts ≤ i → inputCount c (drop i ts) ≡ 0
+  unfolding inputCount
+  input-count-end h = rw (drop-of-length-le ts h)
 
   -- an entry of another clock
-  pub due-other : i < length ts → (getD ts i 0 ≡ c → ⊥) → dueCount c (drop i ts) ≡ 0
-  unfolding dueCount
-  due-other h n = rw (drop-cons ts i 0 h, ne-eqb _ _ n)
+  pub input-count-other : i < length ts → (getD ts i 0 ≡ c → ⊥) → inputCount c (drop i ts) ≡ 0
+  unfolding inputCount
+  input-count-other h n = rw (drop-cons ts i 0 h, ne-eqb _ _ n)
 
   -- an entry of the clock
-  pub due-more : i < length ts → getD ts i 0 ≡ c → dueCount c (drop i ts) ≡ suc (dueCount c (drop (i + 1) ts))
-  unfolding dueCount
-  due-more h e = rw (drop-cons ts i 0 h, eq-eqb _ _ e, add-one i)
+  pub input-count-more : i < length ts → getD ts i 0 ≡ c
+      → inputCount c (drop i ts) ≡ suc (inputCount c (drop (i + 1) ts))
+  unfolding inputCount
+  input-count-more h e = rw (drop-cons ts i 0 h, eq-eqb _ _ e, add-one i)

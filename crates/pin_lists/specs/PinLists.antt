@@ -38,6 +38,6 @@ pinsRight lastPin clock (t ∷ ts) (code ∷ codes) =
     codeRight lastPin code && ltb clock t && restRight lastPin t (pinOf code) ts codes
 
 -- 01, One clock, 1: "inputs of that clock": how many entries at the front are of this clock
-unfoldable pub dueCount : ℕ → List ℕ → ℕ
-dueCount clock [] = 0
-dueCount clock (t ∷ ts) = cond (eqb t clock) (suc (dueCount clock ts)) 0
+unfoldable pub inputCount : ℕ → List ℕ → ℕ
+inputCount clock [] = 0
+inputCount clock (t ∷ ts) = cond (eqb t clock) (suc (inputCount clock ts)) 0

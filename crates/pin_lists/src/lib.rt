@@ -1,6 +1,6 @@
 // Pin lists: their codes, their rule, and the inputs of one clock.
 ghost use mathlib.Core.Path.{_≡_};
-ghost use Rattle.pin_lists.specs.PinLists.{codeRight, entryRight, pinsRight, dueCount};
+ghost use Rattle.pin_lists.specs.PinLists.{codeRight, entryRight, pinsRight, inputCount};
 
 // Whether a code is one of a pin list.
 fn is_code(lastpin: u8, code: u8) -> bool
@@ -41,8 +41,8 @@ pub fn pins_right(lastpin: u8, clock: u32, clocks: &[u32], codes: &[u8]) -> bool
 }
 
 // How many entries at the front of the list are inputs of this clock.
-pub fn inputs_due(clock: u32, clocks: &[u32]) -> usize
-    ensures { λ r. ⌜ r ≡ dueCount clock (now (clocks .entry)) ⌝ }
+pub fn input_count(clock: u32, clocks: &[u32]) -> usize
+    ensures { λ r. ⌜ r ≡ inputCount clock (now (clocks .entry)) ⌝ }
 {
     let mut i = 0;
     while i < clocks.len() {

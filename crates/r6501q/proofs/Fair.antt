@@ -9,7 +9,7 @@ use lib.Dec.{ltb, eqb}
 use lib.ListN.{length, drop}
 use borrow.Author.Tests.{eqb-true}
 use Rattle.refusals.specs.Refusals.{refusalOf}
-use Rattle.leaps.specs.Lists.{Call, countOf, callOf, Listed, listed, calls}
+use Rattle.leaps.specs.CallLists.{Call, countOf, callOf, Listed, listed, calls}
 use Rattle.leaps.specs.Calls.{callStart, refusedHanded, lentOf, afterCallOf, Room}
 use Rattle.leaps.proofs.Calls.{refusal-no-stop, refused-hands-on}
 use Rattle.r6501q_step.specs.R6501q.{World, Handed, Result, r6501qLimits, machine}
@@ -18,7 +18,8 @@ use Rattle.r6501q_host.specs.declared.HostState.{HostState}
 use Rattle.r6501q_host.specs.Host.{stateFromHost, haltOf, flagsFit, hostState}
 use Rattle.r6501q.specs.Calls.{HostWorld, HostHanded, worldFromHost, hostWorld, hostHandedOf, hostRefusalOf}
 use Rattle.r6501q.specs.Calls.{hostCall}
-use Rattle.r6501q.specs.Lists.{HostListed, hostCalled, hostCalls, hostResults, hostPlain, refusedEach, HostFair}
+use Rattle.r6501q.specs.CallLists.{HostListed, hostCalled, hostCalls, hostResults, hostPlain, refusedEach}
+use Rattle.r6501q.specs.CallLists.{HostFair}
 use Rattle.r6501q.proofs.Laws.{state-kept, state-fits, host-kept}
 
 -- ---- flags and none waiting fit
@@ -70,11 +71,11 @@ host-calls halt (c ∷ cs) w e = by-stop (eqb (w .stop) 0) refl (host-calls halt
 -- ---- a flag is above 1
 
 -- the number does not hang on the lists
-flag-number : (clock span : ℕ) (clocks codes : List ℕ) (times words times' words' n : ℕ)
-    → refusalOf r6501qLimits false clock span clocks codes times words n
-    ≡ refusalOf r6501qLimits false clock span clocks codes times' words' n
+flag-number : (clock bytes : ℕ) (clocks codes : List ℕ) (times words times' words' n : ℕ)
+    → refusalOf r6501qLimits false clock bytes clocks codes times words n
+    ≡ refusalOf r6501qLimits false clock bytes clocks codes times' words' n
 unfolding refusalOf
-flag-number clock span clocks codes times words times' words' n = refl
+flag-number clock bytes clocks codes times words times' words' n = refl
 
 refused-lent : (halt : ℕ) (c : Call) (w : HostWorld) → flagsFit (w .state) ≡ false
     → hostCalled halt c (lentOf w) ≡ refusedHanded (hostRefusalOf false (countOf c) w) (lentOf w)

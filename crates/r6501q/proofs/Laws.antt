@@ -7,12 +7,12 @@ use native.Mathlib.Omega.{arith}
 use lib.Dec.{leb, eqb}
 use lib.ListN.{length}
 use borrow.Author.Tests.{leb-true, eqb-true, eqb-false, eq-eqb}
-use Rattle.bits.specs.Bits.{digit}
+use Rattle.bits.specs.Bits.{oneWhere}
 use Rattle.bits.proofs.Cond.{and-left, and-right, and-both, cond-both}
-use Rattle.memory.specs.Memory.{memorySpan}
+use Rattle.memory.specs.Memory.{memoryLength}
 use Rattle.cpu_access.specs.declared.halt.Halt.{Halt}
 use Rattle.refusals.specs.Refusals.{refusalOf}
-use Rattle.leaps.specs.Lists.{Call, singleClock, runFor, countOf, callOf, stepOf, runOf}
+use Rattle.leaps.specs.CallLists.{Call, singleClock, runFor, countOf, callOf, stepOf, runOf}
 use Rattle.leaps.specs.Calls.{refusedHanded, refusalIn}
 use Rattle.r6501q_state.specs.declared.state.State.{State}
 use Rattle.r6501q_state.specs.State.{wellFormed}
@@ -28,19 +28,19 @@ use Rattle.r6501q_host.specs.declared.HostState.{HostState}
 use Rattle.r6501q_host.specs.Host.{flagOf, isFlag, waitingFromHost, levelsFromHost, stateFromHost, waitingFits}
 use Rattle.r6501q_host.specs.Host.{flagsFit, haltOf, hostWaiting, hostLevels, hostState}
 use Rattle.r6501q.specs.Calls.{HostWorld, hostWellFormed, worldFromHost, hostHandedOf, hostRefusalOf, hostCall}
-use Rattle.r6501q.specs.Lists.{hostCalled}
+use Rattle.r6501q.specs.CallLists.{hostCalled}
 
 -- a flag of the library, to the host and back
-pub flag-kept : (b : Bool) → flagOf (digit b) ≡ b
+pub flag-kept : (b : Bool) → flagOf (oneWhere b) ≡ b
 flag-kept true = refl
 flag-kept false = refl
 
-pub flag-fits : (b : Bool) → isFlag (digit b) ≡ true
+pub flag-fits : (b : Bool) → isFlag (oneWhere b) ≡ true
 flag-fits true = refl
 flag-fits false = refl
 
 -- a flag of the host, to the library and back
-pub flag-back : (b : ℕ) → isFlag b ≡ true → digit (flagOf b) ≡ b
+pub flag-back : (b : ℕ) → isFlag b ≡ true → oneWhere (flagOf b) ≡ b
 flag-back b e =
     cond-both (λ (x : ℕ). x ≡ b) (eqb b 1) 1 0 (λ (h : eqb b 1 ≡ true). sym (eqb-true b 1 h))
     (λ (h : eqb b 1 ≡ false). omega (arith, leb-true b 1 e, eqb-false b 1 h))
@@ -122,7 +122,7 @@ host-kept h e =
 
 -- a flag above 1, or a none that is not 0, 0, 0, is number 2, and everything is as it was
 pub flag-refused : (call : World → Handed) (n : ℕ) (w : HostWorld) → flagsFit (w .state) ≡ false
-    → length (w .memory) ≡ memorySpan
+    → length (w .memory) ≡ memoryLength
     → hostCall call n w ≡ refusedHanded 2 w
 unfolding hostCall refusalOf
 flag-refused call n w e m = rw (e, eq-eqb _ _ m)

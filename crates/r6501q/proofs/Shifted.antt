@@ -5,19 +5,19 @@ use mathlib.Core.List.{List, [], _∷_, map}
 use Prim.Native.Nat.{ℕ}
 use lib.Dec.{eqb}
 use Rattle.leaps.specs.Leaps.{plains, leapCount}
-use Rattle.leaps.specs.Lists.{Call, singleClock, runFor, countOf, callOf, Listed, calls}
+use Rattle.leaps.specs.CallLists.{Call, singleClock, runFor, countOf, callOf, Listed, calls}
 use Rattle.leaps.specs.Calls.{ResultOf, handedBackOf, refusalIn, Room}
 use Rattle.leaps.specs.Shifted.{shiftedResult, ShiftedWorld, ShiftedHanded, ShiftedListed, clockRefusal, RefusedAlike}
 use Rattle.leaps.specs.Shifted.{clocksFit}
 use Rattle.r6501q_state.specs.declared.state.State.{State}
-use Rattle.r6501q_step.specs.R6501q.{World, Handed, Result, r6501q, chip, machine}
+use Rattle.r6501q_step.specs.R6501q.{World, Handed, Result, r6501q, system, machine}
 use Rattle.r6501q_step.specs.Shifted.{shiftedState}
 use Rattle.r6501q_step.proofs.Shifted.{step-shifted, run-call-shifted}
 use Rattle.r6501q_run.proofs.Shifted.{list-shifted, run-past-last}
 use Rattle.r6501q_host.specs.declared.HostState.{HostState}
 use Rattle.r6501q_host.specs.Host.{stateFromHost, haltOf, flagsFit, hostState}
 use Rattle.r6501q.specs.Calls.{HostWorld, worldFromHost, hostWorld, hostResultOf, hostHandedOf, hostCall}
-use Rattle.r6501q.specs.Lists.{hostCalled, hostCalls, hostResults}
+use Rattle.r6501q.specs.CallLists.{hostCalled, hostCalls, hostResults}
 use Rattle.r6501q.specs.Shifted.{hostShifted}
 use Rattle.r6501q.proofs.Fair.{host-calls}
 
@@ -140,8 +140,8 @@ module _ (halt k : ℕ) (w v : HostWorld) (r : ShiftedWorld hostShifted k w v) (
     -- leaps, past the last clock too.
     pub host-run-past-last : (n : ℕ) → refusalIn (r6501q (haltOf halt)) n (worldFromHost w) ≡ 0
         → ShiftedHanded hostShifted k (hostCalled halt (runFor n) w)
-        (hostHandedOf (handedBackOf (leapCount (chip (haltOf halt)) n (worldFromHost v))
-        (plains (chip (haltOf halt)) n (worldFromHost v))))
+        (hostHandedOf (handedBackOf (leapCount (system (haltOf halt)) n (worldFromHost v))
+        (plains (system (haltOf halt)) n (worldFromHost v))))
     unfolding callOf
     host-run-past-last n accepted =
         rw (call-library halt (runFor n) w fits)

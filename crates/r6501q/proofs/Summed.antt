@@ -6,33 +6,33 @@ use Prim.Native.Nat.{ℕ, _+_, _%_, _<_}
 use native.Mathlib.Omega.{arith}
 use lib.ListN.{length}
 use borrow.Author.Tests.{ne-eqb}
-use Rattle.memory.specs.Memory.{memorySpan}
-use Rattle.page_sums.specs.PageSums.{pageCount, sumSpan, sumAt, pageSum, sumsAfter, SixteenBits, Right}
+use Rattle.memory.specs.Memory.{memoryLength}
+use Rattle.page_sums.specs.PageSums.{pageCount, sumModulus, sumAt, pageSum, sumsAfter, SixteenBits, Right}
 use Rattle.refusals.specs.Refusals.{refusalOf}
 use Rattle.leaps.specs.World.{runningIn}
-use Rattle.leaps.specs.Lists.{Call, countOf, listed}
+use Rattle.leaps.specs.CallLists.{Call, countOf, listed}
 use Rattle.leaps.specs.Calls.{callStart, refusedHanded, refusedWith, lentOf, afterCallOf, Room}
 use Rattle.leaps.specs.Summed.{ListedSums, withSums, listedSums, callsWithSums}
 use Rattle.leaps.proofs.Summed as theory
 use Rattle.r6501q_host.specs.declared.HostState.{HostState}
 use Rattle.r6501q_host.specs.Host.{flagsFit}
 use Rattle.r6501q.specs.Calls.{HostWorld, hostWellFormed, hostRefusalOf}
-use Rattle.r6501q.specs.Lists.{HostListed, hostCalled, hostCalls, hostPlain, refusedEach}
+use Rattle.r6501q.specs.CallLists.{HostListed, hostCalled, hostCalls, hostPlain, refusedEach}
 use Rattle.r6501q.proofs.Laws.{exported-refused}
 use Rattle.r6501q.proofs.Fair.{host-fair}
 
 -- "Over C 13 comes before a flag's 2", and whatever else does not fit
-pub thirteen-first : (halt : ℕ) (c : Call) (sums : List ℕ) (w : HostWorld) → length (w .memory) ≡ memorySpan
+pub thirteen-first : (halt : ℕ) (c : Call) (sums : List ℕ) (w : HostWorld) → length (w .memory) ≡ memoryLength
     → (length sums ≡ pageCount → ⊥) → withSums sums (hostCalled halt c) w ≡ refusedHanded 13 w
 thirteen-first halt c sums w m n = theory.list-next sums (hostCalled halt c) w m n
 
 -- a memory of another length is 1, whatever page list, flags and halt address
-memory-number : (formed : Bool) (n : ℕ) (w : HostWorld) → (length (w .memory) ≡ memorySpan → ⊥)
+memory-number : (formed : Bool) (n : ℕ) (w : HostWorld) → (length (w .memory) ≡ memoryLength → ⊥)
     → hostRefusalOf formed n w ≡ 1
 unfolding refusalOf
-memory-number formed n w m = rw (ne-eqb (length (w .memory)) memorySpan m)
+memory-number formed n w m = rw (ne-eqb (length (w .memory)) memoryLength m)
 
-pub one-first : (halt : ℕ) (c : Call) (sums : List ℕ) (w : HostWorld) → (length (w .memory) ≡ memorySpan → ⊥)
+pub one-first : (halt : ℕ) (c : Call) (sums : List ℕ) (w : HostWorld) → (length (w .memory) ≡ memoryLength → ⊥)
     → withSums sums (hostCalled halt c) w ≡ refusedHanded 1 w
 one-first halt c sums w m =
     let one = memory-number (hostWellFormed (w .state)) (countOf c) w m in
@@ -84,9 +84,9 @@ module _ (halt : ℕ) (cs : List Call) (sums : List ℕ) (w : HostWorld) where
 
   -- each sum changes, right or wrong before, by exactly what its page's bytes change over the list
   pub host-exactly : length sums ≡ pageCount → SixteenBits sums → (p : ℕ) → p < pageCount
-      → (sumAt (end .sums) p < sumSpan)
-      × ((sumAt (end .sums) p + pageSum p (w .memory)) % sumSpan
-      ≡ (sumAt sums p + pageSum p (end .list .world .memory)) % sumSpan)
+      → (sumAt (end .sums) p < sumModulus)
+      × ((sumAt (end .sums) p + pageSum p (w .memory)) % sumModulus
+      ≡ (sumAt sums p + pageSum p (end .list .world .memory)) % sumModulus)
   host-exactly n words p h =
       theory.list-exactly (hostCalled halt) (hostCalls halt) (hosts-none halt) (hosts-over halt) (hosts-next halt) cs
       sums w n words p h
@@ -99,13 +99,13 @@ module _ (halt : ℕ) (cs : List Call) (sums : List ℕ) (w : HostWorld) where
       cs sums w n words right
 
   -- with another number each is refused by 13 and hands on
-  pub host-thirteen-hands-on : length (w .memory) ≡ memorySpan → (length sums ≡ pageCount → ⊥) → SixteenBits sums
+  pub host-thirteen-hands-on : length (w .memory) ≡ memoryLength → (length sums ≡ pageCount → ⊥) → SixteenBits sums
       → w .stop ≡ 0
       → end ≡ listedSums (record { world = w; results = map (λ (c : Call). refusedWith 13 (w .state)) cs }) sums
   host-thirteen-hands-on m n words on = theory.calls-refused (hostCalled halt) sums w m n words on cs
 
   -- one such call before any list of calls: it is refused, and the list goes on from the same world, with the same sums
-  pub host-thirteen-next : length (w .memory) ≡ memorySpan → (length sums ≡ pageCount → ⊥) → SixteenBits sums
+  pub host-thirteen-next : length (w .memory) ≡ memoryLength → (length sums ≡ pageCount → ⊥) → SixteenBits sums
       → w .stop ≡ 0
       → (c : Call)
       → callsWithSums (hostCalled halt) (c ∷ cs) sums w
@@ -113,7 +113,7 @@ module _ (halt : ℕ) (cs : List Call) (sums : List ℕ) (w : HostWorld) where
   host-thirteen-next m n words on c = theory.thirteen-next (hostCalled halt) sums w m n words on c cs
 
   -- with a memory of another length it is 1, whatever the page list
-  pub host-one-hands-on : (length (w .memory) ≡ memorySpan → ⊥) → SixteenBits sums → w .stop ≡ 0
+  pub host-one-hands-on : (length (w .memory) ≡ memoryLength → ⊥) → SixteenBits sums → w .stop ≡ 0
       → end ≡ listedSums (record { world = w; results = map (λ (c : Call). refusedWith 1 (w .state)) cs }) sums
   host-one-hands-on m words on =
       theory.calls-refused-by (hostCalled halt) 1 theory.one-no-stop cs sums w (λ c. one-first halt c sums (lentOf w) m)

@@ -1,3 +1,3 @@
 pub mod Calls
-pub mod Lists
+pub mod CallLists
 pub mod Shifted

@@ -1,10 +1,10 @@
 // The library for programs in C and Rust. A struct goes by value, a lent slice as a pointer and then its length.
 ghost use mathlib.Core.Path.{_≡_};
 ghost use mathlib.Core.Bool.{false};
-ghost use Rattle.bits.specs.Bits.{digit};
+ghost use Rattle.bits.specs.Bits.{oneWhere};
 ghost use Rattle.page_sums.specs.PageSums.{sumsAfter};
 ghost use Rattle.refusals.specs.Refusals.{refusalOf};
-ghost use Rattle.leaps.specs.Lists.{stepOf, runOf, plainRunOf};
+ghost use Rattle.leaps.specs.CallLists.{stepOf, runOf, plainRunOf};
 ghost use Rattle.leaps.specs.Lent.{atEntry};
 ghost use Rattle.leaps.specs.Summed.{withSums};
 ghost use Rattle.r6501q_state.specs.State.{fresh};
@@ -13,7 +13,7 @@ ghost use Rattle.r6501q_host.specs.Host.{haltOf, hostState};
 ghost use Rattle.r6501q.specs.Calls.{hostRefused};
 ghost use Rattle.r6501q.specs.Calls.{hostWellFormed, hostCall, hostLoad, hostLoadWithSums, hostLoaded, hostTotal};
 ghost use Rattle.r6501q.specs.Calls.{hostLatch, hostAtExit};
-use bits::digit8;
+use bits::one_where;
 use page_sums::WRONG_PAGE_LIST;
 use page_sums::page_list_refused;
 use r6501q_host::HostLatchResult;
@@ -38,21 +38,21 @@ use refusals::refusal;
 // a state that is not well-formed.
 fn flag_refused(
     state: HostState,
-    span: usize,
+    bytes: usize,
     inputclocks: &[u32],
     inputcodes: &[u8],
     outputclocks: usize,
     outputwords: usize,
     n: u32,
 ) -> HostResult
-    ensures { λ r. ⌜ r ≡ hostRefused (refusalOf r6501qLimits false (state .clock) span (now (inputclocks .entry))
+    ensures { λ r. ⌜ r ≡ hostRefused (refusalOf r6501qLimits false (state .clock) bytes (now (inputclocks .entry))
         (now (inputcodes .entry)) outputclocks outputwords n) state ⌝ }
 {
     let number = refusal(
         limits(),
         false,
         state.clock,
-        span,
+        bytes,
         inputclocks,
         inputcodes,
         outputclocks,
@@ -92,10 +92,10 @@ pub extern "C" fn r6501q_fresh() -> HostState
 // 1 where every field is within its range, 0 where one is not.
 #[no_mangle]
 pub extern "C" fn r6501q_well_formed(state: HostState) -> u8
-    ensures { λ r. ⌜ r ≡ digit (hostWellFormed state) ⌝ }
+    ensures { λ r. ⌜ r ≡ oneWhere (hostWellFormed state) ⌝ }
 {
     let fit = flags_fit(state) & well_formed(state_of(state));
-    digit8(fit)
+    one_where(fit)
 }
 
 // The single-clock call. `halt` is the halt address; above 65,535: none.

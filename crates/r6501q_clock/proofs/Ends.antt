@@ -12,7 +12,7 @@ use Rattle.r6501q_state.specs.State.{wellFormed}
 use Rattle.r6501q_state.specs.Pins.{drivenWord}
 use Rattle.cpu_access.specs.declared.stack.Write.{Write}
 use Rattle.cpu_access.specs.declared.stack.Writes.{Writes}
-use Rattle.cpu.specs.Sequence.{undefinedStop}
+use Rattle.cpu.specs.InstructionAccesses.{undefinedStop}
 use Rattle.r6501q_cpu.specs.declared.Next.{Next}
 use Rattle.r6501q_cpu.specs.declared.Processed.{Processed}
 use Rattle.r6501q_cpu.specs.declared.Processed.the-variants as processed

@@ -2,7 +2,7 @@
 // clock").
 ghost use mathlib.Core.Path.{_≡_};
 ghost use Prim.Native.Nat.{_<_};
-ghost use Rattle.cpu_opcodes.specs.Table.{opcodeTable};
+ghost use Rattle.cpu_opcodes.specs.TableInCode.{opcodeTable};
 ghost use Rattle.refusals.specs.Refusals.{lastClock};
 ghost use Rattle.r6501q_clock.specs.Clock.{withInputs, countA, countB, sentBy, heardBy, peripheralsClock};
 ghost use Rattle.r6501q_clock.specs.Clock.{readyOf};

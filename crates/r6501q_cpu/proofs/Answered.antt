@@ -23,14 +23,15 @@ use Rattle.cpu_access.specs.Accesses.{valueRead, performed, inOrder}
 use Rattle.cpu_access.proofs.Asked.{Reply, asks, over, asked}
 use Rattle.cpu_access.proofs.Answering.{allWritten, performs}
 use Rattle.cpu_effects.specs.Effects.{pushesOf, waitingOf, interrupted}
-use Rattle.cpu.specs.Entries.{resetEntry, interruptEntry}
+use Rattle.cpu.specs.EntriesInCode.{resetEntry, interruptEntry}
 use Rattle.cpu.specs.declared.Outcome.{Outcome}
 use Rattle.cpu.specs.declared.Outcome.the-variants as outcome
-use Rattle.cpu.specs.Instruction.{instructionOf}
-use Rattle.cpu.specs.Sequence.{Conclusion, Ending, undefined, leaves, undefinedStop, entryAccesses, instructionAccesses}
-use Rattle.cpu.specs.Sequence.{resetAccesses, interruptAccesses}
+use Rattle.cpu.specs.InstructionInCode.{instructionOf}
+use Rattle.cpu.specs.InstructionAccesses.{Conclusion, Ending, undefined, leaves, undefinedStop, entryAccesses}
+use Rattle.cpu.specs.InstructionAccesses.{instructionAccesses}
+use Rattle.cpu.specs.InstructionAccesses.{resetAccesses, interruptAccesses}
 use Rattle.cpu.proofs.Laws.{done-fits, asked-writes, asks-end}
-use Rattle.cpu.proofs.Sequence.{pushes-as, waiting-as, workedOf, outcomeFrom, unpushed, instruction-asked}
+use Rattle.cpu.proofs.InstructionAccesses.{pushes-as, waiting-as, workedOf, outcomeFrom, unpushed, instruction-asked}
 use Rattle.r6501q_cpu.specs.declared.Processed.{Processed}
 use Rattle.r6501q_cpu.specs.declared.Processed.the-variants.{Stopped, Done}
 use Rattle.r6501q_cpu.specs.declared.Round.the-variants.{Over, Answered}
@@ -83,27 +84,27 @@ module _ (s : State) (memory : List ℕ) where
       (round-at p answers (over (leaves l) ws) e)
       ∙ rw (waiting-as (l .waiting) ws (fits .writes), pushes, all-after (s .last .ports) p ws few) refl
 
-  asks-from : (n : ℕ) (p : Peripherals) (answers : List ℕ) (latch : Bool) (a : ℕ) (ws : List Write)
-      → round answers ≡ asks latch a ws
+  asks-from : (n : ℕ) (p : Peripherals) (answers : List ℕ) (modify : Bool) (a : ℕ) (ws : List Write)
+      → round answers ≡ asks modify a ws
       → instructionFrom (Stopped undefinedStop) (suc n) s p answers memory
       ≡ instructionFrom (Stopped undefinedStop) n s (afterRead p a)
-      (answers ++ (registerValue (allWritten file p ws) (s .last .ports) latch a ∷ [])) memory
+      (answers ++ (registerValue (allWritten file p ws) (s .last .ports) modify a ∷ [])) memory
   unfolding answerOf
-  asks-from n p answers latch a ws e =
-      let few = asked-writes registers answers memory _ (outcome-at answers (asks latch a ws) e) in
+  asks-from n p answers modify a ws e =
+      let few = asked-writes registers answers memory _ (outcome-at answers (asks modify a ws) e) in
       round-answered (Stopped undefinedStop) s p answers memory (suc n) n _ refl
-      (round-at p answers (asks latch a ws) e)
+      (round-at p answers (asks modify a ws) e)
       ∙ rw (all-after (s .last .ports) p ws few) refl
 
-  bound : (answers : List ℕ) (latch : Bool) (a : ℕ) (ws : List Write) → round answers ≡ asks latch a ws
+  bound : (answers : List ℕ) (modify : Bool) (a : ℕ) (ws : List Write) → round answers ≡ asks modify a ws
       → length answers < 5
-  bound answers latch a ws e = by-length (ltb (length answers) 5) refl
+  bound answers modify a ws e = by-length (ltb (length answers) 5) refl
     where
       by-length : (t : Bool) → ltb (length answers) 5 ≡ t → length answers < 5
       by-length true t = ltb-true (length answers) 5 t
       by-length false t =
           absurd (asks-end registers answers memory (ltb-false (length answers) 5 t) _
-          (outcome-at answers (asks latch a ws) e))
+          (outcome-at answers (asks modify a ws) e))
 
   -- one whole instruction
   pub instruction-answered : wholeInstruction s memory ≡ answeredInstruction s memory

@@ -10,8 +10,8 @@ use Rattle.r6501q_registers.specs.declared.read.Reading.{Reading}
 use Rattle.cpu.specs.declared.Ask.{Ask}
 use Rattle.cpu.specs.declared.Outcome.{Outcome}
 use Rattle.cpu.specs.declared.Outcome.the-variants as outcome
-use Rattle.cpu.specs.Instruction.{instructionOf}
-use Rattle.cpu.specs.Sequence.{undefinedStop}
+use Rattle.cpu.specs.InstructionInCode.{instructionOf}
+use Rattle.cpu.specs.InstructionAccesses.{undefinedStop}
 use Rattle.cpu.proofs.Laws.{asks-end}
 use Rattle.r6501q_cpu.specs.declared.Processed.{Processed}
 use Rattle.r6501q_cpu.specs.declared.Processed.the-variants.{Stopped}

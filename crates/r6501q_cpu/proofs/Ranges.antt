@@ -6,8 +6,8 @@ use Prim.Native.Nat.{ℕ, zero, suc, _+_, _-_, _*_, _/_, _%_, _≤_, _<_}
 use native.Mathlib.Omega.{arith}
 use lib.Dec.{ltb, leb, eqb}
 use borrow.Author.Tests.{eq-eqb, ne-eqb, le-leb, leb-true, eqb-true, eqb-false, ltb-true}
-use Rattle.bits.specs.Bits.{digit}
-use Rattle.bits.proofs.Cond.{cond-both, digit-le}
+use Rattle.bits.specs.Bits.{oneWhere}
+use Rattle.bits.proofs.Cond.{cond-both, one-where-le}
 use Rattle.cpu_alu.specs.declared.Status.{Status}
 use Rattle.cpu_alu.specs.Status.{packed}
 use Rattle.r6501q_state.specs.declared.state.Cpu.{Cpu}
@@ -34,10 +34,10 @@ use Rattle.cpu_effects.specs.declared.Worked.{Worked}
 use Rattle.cpu_effects.specs.Effects.{interrupted, pushesOf, waitingOf}
 use Rattle.cpu.specs.declared.Outcome.{Outcome}
 use Rattle.cpu.specs.declared.Outcome.the-variants as outcome
-use Rattle.cpu.specs.Entries.{resetEntry, interruptEntry}
+use Rattle.cpu.specs.EntriesInCode.{resetEntry, interruptEntry}
 use Rattle.cpu_access.specs.Bus.{nmiVector, irqVector}
-use Rattle.cpu.specs.Instruction.{instructionOf}
-use Rattle.cpu.specs.Sequence.{undefinedStop}
+use Rattle.cpu.specs.InstructionInCode.{instructionOf}
+use Rattle.cpu.specs.InstructionAccesses.{undefinedStop}
 use Rattle.cpu.proofs.Laws.{Fits, done-fits}
 use Rattle.r6501q_cpu.specs.declared.Next.{Next}
 use Rattle.r6501q_cpu.specs.declared.Processed.{Processed}
@@ -53,8 +53,8 @@ use Rattle.r6501q_cpu.proofs.Answered.{instruction-answered, reset-answ
 packed-clear : (s : Status) → packed s / 16 % 4 ≡ 0
 unfolding packed
 packed-clear s =
-    let n = digit-le (s .n) in let v = digit-le (s .v) in let d = digit-le (s .d) in
-    let i = digit-le (s .i) in let z = digit-le (s .z) in let c = digit-le (s .c) in
+    let n = one-where-le (s .n) in let v = one-where-le (s .v) in let d = one-where-le (s .d) in
+    let i = one-where-le (s .i) in let z = one-where-le (s .z) in let c = one-where-le (s .c) in
     omega arith
 
 pub never-both : (b : Bool) → (b && false) ≡ false

@@ -23,7 +23,8 @@ use Rattle.cpu_access.specs.Accesses.{ends, byteAfter, peripheralsRead, valueRe
 use Rattle.cpu_access.specs.Bus.{nextAddress}
 use Rattle.cpu_effects.specs.Effects.{withPc}
 use Rattle.cpu_kinds.proofs.Flags.{Kept}
-use Rattle.cpu.specs.Sequence.{Conclusion, Ending, leaves, operationAccesses, opcodeAccesses, instructionAccesses}
+use Rattle.cpu.specs.InstructionAccesses.{Conclusion, Ending, leaves, operationAccesses, opcodeAccesses}
+use Rattle.cpu.specs.InstructionAccesses.{instructionAccesses}
 use Rattle.cpu.proofs.Laws.{storesOf, entry-fits}
 use Rattle.cpu.proofs.Conclusions.{Concludes, ends-then, performed-ends, operation-concludes}
 use Rattle.r6501q_state.specs.declared.state.Peripherals.{Peripherals}
@@ -39,7 +40,7 @@ use Rattle.r6501q_cpu.proofs.Undefined.{decodedBy, by-opcode}
 -- ---- the first clock
 
 -- an end that leaves something, by its opcode's row e; s: the flags before
-record Left (e : Entry) (s : Status) (pushes : List Write) (x : Ending) : Type 0 where
+record Concluding (e : Entry) (s : Status) (pushes : List Write) (x : Ending) : Type 0 where
   conclusion : Conclusion
   is : x ≡ leaves conclusion
   so : Concludes (e .operation) (e .mode) (e .length) s pushes conclusion
@@ -78,24 +79,25 @@ instruction-begun s memory e d =
     let t = operationAccesses (e .operation) (e .mode) (e .length) r in
     let whole = opcodeAccesses r (decoded.Defined e) in
     let x : Performed Peripherals Ending = performed file memory p [] whole in
-    let left : Left e (r .status) (x .writes) (x .end) =
-    performed-ends file memory (Left e (r .status)) p [] whole
-    (ends-then (Concludes (e .operation) (e .mode) (e .length) (r .status)) (Left e (r .status)) t
+    let concluding : Concluding e (r .status) (x .writes) (x .end) =
+    performed-ends file memory (Concluding e (r .status)) p [] whole
+    (ends-then (Concludes (e .operation) (e .mode) (e .length) (r .status)) (Concluding e (r .status)) t
     (λ l. ends (leaves l)) []
     (operation-concludes (e .mode) (e .length) r (e .operation))
     (λ ws l so. record { conclusion = l; is = refl; so = so })) in
-    let l = left .conclusion in
-    let c = left .so in
+    let l = concluding .conclusion in
+    let c = concluding .so in
     let fits = entry-fits (opcodeAt s memory) e d in
     record {
       next = nextAfter s (s .due) (record { end = l; peripherals = x .peripherals; writes = x .writes });
       done =
-          by-opcode s memory ∙ ap (decodedBy s memory) d ∙ ap (processedBy s (x .peripherals) (x .writes)) (left .is);
+          by-opcode s memory ∙ ap (decodedBy s memory) d ∙ ap (processedBy s (x .peripherals) (x .writes))
+          (concluding .is);
       conclusion = l;
       ended =
           ap (λ (y : Performed Peripherals Ending). y .end)
           (accesses-after s memory ∙ ap (λ (y : Decoded). performed file memory p [] (opcodeAccesses r y)) d)
-          ∙ left .is;
+          ∙ concluding .is;
       cpu = refl;
       flags = c .flags;
       waits = c .waits;

@@ -18,8 +18,9 @@ use Rattle.cpu_access.specs.Accesses.{Accesses, ends, reads, writes, _>>=_, Reg
 use Rattle.cpu_access.specs.Accesses.{valueRead, performed}
 use Rattle.cpu_access.specs.Bus.{nextAddress}
 use Rattle.cpu_effects.specs.Effects.{withPc}
-use Rattle.cpu.specs.Sequence.{Conclusion, Ending, undefined, leaves, undefinedStop, operationAccesses, opcodeAccesses}
-use Rattle.cpu.specs.Sequence.{instructionAccesses}
+use Rattle.cpu.specs.InstructionAccesses.{Conclusion, Ending, undefined, leaves, undefinedStop, operationAccesses}
+use Rattle.cpu.specs.InstructionAccesses.{opcodeAccesses}
+use Rattle.cpu.specs.InstructionAccesses.{instructionAccesses}
 use Rattle.r6501q_cpu.specs.declared.Processed.{Processed}
 use Rattle.r6501q_cpu.specs.declared.Processed.the-variants.{Stopped, Done}
 use Rattle.r6501q_cpu.specs.Processor.{registersOf, registerFile, performedIn, processedBy, processedAfter}
@@ -46,13 +47,13 @@ undefined-opcode s memory e = by-opcode s memory ∙ ap (decodedBy s memory) e
 
 -- what leaves something, performed, ends with what it leaves
 module _ {P : Type 0} (file : RegisterFile P) (memory : List ℕ) where
-  ends-left : (t : Accesses Conclusion) (p : P) (before : List Write)
+  ends-leaving : (t : Accesses Conclusion) (p : P) (before : List Write)
       → performed file memory p before (t >>= (λ l. ends (leaves l))) .end
       ≡ leaves (performed file memory p before t .end)
   unfolding performed
-  ends-left (ends l) p before = refl
-  ends-left (reads latch a go) p before = ends-left (go _) _ before
-  ends-left (writes a v t) p before = ends-left t _ _
+  ends-leaving (ends l) p before = refl
+  ends-leaving (reads modify a go) p before = ends-leaving (go _) _ before
+  ends-leaving (writes a v t) p before = ends-leaving t _ _
 
 -- what is not undefined
 abbrev Concluded : Processed → Type 0
@@ -72,7 +73,7 @@ defined-opcode s memory e number defined same =
     let t =
     operationAccesses (e .operation) (e .mode) (e .length) (withPc (nextAddress (s .cpu .pc)) (registersOf (s .cpu))) in
     let done : Concluded (decodedBy s memory (decoded.Defined e)) =
-    concluded s _ _ _ _ (ends-left file memory t (peripheralsRead file (s .peripherals) (s .cpu .pc)) []) in
+    concluded s _ _ _ _ (ends-leaving file memory t (peripheralsRead file (s .peripherals) (s .cpu .pc)) []) in
     subst Concluded (sym (ap (decodedBy s memory) defined) ∙ sym (by-opcode s memory) ∙ same) done
 
 -- a stop is that of an undefined opcode

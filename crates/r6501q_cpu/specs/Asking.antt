@@ -18,8 +18,8 @@ use Rattle.cpu_effects.specs.Effects.{pushesOf, waitingOf}
 use Rattle.cpu.specs.declared.Ask.{Ask}
 use Rattle.cpu.specs.declared.Outcome.{Outcome}
 use Rattle.cpu.specs.declared.Outcome.the-variants as outcome
-use Rattle.cpu.specs.Instruction.{instructionOf}
-use Rattle.cpu.specs.Sequence.{undefinedStop}
+use Rattle.cpu.specs.InstructionInCode.{instructionOf}
+use Rattle.cpu.specs.InstructionAccesses.{undefinedStop}
 use Rattle.r6501q_cpu.specs.declared.Next.{Next}
 use Rattle.r6501q_cpu.specs.declared.Processed.{Processed}
 use Rattle.r6501q_cpu.specs.declared.Processed.the-variants.{Stopped, Done}
@@ -40,7 +40,7 @@ registersAfter p w = eachWrite putRegister w p
 -- (`read-write-commute` of `r6501q_registers/proofs/Order.antt`).
 unfoldable pub answerOf : Peripherals → ℕ → Ask → Reading
 answerOf p levels ask = record {
-  value = registerValue (registersAfter p (ask .writes)) levels (ask .latch) (ask .address);
+  value = registerValue (registersAfter p (ask .writes)) levels (ask .modify) (ask .address);
   peripherals = afterRead p (ask .address);
 }
 

@@ -21,8 +21,9 @@ use Rattle.cpu_access.specs.Stack.{noWrites, oneWrite}
 use Rattle.cpu_access.specs.declared.waiting.Waiting.{Waiting}
 use Rattle.cpu_access.specs.declared.waiting.Waiting.the-variants.{Nothing, Byte}
 use Rattle.cpu_access.specs.Accesses.{Accesses, RegisterFile, Performed, peripheralsWritten, performed, inOrder}
-use Rattle.cpu.specs.Sequence.{Conclusion, Ending, undefined, leaves, undefinedStop, instructionAccesses, resetAccesses}
-use Rattle.cpu.specs.Sequence.{interruptAccesses}
+use Rattle.cpu.specs.InstructionAccesses.{Conclusion, Ending, undefined, leaves, undefinedStop, instructionAccesses}
+use Rattle.cpu.specs.InstructionAccesses.{resetAccesses}
+use Rattle.cpu.specs.InstructionAccesses.{interruptAccesses}
 use Rattle.r6501q_cpu.specs.declared.Next.{Next}
 use Rattle.r6501q_cpu.specs.declared.Processed.{Processed}
 use Rattle.r6501q_cpu.specs.declared.Processed.the-variants.{Stopped, Done}
@@ -48,7 +49,7 @@ cpuOf r wait waiting =
 -- the register file, with step 1's levels
 abbrev pub registerFile : ℕ → RegisterFile Peripherals
 registerFile levels = record {
-  value = λ (p : Peripherals) (latch : Bool) (a : ℕ). registerValue p levels latch a;
+  value = λ (p : Peripherals) (modify : Bool) (a : ℕ). registerValue p levels modify a;
   afterRead = afterRead;
   afterWrite = writeOf;
 }

@@ -2,7 +2,7 @@
 ghost use mathlib.Core.Path.{_≡_};
 ghost use mathlib.Core.List.{[]};
 ghost use Prim.Native.Nat.{_<_};
-ghost use Rattle.cpu_opcodes.specs.Table.{opcodeTable};
+ghost use Rattle.cpu_opcodes.specs.TableInCode.{opcodeTable};
 ghost use Rattle.r6501q_cpu.specs.Processor.{registersOf, cpuOf, irqDue, resetStart, nmiStart, irqStart, startOf};
 ghost use Rattle.r6501q_cpu.specs.Processor.{withoutWrites, waitLess, bytePut, waitedBy, processorOf};
 ghost use Rattle.r6501q_cpu.specs.Asking.{putRegister, registersAfter, answerOf, nextOf, roundOf};
@@ -120,7 +120,7 @@ fn answer(p: Peripherals, levels: u32, ask: Ask) -> Reading
 {
     let after = registers_after(p, ask.writes);
     Reading {
-        value: r6501q_registers::read::value(after, levels, ask.latch, ask.address),
+        value: r6501q_registers::read::value(after, levels, ask.modify, ask.address),
         peripherals: r6501q_registers::read::after_read(p, ask.address),
     }
 }

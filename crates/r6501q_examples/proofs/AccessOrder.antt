@@ -6,13 +6,13 @@ use Prim.Native.Nat.{ℕ, zero, suc, _+_}
 use Rattle.bits.specs.Bits.{bit}
 use Rattle.bits.specs.Lists.{tabulate}
 use Rattle.bits.specs.Bits.{withBit, setWhere, flipWhere}
-use Rattle.pin_lists.specs.PinLists.{dueCount}
+use Rattle.pin_lists.specs.PinLists.{inputCount}
 use Rattle.counters.specs.Counters.{ticksOf, inForce, downA, countsA, clockA, lowerA, upperA, loadCounterA, reloadB}
 use Rattle.counters.specs.Counters.{downB, clockB, lowerB, upperB, copyB, loadCounterB, turnToC}
 use Rattle.serial_format.specs.Format.{transmitterAsynchronous, receiverAsynchronous, receiverShifting, holdsA}
 use Rattle.serial_format.specs.Format.{keepsTransmitter, keepsReceiver, parityBit, frameBits, pace}
 use Rattle.serial.specs.Transmitter.{sentBits}
-use Rattle.serial.specs.Receiver.{startDetected, withLevel, receivedByte, wrongParity, statusAfter, keptWith}
+use Rattle.serial.specs.Receiver.{startDetected, withLevel, receivedByte, wrongParity, scsrAfter, keptWith}
 use Rattle.serial.specs.Receiver.{frameEnded, lookTaken, looked, receiveTick, shiftedAtRise, byteEnded, receiveRise}
 use Rattle.serial.specs.Receiver.{receiverClock, receiverWithSccr}
 use Rattle.serial.specs.Transmitter.{framed, taken, idleTick, frameEnd, nextPhase, ticked, bitTick, sendTick}
@@ -27,13 +27,16 @@ use Rattle.cpu_access.specs.Bus.{memoryByte}
 use Rattle.cpu_access.specs.declared.waiting.Waiting.the-variants.{Nothing, Byte}
 use Rattle.cpu_access.specs.Waiting.{byteWaits}
 use Rattle.cpu_access.specs.Accesses.{byteAfter, peripheralsRead, peripheralsWritten, valueRead, performed, inOrder}
-use Rattle.cpu_modes.specs.Operands.{located}
+use Rattle.cpu_modes.specs.ModeAccesses.{located}
 use Rattle.cpu_modes.specs.Modes.{displacement}
 use Rattle.cpu_kinds.specs.Kinds.{withRead, changedBy, byteToStore, branchTaken, bitBranchTaken, byteToPush}
 use Rattle.cpu_kinds.specs.Kinds.{withPulled, withRegister, withFlag}
-use Rattle.cpu.specs.Sequence.{completion, storeAt, modifyAccesses, branchOn, bitBranchAccesses, jumpTo, pushAccesses}
-use Rattle.cpu.specs.Sequence.{pullAccesses, returnAccesses, interruptReturnAccesses, entryAccesses, breakAccesses}
-use Rattle.cpu.specs.Sequence.{callAccesses, operationAccesses, instructionAccesses, resetAccesses, interruptAccesses}
+use Rattle.cpu.specs.InstructionAccesses.{completion, storeAt, modifyAccesses, branchOn, bitBranchAccesses, jumpTo}
+use Rattle.cpu.specs.InstructionAccesses.{pushAccesses}
+use Rattle.cpu.specs.InstructionAccesses.{pullAccesses, returnAccesses, interruptReturnAccesses, entryAccesses}
+use Rattle.cpu.specs.InstructionAccesses.{breakAccesses}
+use Rattle.cpu.specs.InstructionAccesses.{jsrAccesses, operationAccesses, instructionAccesses, resetAccesses}
+use Rattle.cpu.specs.InstructionAccesses.{interruptAccesses}
 use Rattle.r6501q_cpu.specs.Processor.{wholeInstruction, irqDue, resetStart, nmiStart, irqStart, startOf, bytePut}
 use Rattle.r6501q_cpu.specs.Processor.{processorOf}
 use Rattle.r6501q_state.specs.Control.{flagsOf, modeA, modeB}
@@ -57,7 +60,7 @@ use Rattle.leaps.specs.World.{putRecord, plainOf, doneIn, eventIn}
 use Rattle.r6501q_gaps.specs.Events.{hasInput, sameLevels, levelsChange, underflowsA, underflowsB, portsFresh}
 use Rattle.r6501q_gaps.specs.Events.{controlFresh, transmitterIdle, receiverIdle, isReset, resetChanges, cpuStarts}
 use Rattle.r6501q_gaps.specs.Events.{putsByte, eventOf}
-use Rattle.r6501q_step.specs.R6501q.{World, plain, chip}
+use Rattle.r6501q_step.specs.R6501q.{World, plain, system}
 use Rattle.r6501q_step.proofs.Halted.{toldBy, clockIn}
 use lib.ListN.{replicate}
 use Rattle.cpu_alu.specs.Shift.{incrementOf, setBitOf}
@@ -105,31 +108,31 @@ overUnderflow = startWith (pulsing 2) (replicate 0x40 0 ++ (0x87 ∷ 0x00 ∷ []
 pub record AccessOrder : Type 0 where
   -- 02, U6, SMB0 00h: on clock 3 counter A inverts bit 4 of port A's latch; the put on clock 5 writes the byte that was
   -- worked out on clock 1, bit 4 as it was then
-  pub underflow-between : plains (chip Nowhere) 3 overUnderflow .state .peripherals .ports .a ≡ 0xEF
-  pub byte-of-first-clock : plains (chip Nowhere) 5 overUnderflow .state .peripherals .ports .a ≡ 0xFF
+  pub underflow-between : plains (system Nowhere) 3 overUnderflow .state .peripherals .ports .a ≡ 0xEF
+  pub byte-of-first-clock : plains (system Nowhere) 5 overUnderflow .state .peripherals .ports .a ≡ 0xFF
   -- JSR with SP at its own last byte: the high byte of the target is the one that was just pushed
   pub call-over-itself : (l h : ℕ)
-      → plains (chip Nowhere) 1 (startAt (readyAt 0x42 0 0 0 0xFFFFFFFF) (0x20 ∷ l ∷ h ∷ [])) .state .cpu .pc
+      → plains (system Nowhere) 1 (startAt (readyAt 0x42 0 0 0 0xFFFFFFFF) (0x20 ∷ l ∷ h ∷ [])) .state .cpu .pc
       ≡ word16 0x00 l
   -- INC 00h with PA0 held low from outside: the latch FFh is read, not the levels FEh; its byte is put on clock 5
-  pub modify-by-latch : plains (chip Nowhere) 5
+  pub modify-by-latch : plains (system Nowhere) 5
       (startAt (readyAt 0xFF 0 0 0 0xFFFFFFFE) (0xE6 ∷ 0x00 ∷ [])) .state .peripherals .ports .a ≡ 0x00
   -- LDA 00h there: step 1's levels
-  pub read-by-levels : plains (chip Nowhere) 1
+  pub read-by-levels : plains (system Nowhere) 1
       (startAt (readyAt 0xFF 0 0 0 0xFFFFFFFE) (0xA5 ∷ 0x00 ∷ [])) .state .cpu .a ≡ 0xFE
   -- an IRQ entry pushes PC high, PC low, P with bit 5 and not bit 4
   pub entry-pushes : told (toldBy (clockIn (startAt (readyAt 0xFF 0x01 0x01 0x01 0xFFFFFFFF) [])))
       ≡ writeAt 0x00FF 0x00 ∷ writeAt 0x00FE 0x40 ∷ writeAt 0x00FD 0x21 ∷ []
   -- RTI pulls P, then PC, low byte first
-  pub return-pulls : plains (chip Nowhere) 1
+  pub return-pulls : plains (system Nowhere) 1
       (startAt (readyAt 0x42 0 0 0 0xFFFFFFFF) (0x40 ∷ 0 ∷ 0 ∷ 0xC3 ∷ 0x34 ∷ 0x12 ∷ [])) .state .cpu
       ≡ record { a = 0; x = 0; y = 0; sp = 0x45; p = 0xC3; pc = 0x1234; wait = 5; waiting = Nothing }
 
 pub access-order : AccessOrder
-unfolding withBit setWhere flipWhere dueCount ticksOf inForce downA countsA clockA lowerA upperA loadCounterA reloadB
+unfolding withBit setWhere flipWhere inputCount ticksOf inForce downA countsA clockA lowerA upperA loadCounterA reloadB
     downB clockB lowerB upperB copyB loadCounterB turnToC transmitterAsynchronous receiverAsynchronous receiverShifting
     holdsA keepsTransmitter keepsReceiver parityBit frameBits sentBits pace startDetected withLevel receivedByte
-    wrongParity statusAfter keptWith frameEnded lookTaken looked receiveTick shiftedAtRise byteEnded receiveRise
+    wrongParity scsrAfter keptWith frameEnded lookTaken looked receiveTick shiftedAtRise byteEnded receiveRise
     receiverClock receiverWithSccr framed taken idleTick frameEnd nextPhase ticked bitTick sendTick transmitterClock
     line shiftClock transmitterWithSccr decodeOf packed unpacked pushed memoryByte displacement flagsOf modeA modeB
     withInput driveA driveD drivenWord levelsOf rose fell edges withEdges resetOf sensedAt sensed fresh portValue
@@ -137,7 +140,7 @@ unfolding withBit setWhere flipWhere dueCount ticksOf inForce downA countsA cloc
     nmiStart irqStart startOf bytePut processorOf withInputs countA countB sentBy heardBy peripheralsClock readyOf
     finished clockOf isWritten halts putWrite committed plainOf plains putRecord located byteAfter peripheralsRead
     peripheralsWritten valueRead performed inOrder completion storeAt modifyAccesses branchOn bitBranchAccesses jumpTo
-    pushAccesses pullAccesses returnAccesses interruptReturnAccesses entryAccesses breakAccesses callAccesses
+    pushAccesses pullAccesses returnAccesses interruptReturnAccesses entryAccesses breakAccesses jsrAccesses
     operationAccesses withRead changedBy byteToStore branchTaken bitBranchTaken byteToPush withPulled withRegister
     withFlag instructionAccesses resetAccesses interruptAccesses incrementOf setBitOf
 access-order = record {

@@ -9,13 +9,13 @@ use lib.ListN.{replicate}
 use Rattle.bits.specs.Bits.{bit}
 use Rattle.bits.specs.Lists.{tabulate}
 use Rattle.bits.specs.Bits.{withBit, setWhere, flipWhere}
-use Rattle.pin_lists.specs.PinLists.{dueCount}
+use Rattle.pin_lists.specs.PinLists.{inputCount}
 use Rattle.counters.specs.Counters.{ticksOf, inForce, downA, countsA, clockA, lowerA, upperA, loadCounterA, reloadB}
 use Rattle.counters.specs.Counters.{downB, clockB, lowerB, upperB, copyB, loadCounterB, turnToC}
 use Rattle.serial_format.specs.Format.{transmitterAsynchronous, receiverAsynchronous, receiverShifting, holdsA}
 use Rattle.serial_format.specs.Format.{keepsTransmitter, keepsReceiver, parityBit, frameBits, pace}
 use Rattle.serial.specs.Transmitter.{sentBits}
-use Rattle.serial.specs.Receiver.{startDetected, withLevel, receivedByte, wrongParity, statusAfter, keptWith}
+use Rattle.serial.specs.Receiver.{startDetected, withLevel, receivedByte, wrongParity, scsrAfter, keptWith}
 use Rattle.serial.specs.Receiver.{frameEnded, lookTaken, looked, receiveTick, shiftedAtRise, byteEnded, receiveRise}
 use Rattle.serial.specs.Receiver.{receiverClock, receiverWithSccr}
 use Rattle.serial.specs.Transmitter.{framed, taken, idleTick, frameEnd, nextPhase, ticked, bitTick, sendTick}
@@ -30,13 +30,16 @@ use Rattle.cpu_access.specs.Bus.{memoryByte}
 use Rattle.cpu_access.specs.declared.waiting.Waiting.the-variants.{Nothing, Byte}
 use Rattle.cpu_access.specs.Waiting.{byteWaits}
 use Rattle.cpu_access.specs.Accesses.{byteAfter, peripheralsRead, peripheralsWritten, valueRead, performed, inOrder}
-use Rattle.cpu_modes.specs.Operands.{located}
+use Rattle.cpu_modes.specs.ModeAccesses.{located}
 use Rattle.cpu_modes.specs.Modes.{displacement}
 use Rattle.cpu_kinds.specs.Kinds.{withRead, changedBy, byteToStore, branchTaken, bitBranchTaken, byteToPush}
 use Rattle.cpu_kinds.specs.Kinds.{withPulled, withRegister, withFlag}
-use Rattle.cpu.specs.Sequence.{completion, storeAt, modifyAccesses, branchOn, bitBranchAccesses, jumpTo, pushAccesses}
-use Rattle.cpu.specs.Sequence.{pullAccesses, returnAccesses, interruptReturnAccesses, entryAccesses, breakAccesses}
-use Rattle.cpu.specs.Sequence.{callAccesses, operationAccesses, instructionAccesses, resetAccesses, interruptAccesses}
+use Rattle.cpu.specs.InstructionAccesses.{completion, storeAt, modifyAccesses, branchOn, bitBranchAccesses, jumpTo}
+use Rattle.cpu.specs.InstructionAccesses.{pushAccesses}
+use Rattle.cpu.specs.InstructionAccesses.{pullAccesses, returnAccesses, interruptReturnAccesses, entryAccesses}
+use Rattle.cpu.specs.InstructionAccesses.{breakAccesses}
+use Rattle.cpu.specs.InstructionAccesses.{jsrAccesses, operationAccesses, instructionAccesses, resetAccesses}
+use Rattle.cpu.specs.InstructionAccesses.{interruptAccesses}
 use Rattle.r6501q_cpu.specs.Processor.{wholeInstruction, irqDue, resetStart, nmiStart, irqStart, startOf, bytePut}
 use Rattle.r6501q_cpu.specs.Processor.{processorOf}
 use Rattle.r6501q_state.specs.Control.{flagsOf, modeA, modeB}
@@ -60,7 +63,7 @@ use Rattle.leaps.specs.World.{putRecord, plainOf, doneIn, eventIn}
 use Rattle.r6501q_gaps.specs.Events.{hasInput, sameLevels, levelsChange, underflowsA, underflowsB, portsFresh}
 use Rattle.r6501q_gaps.specs.Events.{controlFresh, transmitterIdle, receiverIdle, isReset, resetChanges, cpuStarts}
 use Rattle.r6501q_gaps.specs.Events.{putsByte, eventOf}
-use Rattle.r6501q_step.specs.R6501q.{World, plain, chip}
+use Rattle.r6501q_step.specs.R6501q.{World, plain, system}
 use Rattle.r6501q_step.proofs.Halted.{toldBy, clockIn}
 
 -- a world at a call's start
@@ -94,10 +97,10 @@ heldLow ifr clock = record {
 }
 
 pub p1-cleared : (clock : ℕ) → sensed (inputsSet (heldLow 0x30 clock) []) ≡ heldLow 0 (clock + 1)
-unfolding withBit setWhere flipWhere dueCount ticksOf inForce downA countsA clockA lowerA upperA loadCounterA reloadB
+unfolding withBit setWhere flipWhere inputCount ticksOf inForce downA countsA clockA lowerA upperA loadCounterA reloadB
     downB clockB lowerB upperB copyB loadCounterB turnToC transmitterAsynchronous receiverAsynchronous receiverShifting
     holdsA keepsTransmitter keepsReceiver parityBit frameBits sentBits pace startDetected withLevel receivedByte
-    wrongParity statusAfter keptWith frameEnded lookTaken looked receiveTick shiftedAtRise byteEnded receiveRise
+    wrongParity scsrAfter keptWith frameEnded lookTaken looked receiveTick shiftedAtRise byteEnded receiveRise
     receiverClock receiverWithSccr framed taken idleTick frameEnd nextPhase ticked bitTick sendTick transmitterClock
     line shiftClock transmitterWithSccr flagsOf modeA modeB withInput driveA driveD drivenWord levelsOf rose fell edges
     withEdges resetOf sensedAt sensed fresh withInputs countA countB sentBy heardBy peripheralsClock readyOf finished
@@ -107,10 +110,10 @@ p1-cleared clock = refl
 pub p1-clock : (clock : ℕ) (memory times words : List ℕ)
     → plain Nowhere (startWith (heldLow 0x30 clock) memory [] [] times words)
     ≡ startWith (heldLow 0x30 (clock + 1)) memory [] [] times words
-unfolding withBit setWhere flipWhere dueCount ticksOf inForce downA countsA clockA lowerA upperA loadCounterA reloadB
+unfolding withBit setWhere flipWhere inputCount ticksOf inForce downA countsA clockA lowerA upperA loadCounterA reloadB
     downB clockB lowerB upperB copyB loadCounterB turnToC transmitterAsynchronous receiverAsynchronous receiverShifting
     holdsA keepsTransmitter keepsReceiver parityBit frameBits sentBits pace startDetected withLevel receivedByte
-    wrongParity statusAfter keptWith frameEnded lookTaken looked receiveTick shiftedAtRise byteEnded receiveRise
+    wrongParity scsrAfter keptWith frameEnded lookTaken looked receiveTick shiftedAtRise byteEnded receiveRise
     receiverClock receiverWithSccr framed taken idleTick frameEnd nextPhase ticked bitTick sendTick transmitterClock
     line shiftClock transmitterWithSccr flagsOf modeA modeB withInput driveA driveD drivenWord levelsOf rose fell edges
     withEdges resetOf sensedAt sensed fresh withInputs countA countB sentBy heardBy peripheralsClock readyOf finished
@@ -118,7 +121,7 @@ unfolding withBit setWhere flipWhere dueCount ticksOf inForce downA countsA cloc
 p1-clock clock memory times words = refl
 
 pub p1-clocks : (n clock : ℕ) (memory times words : List ℕ)
-    → plains (chip Nowhere) n (startWith (heldLow 0x30 clock) memory [] [] times words)
+    → plains (system Nowhere) n (startWith (heldLow 0x30 clock) memory [] [] times words)
     ≡ startWith (heldLow 0x30 (clock + n)) memory [] [] times words
 unfolding plains
 p1-clocks zero clock memory times words = let e : clock + 0 ≡ clock = omega arith in rw e
@@ -129,8 +132,8 @@ p1-clocks (suc n) clock memory times words =
 -- ---- P2, "L = 5 loaded on clock t: underflow on t + 6.": by STA 1Ah, which starts on clock 8 and puts its byte on
 -- clock 10 (02, U6)
 
-abbrev pub running : ℕ → State
-running wait = record {
+abbrev pub afterReset : ℕ → State
+afterReset wait = record {
   cpu = record { a = 0; x = 0; y = 0; sp = 0xFF; p = 0x04; pc = 0x40; wait = wait; waiting = Nothing };
   due = record { reset = false; nmi = false };
   peripherals = freshPeripherals;
@@ -145,14 +148,14 @@ timerProgram lower start =
     replicate 0x40 0 ++ (0xA9 ∷ 0x05 ∷ 0x85 ∷ lower ∷ 0xA9 ∷ 0x00 ∷ 0x85 ∷ start ∷ 0x4C ∷ 0x48 ∷ 0x00 ∷ [])
 
 abbrev pub timerStart : ℕ → ℕ → World
-timerStart lower start = startWith (running 0) (timerProgram lower start) [] [] [] []
+timerStart lower start = startWith (afterReset 0) (timerProgram lower start) [] [] [] []
 
-pub p2-loaded : plains (chip Nowhere) 10 (timerStart 0x18 0x1A) .state .peripherals .countera
+pub p2-loaded : plains (system Nowhere) 10 (timerStart 0x18 0x1A) .state .peripherals .countera
     ≡ record { count = 5; latch = 5 }
-unfolding withBit setWhere flipWhere dueCount ticksOf inForce downA countsA clockA lowerA upperA loadCounterA reloadB
+unfolding withBit setWhere flipWhere inputCount ticksOf inForce downA countsA clockA lowerA upperA loadCounterA reloadB
     downB clockB lowerB upperB copyB loadCounterB turnToC transmitterAsynchronous receiverAsynchronous receiverShifting
     holdsA keepsTransmitter keepsReceiver parityBit frameBits sentBits pace startDetected withLevel receivedByte
-    wrongParity statusAfter keptWith frameEnded lookTaken looked receiveTick shiftedAtRise byteEnded receiveRise
+    wrongParity scsrAfter keptWith frameEnded lookTaken looked receiveTick shiftedAtRise byteEnded receiveRise
     receiverClock receiverWithSccr framed taken idleTick frameEnd nextPhase ticked bitTick sendTick transmitterClock
     line shiftClock transmitterWithSccr decodeOf packed unpacked pushed memoryByte displacement flagsOf modeA modeB
     withInput driveA driveD drivenWord levelsOf rose fell edges withEdges resetOf sensedAt sensed fresh portValue
@@ -160,18 +163,19 @@ unfolding withBit setWhere flipWhere dueCount ticksOf inForce downA countsA cloc
     nmiStart irqStart startOf bytePut processorOf withInputs countA countB sentBy heardBy peripheralsClock readyOf
     finished clockOf halts putWrite committed plainOf plains putRecord located byteAfter peripheralsRead
     peripheralsWritten valueRead performed inOrder completion storeAt modifyAccesses branchOn bitBranchAccesses jumpTo
-    pushAccesses pullAccesses returnAccesses interruptReturnAccesses entryAccesses breakAccesses callAccesses
+    pushAccesses pullAccesses returnAccesses interruptReturnAccesses entryAccesses breakAccesses jsrAccesses
     operationAccesses withRead changedBy byteToStore branchTaken bitBranchTaken byteToPush withPulled withRegister
     withFlag instructionAccesses resetAccesses interruptAccesses
 p2-loaded = refl
 
-pub p2-clocks : tabulate (λ k. bit 4 (plains (chip Nowhere) k (timerStart 0x18 0x1A) .state .peripherals .control .ifr))
+pub p2-clocks : tabulate
+    (λ k. bit 4 (plains (system Nowhere) k (timerStart 0x18 0x1A) .state .peripherals .control .ifr))
     7 10
     ≡ false ∷ false ∷ false ∷ false ∷ false ∷ false ∷ true ∷ []
-unfolding withBit setWhere flipWhere dueCount ticksOf inForce downA countsA clockA lowerA upperA loadCounterA reloadB
+unfolding withBit setWhere flipWhere inputCount ticksOf inForce downA countsA clockA lowerA upperA loadCounterA reloadB
     downB clockB lowerB upperB copyB loadCounterB turnToC transmitterAsynchronous receiverAsynchronous receiverShifting
     holdsA keepsTransmitter keepsReceiver parityBit frameBits sentBits pace startDetected withLevel receivedByte
-    wrongParity statusAfter keptWith frameEnded lookTaken looked receiveTick shiftedAtRise byteEnded receiveRise
+    wrongParity scsrAfter keptWith frameEnded lookTaken looked receiveTick shiftedAtRise byteEnded receiveRise
     receiverClock receiverWithSccr framed taken idleTick frameEnd nextPhase ticked bitTick sendTick transmitterClock
     line shiftClock transmitterWithSccr decodeOf packed unpacked pushed memoryByte displacement flagsOf modeA modeB
     withInput driveA driveD drivenWord levelsOf rose fell edges withEdges resetOf sensedAt sensed fresh portValue
@@ -179,18 +183,18 @@ unfolding withBit setWhere flipWhere dueCount ticksOf inForce downA countsA cloc
     nmiStart irqStart startOf bytePut processorOf withInputs countA countB sentBy heardBy peripheralsClock readyOf
     finished clockOf halts putWrite committed plainOf plains putRecord located byteAfter peripheralsRead
     peripheralsWritten valueRead performed inOrder completion storeAt modifyAccesses branchOn bitBranchAccesses jumpTo
-    pushAccesses pullAccesses returnAccesses interruptReturnAccesses entryAccesses breakAccesses callAccesses
+    pushAccesses pullAccesses returnAccesses interruptReturnAccesses entryAccesses breakAccesses jsrAccesses
     operationAccesses withRead changedBy byteToStore branchTaken bitBranchTaken byteToPush withPulled withRegister
     withFlag instructionAccesses resetAccesses interruptAccesses
 p2-clocks = refl
 
 pub p2-clocks-b : tabulate
-    (λ k. bit 5 (plains (chip Nowhere) k (timerStart 0x1C 0x1E) .state .peripherals .control .ifr)) 7 10
+    (λ k. bit 5 (plains (system Nowhere) k (timerStart 0x1C 0x1E) .state .peripherals .control .ifr)) 7 10
     ≡ false ∷ false ∷ false ∷ false ∷ false ∷ false ∷ true ∷ []
-unfolding withBit setWhere flipWhere dueCount ticksOf inForce downA countsA clockA lowerA upperA loadCounterA reloadB
+unfolding withBit setWhere flipWhere inputCount ticksOf inForce downA countsA clockA lowerA upperA loadCounterA reloadB
     downB clockB lowerB upperB copyB loadCounterB turnToC transmitterAsynchronous receiverAsynchronous receiverShifting
     holdsA keepsTransmitter keepsReceiver parityBit frameBits sentBits pace startDetected withLevel receivedByte
-    wrongParity statusAfter keptWith frameEnded lookTaken looked receiveTick shiftedAtRise byteEnded receiveRise
+    wrongParity scsrAfter keptWith frameEnded lookTaken looked receiveTick shiftedAtRise byteEnded receiveRise
     receiverClock receiverWithSccr framed taken idleTick frameEnd nextPhase ticked bitTick sendTick transmitterClock
     line shiftClock transmitterWithSccr decodeOf packed unpacked pushed memoryByte displacement flagsOf modeA modeB
     withInput driveA driveD drivenWord levelsOf rose fell edges withEdges resetOf sensedAt sensed fresh portValue
@@ -198,7 +202,7 @@ unfolding withBit setWhere flipWhere dueCount ticksOf inForce downA countsA cloc
     nmiStart irqStart startOf bytePut processorOf withInputs countA countB sentBy heardBy peripheralsClock readyOf
     finished clockOf halts putWrite committed plainOf plains putRecord located byteAfter peripheralsRead
     peripheralsWritten valueRead performed inOrder completion storeAt modifyAccesses branchOn bitBranchAccesses jumpTo
-    pushAccesses pullAccesses returnAccesses interruptReturnAccesses entryAccesses breakAccesses callAccesses
+    pushAccesses pullAccesses returnAccesses interruptReturnAccesses entryAccesses breakAccesses jsrAccesses
     operationAccesses withRead changedBy byteToStore branchTaken bitBranchTaken byteToPush withPulled withRegister
     withFlag instructionAccesses resetAccesses interruptAccesses
 p2-clocks-b = refl
@@ -207,7 +211,7 @@ p2-clocks-b = refl
 -- the CPU waits
 
 abbrev pub listening : ℕ → ℕ → State
-listening register received = withPeripherals (running 6) (record {
+listening register received = withPeripherals (afterReset 6) (record {
   ports = freshPorts;
   countera = record { count = 0; latch = 0 };
   counterb = freshPeripherals .counterb;
@@ -221,12 +225,12 @@ abbrev pub lineStart : ℕ → ℕ → List ℕ → World
 lineStart register received memory = startWith (listening register received) memory (1 ∷ 3 ∷ []) (7 ∷ 71 ∷ []) [] []
 
 pub p6-low : (register received : ℕ) (memory : List ℕ)
-    → plains (chip Nowhere) 2 (lineStart register received memory) .state .peripherals .receiver
+    → plains (system Nowhere) 2 (lineStart register received memory) .state .peripherals .receiver
     ≡ record { subinterval = 1; half = false; left = 0; register = register }
-unfolding withBit setWhere flipWhere dueCount ticksOf inForce downA countsA clockA lowerA upperA loadCounterA reloadB
+unfolding withBit setWhere flipWhere inputCount ticksOf inForce downA countsA clockA lowerA upperA loadCounterA reloadB
     downB clockB lowerB upperB copyB loadCounterB turnToC transmitterAsynchronous receiverAsynchronous receiverShifting
     holdsA keepsTransmitter keepsReceiver parityBit frameBits sentBits pace startDetected withLevel receivedByte
-    wrongParity statusAfter keptWith frameEnded lookTaken looked receiveTick shiftedAtRise byteEnded receiveRise
+    wrongParity scsrAfter keptWith frameEnded lookTaken looked receiveTick shiftedAtRise byteEnded receiveRise
     receiverClock receiverWithSccr framed taken idleTick frameEnd nextPhase ticked bitTick sendTick transmitterClock
     line shiftClock transmitterWithSccr flagsOf modeA modeB withInput driveA driveD drivenWord levelsOf rose fell edges
     withEdges resetOf sensedAt sensed fresh withInputs countA countB sentBy heardBy peripheralsClock readyOf finished
@@ -234,12 +238,12 @@ unfolding withBit setWhere flipWhere dueCount ticksOf inForce downA countsA cloc
 p6-low register received memory = refl
 
 pub p6-none : (register received : ℕ) (memory : List ℕ)
-    → plains (chip Nowhere) 4 (lineStart register received memory) .state .peripherals .receiver
+    → plains (system Nowhere) 4 (lineStart register received memory) .state .peripherals .receiver
     ≡ record { subinterval = 0; half = false; left = 0; register = register }
-unfolding withBit setWhere flipWhere dueCount ticksOf inForce downA countsA clockA lowerA upperA loadCounterA reloadB
+unfolding withBit setWhere flipWhere inputCount ticksOf inForce downA countsA clockA lowerA upperA loadCounterA reloadB
     downB clockB lowerB upperB copyB loadCounterB turnToC transmitterAsynchronous receiverAsynchronous receiverShifting
     holdsA keepsTransmitter keepsReceiver parityBit frameBits sentBits pace startDetected withLevel receivedByte
-    wrongParity statusAfter keptWith frameEnded lookTaken looked receiveTick shiftedAtRise byteEnded receiveRise
+    wrongParity scsrAfter keptWith frameEnded lookTaken looked receiveTick shiftedAtRise byteEnded receiveRise
     receiverClock receiverWithSccr framed taken idleTick frameEnd nextPhase ticked bitTick sendTick transmitterClock
     line shiftClock transmitterWithSccr flagsOf modeA modeB withInput driveA driveD drivenWord levelsOf rose fell edges
     withEdges resetOf sensedAt sensed fresh withInputs countA countB sentBy heardBy peripheralsClock readyOf finished
@@ -247,11 +251,11 @@ unfolding withBit setWhere flipWhere dueCount ticksOf inForce downA countsA cloc
 p6-none register received memory = refl
 
 pub p6-status : (register received : ℕ) (memory : List ℕ)
-    → plains (chip Nowhere) 4 (lineStart register received memory) .state .peripherals .control .scsr ≡ 0x40
-unfolding withBit setWhere flipWhere dueCount ticksOf inForce downA countsA clockA lowerA upperA loadCounterA reloadB
+    → plains (system Nowhere) 4 (lineStart register received memory) .state .peripherals .control .scsr ≡ 0x40
+unfolding withBit setWhere flipWhere inputCount ticksOf inForce downA countsA clockA lowerA upperA loadCounterA reloadB
     downB clockB lowerB upperB copyB loadCounterB turnToC transmitterAsynchronous receiverAsynchronous receiverShifting
     holdsA keepsTransmitter keepsReceiver parityBit frameBits sentBits pace startDetected withLevel receivedByte
-    wrongParity statusAfter keptWith frameEnded lookTaken looked receiveTick shiftedAtRise byteEnded receiveRise
+    wrongParity scsrAfter keptWith frameEnded lookTaken looked receiveTick shiftedAtRise byteEnded receiveRise
     receiverClock receiverWithSccr framed taken idleTick frameEnd nextPhase ticked bitTick sendTick transmitterClock
     line shiftClock transmitterWithSccr flagsOf modeA modeB withInput driveA driveD drivenWord levelsOf rose fell edges
     withEdges resetOf sensedAt sensed fresh withInputs countA countB sentBy heardBy peripheralsClock readyOf finished
@@ -269,15 +273,15 @@ senderProgram =
     ∷ 0x00 ∷ [])
 
 abbrev pub senderStart : World
-senderStart = startWith (running 0) senderProgram [] [] (replicate 6 0) (replicate 6 0)
+senderStart = startWith (afterReset 0) senderProgram [] [] (replicate 6 0) (replicate 6 0)
 
 -- the start bit is on the line after clock 19
-pub p5-start : plains (chip Nowhere) 19 senderStart .state .peripherals .transmitter
+pub p5-start : plains (system Nowhere) 19 senderStart .state .peripherals .transmitter
     ≡ record { left = 11; phase = 0; register = 0x682 }
-unfolding withBit setWhere flipWhere dueCount ticksOf inForce downA countsA clockA lowerA upperA loadCounterA reloadB
+unfolding withBit setWhere flipWhere inputCount ticksOf inForce downA countsA clockA lowerA upperA loadCounterA reloadB
     downB clockB lowerB upperB copyB loadCounterB turnToC transmitterAsynchronous receiverAsynchronous receiverShifting
     holdsA keepsTransmitter keepsReceiver parityBit frameBits sentBits pace startDetected withLevel receivedByte
-    wrongParity statusAfter keptWith frameEnded lookTaken looked receiveTick shiftedAtRise byteEnded receiveRise
+    wrongParity scsrAfter keptWith frameEnded lookTaken looked receiveTick shiftedAtRise byteEnded receiveRise
     receiverClock receiverWithSccr framed taken idleTick frameEnd nextPhase ticked bitTick sendTick transmitterClock
     line shiftClock transmitterWithSccr decodeOf packed unpacked pushed memoryByte displacement flagsOf modeA modeB
     withInput driveA driveD drivenWord levelsOf rose fell edges withEdges resetOf sensedAt sensed fresh portValue
@@ -285,18 +289,18 @@ unfolding withBit setWhere flipWhere dueCount ticksOf inForce downA countsA cloc
     nmiStart irqStart startOf bytePut processorOf withInputs countA countB sentBy heardBy peripheralsClock readyOf
     finished clockOf halts putWrite committed plainOf plains putRecord located byteAfter peripheralsRead
     peripheralsWritten valueRead performed inOrder completion storeAt modifyAccesses branchOn bitBranchAccesses jumpTo
-    pushAccesses pullAccesses returnAccesses interruptReturnAccesses entryAccesses breakAccesses callAccesses
+    pushAccesses pullAccesses returnAccesses interruptReturnAccesses entryAccesses breakAccesses jsrAccesses
     operationAccesses withRead changedBy byteToStore branchTaken bitBranchTaken byteToPush withPulled withRegister
     withFlag instructionAccesses resetAccesses interruptAccesses
 p5-start = refl
 
 -- after clock 194 one bit is left, and after clock 195 it is idle, with an under-run; the line's six edges are its
 -- records
-pub p5-last-bit : plains (chip Nowhere) 194 senderStart .state .peripherals .transmitter .left ≡ 1
-unfolding withBit setWhere flipWhere dueCount ticksOf inForce downA countsA clockA lowerA upperA loadCounterA reloadB
+pub p5-last-bit : plains (system Nowhere) 194 senderStart .state .peripherals .transmitter .left ≡ 1
+unfolding withBit setWhere flipWhere inputCount ticksOf inForce downA countsA clockA lowerA upperA loadCounterA reloadB
     downB clockB lowerB upperB copyB loadCounterB turnToC transmitterAsynchronous receiverAsynchronous receiverShifting
     holdsA keepsTransmitter keepsReceiver parityBit frameBits sentBits pace startDetected withLevel receivedByte
-    wrongParity statusAfter keptWith frameEnded lookTaken looked receiveTick shiftedAtRise byteEnded receiveRise
+    wrongParity scsrAfter keptWith frameEnded lookTaken looked receiveTick shiftedAtRise byteEnded receiveRise
     receiverClock receiverWithSccr framed taken idleTick frameEnd nextPhase ticked bitTick sendTick transmitterClock
     line shiftClock transmitterWithSccr decodeOf packed unpacked pushed memoryByte displacement flagsOf modeA modeB
     withInput driveA driveD drivenWord levelsOf rose fell edges withEdges resetOf sensedAt sensed fresh portValue
@@ -304,16 +308,16 @@ unfolding withBit setWhere flipWhere dueCount ticksOf inForce downA countsA cloc
     nmiStart irqStart startOf bytePut processorOf withInputs countA countB sentBy heardBy peripheralsClock readyOf
     finished clockOf halts putWrite committed plainOf plains putRecord located byteAfter peripheralsRead
     peripheralsWritten valueRead performed inOrder completion storeAt modifyAccesses branchOn bitBranchAccesses jumpTo
-    pushAccesses pullAccesses returnAccesses interruptReturnAccesses entryAccesses breakAccesses callAccesses
+    pushAccesses pullAccesses returnAccesses interruptReturnAccesses entryAccesses breakAccesses jsrAccesses
     operationAccesses withRead changedBy byteToStore branchTaken bitBranchTaken byteToPush withPulled withRegister
     withFlag instructionAccesses resetAccesses interruptAccesses
 p5-last-bit = refl
 
-pub p5-idle : plains (chip Nowhere) 195 senderStart .state .peripherals .transmitter ≡ idleTransmitter
-unfolding withBit setWhere flipWhere dueCount ticksOf inForce downA countsA clockA lowerA upperA loadCounterA reloadB
+pub p5-idle : plains (system Nowhere) 195 senderStart .state .peripherals .transmitter ≡ idleTransmitter
+unfolding withBit setWhere flipWhere inputCount ticksOf inForce downA countsA clockA lowerA upperA loadCounterA reloadB
     downB clockB lowerB upperB copyB loadCounterB turnToC transmitterAsynchronous receiverAsynchronous receiverShifting
     holdsA keepsTransmitter keepsReceiver parityBit frameBits sentBits pace startDetected withLevel receivedByte
-    wrongParity statusAfter keptWith frameEnded lookTaken looked receiveTick shiftedAtRise byteEnded receiveRise
+    wrongParity scsrAfter keptWith frameEnded lookTaken looked receiveTick shiftedAtRise byteEnded receiveRise
     receiverClock receiverWithSccr framed taken idleTick frameEnd nextPhase ticked bitTick sendTick transmitterClock
     line shiftClock transmitterWithSccr decodeOf packed unpacked pushed memoryByte displacement flagsOf modeA modeB
     withInput driveA driveD drivenWord levelsOf rose fell edges withEdges resetOf sensedAt sensed fresh portValue
@@ -321,16 +325,16 @@ unfolding withBit setWhere flipWhere dueCount ticksOf inForce downA countsA cloc
     nmiStart irqStart startOf bytePut processorOf withInputs countA countB sentBy heardBy peripheralsClock readyOf
     finished clockOf halts putWrite committed plainOf plains putRecord located byteAfter peripheralsRead
     peripheralsWritten valueRead performed inOrder completion storeAt modifyAccesses branchOn bitBranchAccesses jumpTo
-    pushAccesses pullAccesses returnAccesses interruptReturnAccesses entryAccesses breakAccesses callAccesses
+    pushAccesses pullAccesses returnAccesses interruptReturnAccesses entryAccesses breakAccesses jsrAccesses
     operationAccesses withRead changedBy byteToStore branchTaken bitBranchTaken byteToPush withPulled withRegister
     withFlag instructionAccesses resetAccesses interruptAccesses
 p5-idle = refl
 
-pub p5-edges : plains (chip Nowhere) 195 senderStart .outputClocks ≡ 19 ∷ 35 ∷ 51 ∷ 131 ∷ 147 ∷ 163 ∷ []
-unfolding withBit setWhere flipWhere dueCount ticksOf inForce downA countsA clockA lowerA upperA loadCounterA reloadB
+pub p5-edges : plains (system Nowhere) 195 senderStart .outputClocks ≡ 19 ∷ 35 ∷ 51 ∷ 131 ∷ 147 ∷ 163 ∷ []
+unfolding withBit setWhere flipWhere inputCount ticksOf inForce downA countsA clockA lowerA upperA loadCounterA reloadB
     downB clockB lowerB upperB copyB loadCounterB turnToC transmitterAsynchronous receiverAsynchronous receiverShifting
     holdsA keepsTransmitter keepsReceiver parityBit frameBits sentBits pace startDetected withLevel receivedByte
-    wrongParity statusAfter keptWith frameEnded lookTaken looked receiveTick shiftedAtRise byteEnded receiveRise
+    wrongParity scsrAfter keptWith frameEnded lookTaken looked receiveTick shiftedAtRise byteEnded receiveRise
     receiverClock receiverWithSccr framed taken idleTick frameEnd nextPhase ticked bitTick sendTick transmitterClock
     line shiftClock transmitterWithSccr decodeOf packed unpacked pushed memoryByte displacement flagsOf modeA modeB
     withInput driveA driveD drivenWord levelsOf rose fell edges withEdges resetOf sensedAt sensed fresh portValue
@@ -338,7 +342,7 @@ unfolding withBit setWhere flipWhere dueCount ticksOf inForce downA countsA cloc
     nmiStart irqStart startOf bytePut processorOf withInputs countA countB sentBy heardBy peripheralsClock readyOf
     finished clockOf halts putWrite committed plainOf plains putRecord located byteAfter peripheralsRead
     peripheralsWritten valueRead performed inOrder completion storeAt modifyAccesses branchOn bitBranchAccesses jumpTo
-    pushAccesses pullAccesses returnAccesses interruptReturnAccesses entryAccesses breakAccesses callAccesses
+    pushAccesses pullAccesses returnAccesses interruptReturnAccesses entryAccesses breakAccesses jsrAccesses
     operationAccesses withRead changedBy byteToStore branchTaken bitBranchTaken byteToPush withPulled withRegister
     withFlag instructionAccesses resetAccesses interruptAccesses
 p5-edges = refl
@@ -359,11 +363,11 @@ tapeStart free = startWith fresh tapeMemory (1 ∷ []) (resHigh ∷ []) (replica
 abbrev pub reached : World → List ℕ
 reached w = w .stop ∷ w .state .clock ∷ w .state .cpu .wait ∷ w .written ∷ []
 
-pub halt-reached : reached (plains (chip (At 0)) 100 (tapeStart 1)) ≡ 12 ∷ 12 ∷ 0 ∷ 1 ∷ []
-unfolding withBit setWhere flipWhere dueCount ticksOf inForce downA countsA clockA lowerA upperA loadCounterA reloadB
+pub halt-reached : reached (plains (system (At 0)) 100 (tapeStart 1)) ≡ 12 ∷ 12 ∷ 0 ∷ 1 ∷ []
+unfolding withBit setWhere flipWhere inputCount ticksOf inForce downA countsA clockA lowerA upperA loadCounterA reloadB
     downB clockB lowerB upperB copyB loadCounterB turnToC transmitterAsynchronous receiverAsynchronous receiverShifting
     holdsA keepsTransmitter keepsReceiver parityBit frameBits sentBits pace startDetected withLevel receivedByte
-    wrongParity statusAfter keptWith frameEnded lookTaken looked receiveTick shiftedAtRise byteEnded receiveRise
+    wrongParity scsrAfter keptWith frameEnded lookTaken looked receiveTick shiftedAtRise byteEnded receiveRise
     receiverClock receiverWithSccr framed taken idleTick frameEnd nextPhase ticked bitTick sendTick transmitterClock
     line shiftClock transmitterWithSccr decodeOf packed unpacked pushed memoryByte displacement flagsOf modeA modeB
     withInput driveA driveD drivenWord levelsOf rose fell edges withEdges resetOf sensedAt sensed fresh portValue
@@ -371,17 +375,17 @@ unfolding withBit setWhere flipWhere dueCount ticksOf inForce downA countsA cloc
     nmiStart irqStart startOf bytePut processorOf withInputs countA countB sentBy heardBy peripheralsClock readyOf
     finished clockOf isWritten halts putWrite committed plainOf plains putRecord located byteAfter peripheralsRead
     peripheralsWritten valueRead performed inOrder completion storeAt modifyAccesses branchOn bitBranchAccesses jumpTo
-    pushAccesses pullAccesses returnAccesses interruptReturnAccesses entryAccesses breakAccesses callAccesses
+    pushAccesses pullAccesses returnAccesses interruptReturnAccesses entryAccesses breakAccesses jsrAccesses
     operationAccesses withRead changedBy byteToStore branchTaken bitBranchTaken byteToPush withPulled withRegister
     withFlag instructionAccesses resetAccesses interruptAccesses
 halt-reached = refl
 
 -- the halted leap is done and counted: event clocks 1, 8, 10 and 12
-pub halt-leaps : leapCount (chip (At 0)) 100 (tapeStart 1) ≡ 4
-unfolding withBit setWhere flipWhere dueCount ticksOf inForce downA countsA clockA lowerA upperA loadCounterA reloadB
+pub halt-leaps : leapCount (system (At 0)) 100 (tapeStart 1) ≡ 4
+unfolding withBit setWhere flipWhere inputCount ticksOf inForce downA countsA clockA lowerA upperA loadCounterA reloadB
     downB clockB lowerB upperB copyB loadCounterB turnToC transmitterAsynchronous receiverAsynchronous receiverShifting
     holdsA keepsTransmitter keepsReceiver parityBit frameBits sentBits pace startDetected withLevel receivedByte
-    wrongParity statusAfter keptWith frameEnded lookTaken looked receiveTick shiftedAtRise byteEnded receiveRise
+    wrongParity scsrAfter keptWith frameEnded lookTaken looked receiveTick shiftedAtRise byteEnded receiveRise
     receiverClock receiverWithSccr framed taken idleTick frameEnd nextPhase ticked bitTick sendTick transmitterClock
     line shiftClock transmitterWithSccr decodeOf packed unpacked pushed memoryByte displacement flagsOf modeA modeB
     withInput driveA driveD drivenWord levelsOf rose fell edges withEdges resetOf sensedAt sensed fresh portValue
@@ -391,17 +395,17 @@ unfolding withBit setWhere flipWhere dueCount ticksOf inForce downA countsA cloc
     doneIn eventIn hasInput sameLevels levelsChange underflowsA underflowsB portsFresh controlFresh transmitterIdle
     receiverIdle isReset resetChanges cpuStarts putsByte byteWaits eventOf located byteAfter peripheralsRead
     peripheralsWritten valueRead performed inOrder completion storeAt modifyAccesses branchOn bitBranchAccesses jumpTo
-    pushAccesses pullAccesses returnAccesses interruptReturnAccesses entryAccesses breakAccesses callAccesses
+    pushAccesses pullAccesses returnAccesses interruptReturnAccesses entryAccesses breakAccesses jsrAccesses
     operationAccesses withRead changedBy byteToStore branchTaken bitBranchTaken byteToPush withPulled withRegister
     withFlag instructionAccesses resetAccesses interruptAccesses
 halt-leaps = refl
 
 -- 12 "also where that clock is the run's last", 0 where the run ends before it
-pub halt-last : reached (plains (chip (At 0)) 12 (tapeStart 1)) ≡ 12 ∷ 12 ∷ 0 ∷ 1 ∷ []
-unfolding withBit setWhere flipWhere dueCount ticksOf inForce downA countsA clockA lowerA upperA loadCounterA reloadB
+pub halt-last : reached (plains (system (At 0)) 12 (tapeStart 1)) ≡ 12 ∷ 12 ∷ 0 ∷ 1 ∷ []
+unfolding withBit setWhere flipWhere inputCount ticksOf inForce downA countsA clockA lowerA upperA loadCounterA reloadB
     downB clockB lowerB upperB copyB loadCounterB turnToC transmitterAsynchronous receiverAsynchronous receiverShifting
     holdsA keepsTransmitter keepsReceiver parityBit frameBits sentBits pace startDetected withLevel receivedByte
-    wrongParity statusAfter keptWith frameEnded lookTaken looked receiveTick shiftedAtRise byteEnded receiveRise
+    wrongParity scsrAfter keptWith frameEnded lookTaken looked receiveTick shiftedAtRise byteEnded receiveRise
     receiverClock receiverWithSccr framed taken idleTick frameEnd nextPhase ticked bitTick sendTick transmitterClock
     line shiftClock transmitterWithSccr decodeOf packed unpacked pushed memoryByte displacement flagsOf modeA modeB
     withInput driveA driveD drivenWord levelsOf rose fell edges withEdges resetOf sensedAt sensed fresh portValue
@@ -409,16 +413,16 @@ unfolding withBit setWhere flipWhere dueCount ticksOf inForce downA countsA cloc
     nmiStart irqStart startOf bytePut processorOf withInputs countA countB sentBy heardBy peripheralsClock readyOf
     finished clockOf isWritten halts putWrite committed plainOf plains putRecord located byteAfter peripheralsRead
     peripheralsWritten valueRead performed inOrder completion storeAt modifyAccesses branchOn bitBranchAccesses jumpTo
-    pushAccesses pullAccesses returnAccesses interruptReturnAccesses entryAccesses breakAccesses callAccesses
+    pushAccesses pullAccesses returnAccesses interruptReturnAccesses entryAccesses breakAccesses jsrAccesses
     operationAccesses withRead changedBy byteToStore branchTaken bitBranchTaken byteToPush withPulled withRegister
     withFlag instructionAccesses resetAccesses interruptAccesses
 halt-last = refl
 
-pub halt-before : reached (plains (chip (At 0)) 11 (tapeStart 1)) ≡ 0 ∷ 11 ∷ 1 ∷ 0 ∷ []
-unfolding withBit setWhere flipWhere dueCount ticksOf inForce downA countsA clockA lowerA upperA loadCounterA reloadB
+pub halt-before : reached (plains (system (At 0)) 11 (tapeStart 1)) ≡ 0 ∷ 11 ∷ 1 ∷ 0 ∷ []
+unfolding withBit setWhere flipWhere inputCount ticksOf inForce downA countsA clockA lowerA upperA loadCounterA reloadB
     downB clockB lowerB upperB copyB loadCounterB turnToC transmitterAsynchronous receiverAsynchronous receiverShifting
     holdsA keepsTransmitter keepsReceiver parityBit frameBits sentBits pace startDetected withLevel receivedByte
-    wrongParity statusAfter keptWith frameEnded lookTaken looked receiveTick shiftedAtRise byteEnded receiveRise
+    wrongParity scsrAfter keptWith frameEnded lookTaken looked receiveTick shiftedAtRise byteEnded receiveRise
     receiverClock receiverWithSccr framed taken idleTick frameEnd nextPhase ticked bitTick sendTick transmitterClock
     line shiftClock transmitterWithSccr decodeOf packed unpacked pushed memoryByte displacement flagsOf modeA modeB
     withInput driveA driveD drivenWord levelsOf rose fell edges withEdges resetOf sensedAt sensed fresh portValue
@@ -426,17 +430,17 @@ unfolding withBit setWhere flipWhere dueCount ticksOf inForce downA countsA cloc
     nmiStart irqStart startOf bytePut processorOf withInputs countA countB sentBy heardBy peripheralsClock readyOf
     finished clockOf isWritten halts putWrite committed plainOf plains putRecord located byteAfter peripheralsRead
     peripheralsWritten valueRead performed inOrder completion storeAt modifyAccesses branchOn bitBranchAccesses jumpTo
-    pushAccesses pullAccesses returnAccesses interruptReturnAccesses entryAccesses breakAccesses callAccesses
+    pushAccesses pullAccesses returnAccesses interruptReturnAccesses entryAccesses breakAccesses jsrAccesses
     operationAccesses withRead changedBy byteToStore branchTaken bitBranchTaken byteToPush withPulled withRegister
     withFlag instructionAccesses resetAccesses interruptAccesses
 halt-before = refl
 
 -- "6 and 7 for that same clock come first"
-pub halt-full : reached (plains (chip (At 0)) 100 (tapeStart 0)) ≡ 7 ∷ 11 ∷ 1 ∷ 0 ∷ []
-unfolding withBit setWhere flipWhere dueCount ticksOf inForce downA countsA clockA lowerA upperA loadCounterA reloadB
+pub halt-full : reached (plains (system (At 0)) 100 (tapeStart 0)) ≡ 7 ∷ 11 ∷ 1 ∷ 0 ∷ []
+unfolding withBit setWhere flipWhere inputCount ticksOf inForce downA countsA clockA lowerA upperA loadCounterA reloadB
     downB clockB lowerB upperB copyB loadCounterB turnToC transmitterAsynchronous receiverAsynchronous receiverShifting
     holdsA keepsTransmitter keepsReceiver parityBit frameBits sentBits pace startDetected withLevel receivedByte
-    wrongParity statusAfter keptWith frameEnded lookTaken looked receiveTick shiftedAtRise byteEnded receiveRise
+    wrongParity scsrAfter keptWith frameEnded lookTaken looked receiveTick shiftedAtRise byteEnded receiveRise
     receiverClock receiverWithSccr framed taken idleTick frameEnd nextPhase ticked bitTick sendTick transmitterClock
     line shiftClock transmitterWithSccr decodeOf packed unpacked pushed memoryByte displacement flagsOf modeA modeB
     withInput driveA driveD drivenWord levelsOf rose fell edges withEdges resetOf sensedAt sensed fresh portValue
@@ -444,17 +448,17 @@ unfolding withBit setWhere flipWhere dueCount ticksOf inForce downA countsA cloc
     nmiStart irqStart startOf bytePut processorOf withInputs countA countB sentBy heardBy peripheralsClock readyOf
     finished clockOf isWritten halts putWrite committed plainOf plains putRecord located byteAfter peripheralsRead
     peripheralsWritten valueRead performed inOrder completion storeAt modifyAccesses branchOn bitBranchAccesses jumpTo
-    pushAccesses pullAccesses returnAccesses interruptReturnAccesses entryAccesses breakAccesses callAccesses
+    pushAccesses pullAccesses returnAccesses interruptReturnAccesses entryAccesses breakAccesses jsrAccesses
     operationAccesses withRead changedBy byteToStore branchTaken bitBranchTaken byteToPush withPulled withRegister
     withFlag instructionAccesses resetAccesses interruptAccesses
 halt-full = refl
 
 -- 02, U6: "The `replay` example's first line becomes `12 FFFFFF55`": its one record with no halt address
-pub tape-record : plains (chip Nowhere) 100 (tapeStart 2) .outputClocks ≡ 12 ∷ 0 ∷ []
-unfolding withBit setWhere flipWhere dueCount ticksOf inForce downA countsA clockA lowerA upperA loadCounterA reloadB
+pub tape-record : plains (system Nowhere) 100 (tapeStart 2) .outputClocks ≡ 12 ∷ 0 ∷ []
+unfolding withBit setWhere flipWhere inputCount ticksOf inForce downA countsA clockA lowerA upperA loadCounterA reloadB
     downB clockB lowerB upperB copyB loadCounterB turnToC transmitterAsynchronous receiverAsynchronous receiverShifting
     holdsA keepsTransmitter keepsReceiver parityBit frameBits sentBits pace startDetected withLevel receivedByte
-    wrongParity statusAfter keptWith frameEnded lookTaken looked receiveTick shiftedAtRise byteEnded receiveRise
+    wrongParity scsrAfter keptWith frameEnded lookTaken looked receiveTick shiftedAtRise byteEnded receiveRise
     receiverClock receiverWithSccr framed taken idleTick frameEnd nextPhase ticked bitTick sendTick transmitterClock
     line shiftClock transmitterWithSccr decodeOf packed unpacked pushed memoryByte displacement flagsOf modeA modeB
     withInput driveA driveD drivenWord levelsOf rose fell edges withEdges resetOf sensedAt sensed fresh portValue
@@ -462,16 +466,16 @@ unfolding withBit setWhere flipWhere dueCount ticksOf inForce downA countsA cloc
     nmiStart irqStart startOf bytePut processorOf withInputs countA countB sentBy heardBy peripheralsClock readyOf
     finished clockOf isWritten halts putWrite committed plainOf plains putRecord located byteAfter peripheralsRead
     peripheralsWritten valueRead performed inOrder completion storeAt modifyAccesses branchOn bitBranchAccesses jumpTo
-    pushAccesses pullAccesses returnAccesses interruptReturnAccesses entryAccesses breakAccesses callAccesses
+    pushAccesses pullAccesses returnAccesses interruptReturnAccesses entryAccesses breakAccesses jsrAccesses
     operationAccesses withRead changedBy byteToStore branchTaken bitBranchTaken byteToPush withPulled withRegister
     withFlag instructionAccesses resetAccesses interruptAccesses
 tape-record = refl
 
-pub tape-word : plains (chip Nowhere) 100 (tapeStart 2) .outputWords ≡ 0xFFFFFF55 ∷ 0 ∷ []
-unfolding withBit setWhere flipWhere dueCount ticksOf inForce downA countsA clockA lowerA upperA loadCounterA reloadB
+pub tape-word : plains (system Nowhere) 100 (tapeStart 2) .outputWords ≡ 0xFFFFFF55 ∷ 0 ∷ []
+unfolding withBit setWhere flipWhere inputCount ticksOf inForce downA countsA clockA lowerA upperA loadCounterA reloadB
     downB clockB lowerB upperB copyB loadCounterB turnToC transmitterAsynchronous receiverAsynchronous receiverShifting
     holdsA keepsTransmitter keepsReceiver parityBit frameBits sentBits pace startDetected withLevel receivedByte
-    wrongParity statusAfter keptWith frameEnded lookTaken looked receiveTick shiftedAtRise byteEnded receiveRise
+    wrongParity scsrAfter keptWith frameEnded lookTaken looked receiveTick shiftedAtRise byteEnded receiveRise
     receiverClock receiverWithSccr framed taken idleTick frameEnd nextPhase ticked bitTick sendTick transmitterClock
     line shiftClock transmitterWithSccr decodeOf packed unpacked pushed memoryByte displacement flagsOf modeA modeB
     withInput driveA driveD drivenWord levelsOf rose fell edges withEdges resetOf sensedAt sensed fresh portValue
@@ -479,18 +483,18 @@ unfolding withBit setWhere flipWhere dueCount ticksOf inForce downA countsA cloc
     nmiStart irqStart startOf bytePut processorOf withInputs countA countB sentBy heardBy peripheralsClock readyOf
     finished clockOf isWritten halts putWrite committed plainOf plains putRecord located byteAfter peripheralsRead
     peripheralsWritten valueRead performed inOrder completion storeAt modifyAccesses branchOn bitBranchAccesses jumpTo
-    pushAccesses pullAccesses returnAccesses interruptReturnAccesses entryAccesses breakAccesses callAccesses
+    pushAccesses pullAccesses returnAccesses interruptReturnAccesses entryAccesses breakAccesses jsrAccesses
     operationAccesses withRead changedBy byteToStore branchTaken bitBranchTaken byteToPush withPulled withRegister
     withFlag instructionAccesses resetAccesses interruptAccesses
 tape-word = refl
 
 -- 02, U6: on clocks 10 and 11 the byte of STA 00h waits; on clock 12, where no record is free, it still does
-pub halt-waiting : tabulate (λ k. plains (chip (At 0)) k (tapeStart 1) .state .cpu .waiting) 4 9
+pub halt-waiting : tabulate (λ k. plains (system (At 0)) k (tapeStart 1) .state .cpu .waiting) 4 9
     ≡ Nothing ∷ Byte (writeAt 0x0000 0x55) ∷ Byte (writeAt 0x0000 0x55) ∷ Nothing ∷ []
-unfolding withBit setWhere flipWhere dueCount ticksOf inForce downA countsA clockA lowerA upperA loadCounterA reloadB
+unfolding withBit setWhere flipWhere inputCount ticksOf inForce downA countsA clockA lowerA upperA loadCounterA reloadB
     downB clockB lowerB upperB copyB loadCounterB turnToC transmitterAsynchronous receiverAsynchronous receiverShifting
     holdsA keepsTransmitter keepsReceiver parityBit frameBits sentBits pace startDetected withLevel receivedByte
-    wrongParity statusAfter keptWith frameEnded lookTaken looked receiveTick shiftedAtRise byteEnded receiveRise
+    wrongParity scsrAfter keptWith frameEnded lookTaken looked receiveTick shiftedAtRise byteEnded receiveRise
     receiverClock receiverWithSccr framed taken idleTick frameEnd nextPhase ticked bitTick sendTick transmitterClock
     line shiftClock transmitterWithSccr decodeOf packed unpacked pushed memoryByte displacement flagsOf modeA modeB
     withInput driveA driveD drivenWord levelsOf rose fell edges withEdges resetOf sensedAt sensed fresh portValue
@@ -498,16 +502,16 @@ unfolding withBit setWhere flipWhere dueCount ticksOf inForce downA countsA cloc
     nmiStart irqStart startOf bytePut processorOf withInputs countA countB sentBy heardBy peripheralsClock readyOf
     finished clockOf isWritten halts putWrite committed plainOf plains putRecord located byteAfter peripheralsRead
     peripheralsWritten valueRead performed inOrder completion storeAt modifyAccesses branchOn bitBranchAccesses jumpTo
-    pushAccesses pullAccesses returnAccesses interruptReturnAccesses entryAccesses breakAccesses callAccesses
+    pushAccesses pullAccesses returnAccesses interruptReturnAccesses entryAccesses breakAccesses jsrAccesses
     operationAccesses withRead changedBy byteToStore branchTaken bitBranchTaken byteToPush withPulled withRegister
     withFlag instructionAccesses resetAccesses interruptAccesses
 halt-waiting = refl
 
-pub full-waiting : plains (chip (At 0)) 100 (tapeStart 0) .state .cpu .waiting ≡ Byte (writeAt 0x0000 0x55)
-unfolding withBit setWhere flipWhere dueCount ticksOf inForce downA countsA clockA lowerA upperA loadCounterA reloadB
+pub full-waiting : plains (system (At 0)) 100 (tapeStart 0) .state .cpu .waiting ≡ Byte (writeAt 0x0000 0x55)
+unfolding withBit setWhere flipWhere inputCount ticksOf inForce downA countsA clockA lowerA upperA loadCounterA reloadB
     downB clockB lowerB upperB copyB loadCounterB turnToC transmitterAsynchronous receiverAsynchronous receiverShifting
     holdsA keepsTransmitter keepsReceiver parityBit frameBits sentBits pace startDetected withLevel receivedByte
-    wrongParity statusAfter keptWith frameEnded lookTaken looked receiveTick shiftedAtRise byteEnded receiveRise
+    wrongParity scsrAfter keptWith frameEnded lookTaken looked receiveTick shiftedAtRise byteEnded receiveRise
     receiverClock receiverWithSccr framed taken idleTick frameEnd nextPhase ticked bitTick sendTick transmitterClock
     line shiftClock transmitterWithSccr decodeOf packed unpacked pushed memoryByte displacement flagsOf modeA modeB
     withInput driveA driveD drivenWord levelsOf rose fell edges withEdges resetOf sensedAt sensed fresh portValue
@@ -515,20 +519,20 @@ unfolding withBit setWhere flipWhere dueCount ticksOf inForce downA countsA cloc
     nmiStart irqStart startOf bytePut processorOf withInputs countA countB sentBy heardBy peripheralsClock readyOf
     finished clockOf isWritten halts putWrite committed plainOf plains putRecord located byteAfter peripheralsRead
     peripheralsWritten valueRead performed inOrder completion storeAt modifyAccesses branchOn bitBranchAccesses jumpTo
-    pushAccesses pullAccesses returnAccesses interruptReturnAccesses entryAccesses breakAccesses callAccesses
+    pushAccesses pullAccesses returnAccesses interruptReturnAccesses entryAccesses breakAccesses jsrAccesses
     operationAccesses withRead changedBy byteToStore branchTaken bitBranchTaken byteToPush withPulled withRegister
     withFlag instructionAccesses resetAccesses interruptAccesses
 full-waiting = refl
 
 -- STA 00h and an undefined opcode: "the clock after it isn't looked at", whose 6 is not told
 abbrev pub undefinedNext : World
-undefinedNext = startWith (running 0) (replicate 0x40 0 ++ (0x85 ∷ 0x00 ∷ 0x02 ∷ [])) [] [] (0 ∷ []) (0 ∷ [])
+undefinedNext = startWith (afterReset 0) (replicate 0x40 0 ++ (0x85 ∷ 0x00 ∷ 0x02 ∷ [])) [] [] (0 ∷ []) (0 ∷ [])
 
-pub halt-before-six : reached (plains (chip (At 0)) 10 undefinedNext) ≡ 12 ∷ 3 ∷ 0 ∷ 1 ∷ []
-unfolding withBit setWhere flipWhere dueCount ticksOf inForce downA countsA clockA lowerA upperA loadCounterA reloadB
+pub halt-before-six : reached (plains (system (At 0)) 10 undefinedNext) ≡ 12 ∷ 3 ∷ 0 ∷ 1 ∷ []
+unfolding withBit setWhere flipWhere inputCount ticksOf inForce downA countsA clockA lowerA upperA loadCounterA reloadB
     downB clockB lowerB upperB copyB loadCounterB turnToC transmitterAsynchronous receiverAsynchronous receiverShifting
     holdsA keepsTransmitter keepsReceiver parityBit frameBits sentBits pace startDetected withLevel receivedByte
-    wrongParity statusAfter keptWith frameEnded lookTaken looked receiveTick shiftedAtRise byteEnded receiveRise
+    wrongParity scsrAfter keptWith frameEnded lookTaken looked receiveTick shiftedAtRise byteEnded receiveRise
     receiverClock receiverWithSccr framed taken idleTick frameEnd nextPhase ticked bitTick sendTick transmitterClock
     line shiftClock transmitterWithSccr decodeOf packed unpacked pushed memoryByte displacement flagsOf modeA modeB
     withInput driveA driveD drivenWord levelsOf rose fell edges withEdges resetOf sensedAt sensed fresh portValue
@@ -536,7 +540,7 @@ unfolding withBit setWhere flipWhere dueCount ticksOf inForce downA countsA cloc
     nmiStart irqStart startOf bytePut processorOf withInputs countA countB sentBy heardBy peripheralsClock readyOf
     finished clockOf isWritten halts putWrite committed plainOf plains putRecord located byteAfter peripheralsRead
     peripheralsWritten valueRead performed inOrder completion storeAt modifyAccesses branchOn bitBranchAccesses jumpTo
-    pushAccesses pullAccesses returnAccesses interruptReturnAccesses entryAccesses breakAccesses callAccesses
+    pushAccesses pullAccesses returnAccesses interruptReturnAccesses entryAccesses breakAccesses jsrAccesses
     operationAccesses withRead changedBy byteToStore branchTaken bitBranchTaken byteToPush withPulled withRegister
     withFlag instructionAccesses resetAccesses interruptAccesses
 halt-before-six = refl
@@ -556,10 +560,10 @@ abbrev pub callingStart : World
 callingStart = startWith atCall (replicate 0x40 0 ++ (0x20 ∷ 0x00 ∷ 0x02 ∷ [])) [] [] (0 ∷ []) (0 ∷ [])
 
 pub call-told : told (toldBy (clockIn callingStart)) ≡ writeAt 0x0000 0x00 ∷ writeAt 0x00FF 0x42 ∷ []
-unfolding withBit setWhere flipWhere dueCount ticksOf inForce downA countsA clockA lowerA upperA loadCounterA reloadB
+unfolding withBit setWhere flipWhere inputCount ticksOf inForce downA countsA clockA lowerA upperA loadCounterA reloadB
     downB clockB lowerB upperB copyB loadCounterB turnToC transmitterAsynchronous receiverAsynchronous receiverShifting
     holdsA keepsTransmitter keepsReceiver parityBit frameBits sentBits pace startDetected withLevel receivedByte
-    wrongParity statusAfter keptWith frameEnded lookTaken looked receiveTick shiftedAtRise byteEnded receiveRise
+    wrongParity scsrAfter keptWith frameEnded lookTaken looked receiveTick shiftedAtRise byteEnded receiveRise
     receiverClock receiverWithSccr framed taken idleTick frameEnd nextPhase ticked bitTick sendTick transmitterClock
     line shiftClock transmitterWithSccr decodeOf packed unpacked pushed memoryByte displacement flagsOf modeA modeB
     withInput driveA driveD drivenWord levelsOf rose fell edges withEdges resetOf sensedAt sensed fresh portValue
@@ -567,7 +571,7 @@ unfolding withBit setWhere flipWhere dueCount ticksOf inForce downA countsA cloc
     nmiStart irqStart startOf bytePut processorOf withInputs countA countB sentBy heardBy peripheralsClock readyOf
     finished clockOf isWritten halts putWrite committed plainOf plains putRecord located byteAfter peripheralsRead
     peripheralsWritten valueRead performed inOrder completion storeAt modifyAccesses branchOn bitBranchAccesses jumpTo
-    pushAccesses pullAccesses returnAccesses interruptReturnAccesses entryAccesses breakAccesses callAccesses
+    pushAccesses pullAccesses returnAccesses interruptReturnAccesses entryAccesses breakAccesses jsrAccesses
     operationAccesses withRead changedBy byteToStore branchTaken bitBranchTaken byteToPush withPulled withRegister
     withFlag instructionAccesses resetAccesses interruptAccesses
 call-told = refl

@@ -7,13 +7,13 @@ use Prim.Native.Nat.{ℕ, zero, suc, _+_}
 use Rattle.bits.specs.Bits.{bit}
 use Rattle.bits.specs.Lists.{tabulate}
 use Rattle.bits.specs.Bits.{withBit, setWhere, flipWhere}
-use Rattle.pin_lists.specs.PinLists.{dueCount}
+use Rattle.pin_lists.specs.PinLists.{inputCount}
 use Rattle.counters.specs.Counters.{ticksOf, inForce, downA, countsA, clockA, lowerA, upperA, loadCounterA, reloadB}
 use Rattle.counters.specs.Counters.{downB, clockB, lowerB, upperB, copyB, loadCounterB, turnToC}
 use Rattle.serial_format.specs.Format.{transmitterAsynchronous, receiverAsynchronous, receiverShifting, holdsA}
 use Rattle.serial_format.specs.Format.{keepsTransmitter, keepsReceiver, parityBit, frameBits, pace}
 use Rattle.serial.specs.Transmitter.{sentBits}
-use Rattle.serial.specs.Receiver.{startDetected, withLevel, receivedByte, wrongParity, statusAfter, keptWith}
+use Rattle.serial.specs.Receiver.{startDetected, withLevel, receivedByte, wrongParity, scsrAfter, keptWith}
 use Rattle.serial.specs.Receiver.{frameEnded, lookTaken, looked, receiveTick, shiftedAtRise, byteEnded, receiveRise}
 use Rattle.serial.specs.Receiver.{receiverClock, receiverWithSccr}
 use Rattle.serial.specs.Transmitter.{framed, taken, idleTick, frameEnd, nextPhase, ticked, bitTick, sendTick}
@@ -28,13 +28,16 @@ use Rattle.cpu_access.specs.Bus.{memoryByte}
 use Rattle.cpu_access.specs.declared.waiting.Waiting.the-variants.{Nothing, Byte}
 use Rattle.cpu_access.specs.Waiting.{byteWaits}
 use Rattle.cpu_access.specs.Accesses.{byteAfter, peripheralsRead, peripheralsWritten, valueRead, performed, inOrder}
-use Rattle.cpu_modes.specs.Operands.{located}
+use Rattle.cpu_modes.specs.ModeAccesses.{located}
 use Rattle.cpu_modes.specs.Modes.{displacement}
 use Rattle.cpu_kinds.specs.Kinds.{withRead, changedBy, byteToStore, branchTaken, bitBranchTaken, byteToPush}
 use Rattle.cpu_kinds.specs.Kinds.{withPulled, withRegister, withFlag}
-use Rattle.cpu.specs.Sequence.{completion, storeAt, modifyAccesses, branchOn, bitBranchAccesses, jumpTo, pushAccesses}
-use Rattle.cpu.specs.Sequence.{pullAccesses, returnAccesses, interruptReturnAccesses, entryAccesses, breakAccesses}
-use Rattle.cpu.specs.Sequence.{callAccesses, operationAccesses, instructionAccesses, resetAccesses, interruptAccesses}
+use Rattle.cpu.specs.InstructionAccesses.{completion, storeAt, modifyAccesses, branchOn, bitBranchAccesses, jumpTo}
+use Rattle.cpu.specs.InstructionAccesses.{pushAccesses}
+use Rattle.cpu.specs.InstructionAccesses.{pullAccesses, returnAccesses, interruptReturnAccesses, entryAccesses}
+use Rattle.cpu.specs.InstructionAccesses.{breakAccesses}
+use Rattle.cpu.specs.InstructionAccesses.{jsrAccesses, operationAccesses, instructionAccesses, resetAccesses}
+use Rattle.cpu.specs.InstructionAccesses.{interruptAccesses}
 use Rattle.r6501q_cpu.specs.Processor.{wholeInstruction, irqDue, resetStart, nmiStart, irqStart, startOf, bytePut}
 use Rattle.r6501q_cpu.specs.Processor.{processorOf}
 use Rattle.r6501q_state.specs.Control.{flagsOf, modeA, modeB}
@@ -58,11 +61,11 @@ use Rattle.leaps.specs.World.{putRecord, plainOf, doneIn, eventIn}
 use Rattle.r6501q_gaps.specs.Events.{hasInput, sameLevels, levelsChange, underflowsA, underflowsB, portsFresh}
 use Rattle.r6501q_gaps.specs.Events.{controlFresh, transmitterIdle, receiverIdle, isReset, resetChanges, cpuStarts}
 use Rattle.r6501q_gaps.specs.Events.{putsByte, eventOf}
-use Rattle.r6501q_step.specs.R6501q.{World, plain, chip}
+use Rattle.r6501q_step.specs.R6501q.{World, plain, system}
 use Rattle.r6501q_step.proofs.Halted.{toldBy, clockIn}
 use lib.ListN.{replicate}
 use Rattle.bits.specs.Bits.{word16}
-use Rattle.r6501q_examples.proofs.Examples.{startWith, running}
+use Rattle.r6501q_examples.proofs.Examples.{startWith, afterReset}
 
 -- JMP (02FFh) at 0040h; the bytes at 0200h, at 02FFh, and at 0300h in the next page
 abbrev pub jumpMemory : ℕ → ℕ → ℕ → List ℕ
@@ -71,12 +74,12 @@ jumpMemory first last next =
     ++ (last ∷ next ∷ [])
 
 pub indirect-jump : (first last next : ℕ)
-    → plains (chip Nowhere) 1 (startWith (running 0) (jumpMemory first last next) [] [] [] []) .state .cpu
+    → plains (system Nowhere) 1 (startWith (afterReset 0) (jumpMemory first last next) [] [] [] []) .state .cpu
     ≡ record { a = 0; x = 0; y = 0; sp = 0xFF; p = 0x04; pc = word16 first last; wait = 4; waiting = Nothing }
-unfolding withBit setWhere flipWhere dueCount ticksOf inForce downA countsA clockA lowerA upperA loadCounterA reloadB
+unfolding withBit setWhere flipWhere inputCount ticksOf inForce downA countsA clockA lowerA upperA loadCounterA reloadB
     downB clockB lowerB upperB copyB loadCounterB turnToC transmitterAsynchronous receiverAsynchronous receiverShifting
     holdsA keepsTransmitter keepsReceiver parityBit frameBits sentBits pace startDetected withLevel receivedByte
-    wrongParity statusAfter keptWith frameEnded lookTaken looked receiveTick shiftedAtRise byteEnded receiveRise
+    wrongParity scsrAfter keptWith frameEnded lookTaken looked receiveTick shiftedAtRise byteEnded receiveRise
     receiverClock receiverWithSccr framed taken idleTick frameEnd nextPhase ticked bitTick sendTick transmitterClock
     line shiftClock transmitterWithSccr decodeOf packed unpacked pushed memoryByte displacement flagsOf modeA modeB
     withInput driveA driveD drivenWord levelsOf rose fell edges withEdges resetOf sensedAt sensed fresh portValue
@@ -84,7 +87,7 @@ unfolding withBit setWhere flipWhere dueCount ticksOf inForce downA countsA cloc
     nmiStart irqStart startOf bytePut processorOf withInputs countA countB sentBy heardBy peripheralsClock readyOf
     finished clockOf halts putWrite committed plainOf plains putRecord located byteAfter peripheralsRead
     peripheralsWritten valueRead performed inOrder completion storeAt modifyAccesses branchOn bitBranchAccesses jumpTo
-    pushAccesses pullAccesses returnAccesses interruptReturnAccesses entryAccesses breakAccesses callAccesses
+    pushAccesses pullAccesses returnAccesses interruptReturnAccesses entryAccesses breakAccesses jsrAccesses
     operationAccesses withRead changedBy byteToStore branchTaken bitBranchTaken byteToPush withPulled withRegister
     withFlag instructionAccesses resetAccesses interruptAccesses
 indirect-jump first last next = refl

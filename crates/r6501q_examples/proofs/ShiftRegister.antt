@@ -7,13 +7,13 @@ use Prim.Native.Nat.{ℕ, zero, suc, _+_}
 use Rattle.bits.specs.Bits.{bit}
 use Rattle.bits.specs.Lists.{tabulate}
 use Rattle.bits.specs.Bits.{withBit, setWhere, flipWhere}
-use Rattle.pin_lists.specs.PinLists.{dueCount}
+use Rattle.pin_lists.specs.PinLists.{inputCount}
 use Rattle.counters.specs.Counters.{ticksOf, inForce, downA, countsA, clockA, lowerA, upperA, loadCounterA, reloadB}
 use Rattle.counters.specs.Counters.{downB, clockB, lowerB, upperB, copyB, loadCounterB, turnToC}
 use Rattle.serial_format.specs.Format.{transmitterAsynchronous, receiverAsynchronous, receiverShifting, holdsA}
 use Rattle.serial_format.specs.Format.{keepsTransmitter, keepsReceiver, parityBit, frameBits, pace}
 use Rattle.serial.specs.Transmitter.{sentBits}
-use Rattle.serial.specs.Receiver.{startDetected, withLevel, receivedByte, wrongParity, statusAfter, keptWith}
+use Rattle.serial.specs.Receiver.{startDetected, withLevel, receivedByte, wrongParity, scsrAfter, keptWith}
 use Rattle.serial.specs.Receiver.{frameEnded, lookTaken, looked, receiveTick, shiftedAtRise, byteEnded, receiveRise}
 use Rattle.serial.specs.Receiver.{receiverClock, receiverWithSccr}
 use Rattle.serial.specs.Transmitter.{framed, taken, idleTick, frameEnd, nextPhase, ticked, bitTick, sendTick}
@@ -28,13 +28,16 @@ use Rattle.cpu_access.specs.Bus.{memoryByte}
 use Rattle.cpu_access.specs.declared.waiting.Waiting.the-variants.{Nothing, Byte}
 use Rattle.cpu_access.specs.Waiting.{byteWaits}
 use Rattle.cpu_access.specs.Accesses.{byteAfter, peripheralsRead, peripheralsWritten, valueRead, performed, inOrder}
-use Rattle.cpu_modes.specs.Operands.{located}
+use Rattle.cpu_modes.specs.ModeAccesses.{located}
 use Rattle.cpu_modes.specs.Modes.{displacement}
 use Rattle.cpu_kinds.specs.Kinds.{withRead, changedBy, byteToStore, branchTaken, bitBranchTaken, byteToPush}
 use Rattle.cpu_kinds.specs.Kinds.{withPulled, withRegister, withFlag}
-use Rattle.cpu.specs.Sequence.{completion, storeAt, modifyAccesses, branchOn, bitBranchAccesses, jumpTo, pushAccesses}
-use Rattle.cpu.specs.Sequence.{pullAccesses, returnAccesses, interruptReturnAccesses, entryAccesses, breakAccesses}
-use Rattle.cpu.specs.Sequence.{callAccesses, operationAccesses, instructionAccesses, resetAccesses, interruptAccesses}
+use Rattle.cpu.specs.InstructionAccesses.{completion, storeAt, modifyAccesses, branchOn, bitBranchAccesses, jumpTo}
+use Rattle.cpu.specs.InstructionAccesses.{pushAccesses}
+use Rattle.cpu.specs.InstructionAccesses.{pullAccesses, returnAccesses, interruptReturnAccesses, entryAccesses}
+use Rattle.cpu.specs.InstructionAccesses.{breakAccesses}
+use Rattle.cpu.specs.InstructionAccesses.{jsrAccesses, operationAccesses, instructionAccesses, resetAccesses}
+use Rattle.cpu.specs.InstructionAccesses.{interruptAccesses}
 use Rattle.r6501q_cpu.specs.Processor.{wholeInstruction, irqDue, resetStart, nmiStart, irqStart, startOf, bytePut}
 use Rattle.r6501q_cpu.specs.Processor.{processorOf}
 use Rattle.r6501q_state.specs.Control.{flagsOf, modeA, modeB}
@@ -58,10 +61,10 @@ use Rattle.leaps.specs.World.{putRecord, plainOf, doneIn, eventIn}
 use Rattle.r6501q_gaps.specs.Events.{hasInput, sameLevels, levelsChange, underflowsA, underflowsB, portsFresh}
 use Rattle.r6501q_gaps.specs.Events.{controlFresh, transmitterIdle, receiverIdle, isReset, resetChanges, cpuStarts}
 use Rattle.r6501q_gaps.specs.Events.{putsByte, eventOf}
-use Rattle.r6501q_step.specs.R6501q.{World, plain, chip}
+use Rattle.r6501q_step.specs.R6501q.{World, plain, system}
 use Rattle.r6501q_step.proofs.Halted.{toldBy, clockIn}
 use lib.ListN.{replicate}
-use Rattle.r6501q_examples.proofs.Examples.{startWith, running}
+use Rattle.r6501q_examples.proofs.Examples.{startWith, afterReset}
 
 -- LDA #00h, STA 18h, STA 1Ah, LDA #A0h, STA 15h, LDA #41h, STA 17h, whose byte is put on clock 18
 abbrev pub shiftSender : List ℕ → List ℕ
@@ -70,7 +73,7 @@ shiftSender later =
     ++ (0xA9 ∷ 0x00 ∷ 0x85 ∷ 0x18 ∷ 0x85 ∷ 0x1A ∷ 0xA9 ∷ 0xA0 ∷ 0x85 ∷ 0x15 ∷ 0xA9 ∷ 0x41 ∷ 0x85 ∷ 0x17 ∷ later)
 
 abbrev pub shiftStart : List ℕ → World
-shiftStart later = startWith (running 0) (shiftSender later) [] [] (replicate 17 0) (replicate 17 0)
+shiftStart later = startWith (afterReset 0) (shiftSender later) [] [] (replicate 17 0) (replicate 17 0)
 
 -- a jump to itself; STA 17h, put on clock 21, and a jump to itself; LDA #A0h, STA 15h, put on clock 23, and a jump to
 -- itself
@@ -89,7 +92,7 @@ drivenA a = 0xFFFFFF00 + a
 
 -- a receiver that is on and in shift-register mode, while the CPU jumps to itself
 abbrev pub shiftReceiver : State
-shiftReceiver = withPeripherals (running 0) (record {
+shiftReceiver = withPeripherals (afterReset 0) (record {
   ports = freshPorts;
   countera = freshPeripherals .countera;
   counterb = freshPeripherals .counterb;
@@ -113,37 +116,38 @@ receiverStart = startWith shiftReceiver (replicate 0x40 0 ++ (0x4C ∷ 0x40 ∷ 
 pub record ShiftRegister : Type 0 where
   -- 41h put on clock 18 with SCCR A0h and latch 0: taken on 19, shifted on each second clock; PA4 is low and high
   -- for each bit; after clock 35 an under-run, both lines high
-  pub sent-clocks : plains (chip Nowhere) 35 (shiftStart thenNothing) .outputClocks ≡ tabulate (λ k. k) 17 19
-  pub sent-words : plains (chip Nowhere) 35 (shiftStart thenNothing) .outputWords
+  pub sent-clocks : plains (system Nowhere) 35 (shiftStart thenNothing) .outputClocks ≡ tabulate (λ k. k) 17 19
+  pub sent-words : plains (system Nowhere) 35 (shiftStart thenNothing) .outputWords
       ≡ drivenA 0xEF ∷ drivenA 0xFF ∷ drivenA 0xAF ∷ drivenA 0xBF ∷ drivenA 0xAF ∷ drivenA 0xBF ∷ drivenA 0xAF
       ∷ drivenA 0xBF
       ∷ drivenA 0xAF ∷ drivenA 0xBF ∷ drivenA 0xAF ∷ drivenA 0xBF ∷ drivenA 0xEF ∷ drivenA 0xFF ∷ drivenA 0xAF
       ∷ drivenA 0xBF
       ∷ drivenA 0xFF ∷ []
-  pub under-run : plains (chip Nowhere) 35 (shiftStart thenNothing) .state .peripherals .control .scsr ≡ 0xC0
+  pub under-run : plains (system Nowhere) 35 (shiftStart thenNothing) .state .peripherals .control .scsr ≡ 0xC0
   -- "it takes the next data that tick": 17h written again meanwhile, PA4 is low and PA6 the next byte's first bit
-  pub next-taken : plains (chip Nowhere) 35 (shiftStart thenAnother) .state .peripherals .transmitter
+  pub next-taken : plains (system Nowhere) 35 (shiftStart thenAnother) .state .peripherals .transmitter
       ≡ record { left = 8; phase = 0; register = 0x41 }
-  pub next-driven : drivenWord (plains (chip Nowhere) 35 (shiftStart thenAnother) .state .peripherals) ≡ drivenA 0xEF
+  pub next-driven : drivenWord (plains (system Nowhere) 35 (shiftStart thenAnother) .state .peripherals) ≡ drivenA 0xEF
   -- SCCR written with the same A0h ends the byte: PA4 and PA6 go high
-  pub sccr-again : plains (chip Nowhere) 23 (shiftStart thenSccrAgain) .state .peripherals .transmitter
+  pub sccr-again : plains (system Nowhere) 23 (shiftStart thenSccrAgain) .state .peripherals .transmitter
       ≡ idleTransmitter
-  pub sccr-driven : drivenWord (plains (chip Nowhere) 22 (shiftStart thenSccrAgain) .state .peripherals) ≡ drivenA 0xBF
-  pub sccr-high : drivenWord (plains (chip Nowhere) 23 (shiftStart thenSccrAgain) .state .peripherals) ≡ drivenA 0xFF
+  pub sccr-driven : drivenWord (plains (system Nowhere) 22 (shiftStart thenSccrAgain) .state .peripherals)
+      ≡ drivenA 0xBF
+  pub sccr-high : drivenWord (plains (system Nowhere) 23 (shiftStart thenSccrAgain) .state .peripherals) ≡ drivenA 0xFF
   -- PA7 1, 0, 0, 0, 0, 0, 1, 0 at rises of PA4, SCCR 50h: 7 bits left and 400h after the first, 208h and the byte 41h
   -- at the last
-  pub first-rise : plains (chip Nowhere) 2 receiverStart .state .peripherals .receiver
+  pub first-rise : plains (system Nowhere) 2 receiverStart .state .peripherals .receiver
       ≡ record { subinterval = 0; half = false; left = 7; register = 0x400 }
-  pub last-rise : plains (chip Nowhere) 16 receiverStart .state .peripherals .receiver
+  pub last-rise : plains (system Nowhere) 16 receiverStart .state .peripherals .receiver
       ≡ record { subinterval = 0; half = false; left = 0; register = 0x208 }
-  pub byte-received : plains (chip Nowhere) 16 receiverStart .state .peripherals .serial .received ≡ 0x41
-  pub byte-full : plains (chip Nowhere) 16 receiverStart .state .peripherals .control .scsr ≡ 0x41
+  pub byte-received : plains (system Nowhere) 16 receiverStart .state .peripherals .serial .received ≡ 0x41
+  pub byte-full : plains (system Nowhere) 16 receiverStart .state .peripherals .control .scsr ≡ 0x41
 
 pub shift-register : ShiftRegister
-unfolding withBit setWhere flipWhere dueCount ticksOf inForce downA countsA clockA lowerA upperA loadCounterA reloadB
+unfolding withBit setWhere flipWhere inputCount ticksOf inForce downA countsA clockA lowerA upperA loadCounterA reloadB
     downB clockB lowerB upperB copyB loadCounterB turnToC transmitterAsynchronous receiverAsynchronous receiverShifting
     holdsA keepsTransmitter keepsReceiver parityBit frameBits sentBits pace startDetected withLevel receivedByte
-    wrongParity statusAfter keptWith frameEnded lookTaken looked receiveTick shiftedAtRise byteEnded receiveRise
+    wrongParity scsrAfter keptWith frameEnded lookTaken looked receiveTick shiftedAtRise byteEnded receiveRise
     receiverClock receiverWithSccr framed taken idleTick frameEnd nextPhase ticked bitTick sendTick transmitterClock
     line shiftClock transmitterWithSccr decodeOf packed unpacked pushed memoryByte displacement flagsOf modeA modeB
     withInput driveA driveD drivenWord levelsOf rose fell edges withEdges resetOf sensedAt sensed fresh portValue
@@ -151,7 +155,7 @@ unfolding withBit setWhere flipWhere dueCount ticksOf inForce downA countsA cloc
     nmiStart irqStart startOf bytePut processorOf withInputs countA countB sentBy heardBy peripheralsClock readyOf
     finished clockOf halts putWrite committed plainOf plains putRecord located byteAfter peripheralsRead
     peripheralsWritten valueRead performed inOrder completion storeAt modifyAccesses branchOn bitBranchAccesses jumpTo
-    pushAccesses pullAccesses returnAccesses interruptReturnAccesses entryAccesses breakAccesses callAccesses
+    pushAccesses pullAccesses returnAccesses interruptReturnAccesses entryAccesses breakAccesses jsrAccesses
     operationAccesses withRead changedBy byteToStore branchTaken bitBranchTaken byteToPush withPulled withRegister
     withFlag instructionAccesses resetAccesses interruptAccesses
 shift-register = record {

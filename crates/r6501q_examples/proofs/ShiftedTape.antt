@@ -14,12 +14,12 @@ use Rattle.cpu_access.specs.declared.waiting.Waiting.{Waiting}
 use Rattle.cpu_access.specs.declared.waiting.Waiting.the-variants.{Nothing, Byte}
 use Rattle.cpu_access.specs.declared.stack.Write.{Write}
 use Rattle.cpu_access.specs.Waiting.{byteWaits}
-use Rattle.cpu.specs.Sequence.{Ending, undefined, leaves, instructionAccesses}
-use Rattle.memory.specs.Memory.{memorySpan}
+use Rattle.cpu.specs.InstructionAccesses.{Ending, undefined, leaves, instructionAccesses}
+use Rattle.memory.specs.Memory.{memoryLength}
 use Rattle.pin_lists.specs.PinLists.{pinsRight}
 use Rattle.refusals.specs.Refusals.{lastClock, refusalOf}
 use Rattle.leaps.specs.Leaps.{plains, leapCount}
-use Rattle.leaps.specs.Lists.{stepOf, runOf}
+use Rattle.leaps.specs.CallLists.{stepOf, runOf}
 use Rattle.leaps.specs.Calls.{callStart, refusalIn}
 use Rattle.leaps.specs.Shifted.{shiftedClocks, shiftedOutcome, ShiftedWorld, ShiftedHanded, clockRefusal, RefusedAlike}
 use Rattle.leaps.proofs.Shifted as theory
@@ -40,7 +40,7 @@ use Rattle.r6501q_clock.specs.Clock.{inputsSet, readyOf, fullStop, endedWith, f
 use Rattle.r6501q_gaps.specs.Events.{levelsChange, underflowsA, underflowsB, resetChanges, cpuStarts, putsByte, isReset}
 use Rattle.r6501q_gaps.specs.Events.{eventOf}
 use Rattle.r6501q_gaps.specs.Gaps.{toInput, toChange, toUnderflowA, toUnderflowB, toReset, toCpu, gapOf, passOf}
-use Rattle.r6501q_step.specs.R6501q.{World, clockOutcome, r6501q, chip, machine}
+use Rattle.r6501q_step.specs.R6501q.{World, clockOutcome, r6501q, system, machine}
 use Rattle.r6501q_step.specs.Shifted.{shiftedState}
 use Rattle.r6501q_step.proofs.Shifted.{start-alike, plains-shifted, count-shifted}
 use Rattle.r6501q_examples.proofs.Examples.{startWith, tapeMemory, tapeStart, reached, halt-reached, halt-leaps}
@@ -54,9 +54,9 @@ tape-alike : (k : ℕ) → ShiftedWorld shiftedState k (tapeStart 1) (tapeAt k)
 tape-alike k =
     start-alike (At 0) k fresh tapeMemory (1 ∷ []) (resHigh ∷ []) (0 ∷ []) (0 ∷ []) (0 ∷ []) (0 ∷ []) refl refl
 
-pub tape-reached : (k : ℕ) → reached (plains (chip (At 0)) 100 (tapeAt k)) ≡ 12 ∷ (12 + k) ∷ 0 ∷ 1 ∷ []
+pub tape-reached : (k : ℕ) → reached (plains (system (At 0)) 100 (tapeAt k)) ≡ 12 ∷ (12 + k) ∷ 0 ∷ 1 ∷ []
 tape-reached k =
-    by-fields (plains (chip (At 0)) 100 (tapeStart 1)) (plains (chip (At 0)) 100 (tapeAt k))
+    by-fields (plains (system (At 0)) 100 (tapeStart 1)) (plains (system (At 0)) 100 (tapeAt k))
     (plains-shifted (At 0) k (tapeStart 1) (tapeAt k) (tape-alike k) 100) ∙ ap clockShifted halt-reached
   where
     clockShifted : List ℕ → List ℕ
@@ -67,5 +67,5 @@ tape-reached k =
     by-fields : (w v : World) → ShiftedWorld shiftedState k w v → reached v ≡ clockShifted (reached w)
     by-fields w v r = rw (r .stop, r .state, r .written)
 
-pub tape-leaps : (k : ℕ) → leapCount (chip (At 0)) 100 (tapeAt k) ≡ 4
+pub tape-leaps : (k : ℕ) → leapCount (system (At 0)) 100 (tapeAt k) ≡ 4
 tape-leaps k = count-shifted (At 0) k (tapeStart 1) (tapeAt k) (tape-alike k) 100 ∙ halt-leaps

@@ -6,7 +6,7 @@ use Prim.Native.Nat.{ℕ, _+_, _<_}
 use lib.Dec.{ltb, eqb}
 use lib.ListN.{length, take}
 use Rattle.bits.proofs.Cond.{cond-map}
-use Rattle.pin_lists.specs.PinLists.{dueCount}
+use Rattle.pin_lists.specs.PinLists.{inputCount}
 use Rattle.cpu_opcodes.specs.Decode.{decodeOf}
 use Rattle.cpu_opcodes.specs.declared.Decoded.the-variants.{Defined}
 use Rattle.cpu_opcodes.specs.declared.Entry.{Entry}
@@ -30,7 +30,7 @@ use Rattle.r6501q_step.proofs.Halted.{toldBy, clockIn}
 
 -- the state that steps 1 to 3 of the next clock leave
 abbrev pub readyIn : World → State
-readyIn w = readyOf (w .state) (take (dueCount (w .state .clock + 1) (w .inputClocks)) (w .inputCodes))
+readyIn w = readyOf (w .state) (take (inputCount (w .state .clock + 1) (w .inputClocks)) (w .inputCodes))
 
 -- the clock needs a record and none is free: 7, and it is not done
 abbrev pub fullIn : World → Next → Bool

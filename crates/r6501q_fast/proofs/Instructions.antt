@@ -6,8 +6,8 @@ use Prim.Native.Nat.{ℕ, _+_, _-_, _≤_, _<_}
 use native.Mathlib.Omega.{arith}
 use lib.Dec.{ltb, eqb}
 use borrow.Author.Tests.{ltb-true, eq-eqb}
-use Rattle.bits.specs.Bits.{digit}
-use Rattle.bits.proofs.Cond.{and-right, digit-le}
+use Rattle.bits.specs.Bits.{oneWhere}
+use Rattle.bits.proofs.Cond.{and-right, one-where-le}
 use Rattle.r6501q_unseen.specs.declared.Ticking.{Ticking}
 use Rattle.r6501q_unseen.specs.Unseen.{onTick}
 use Rattle.cpu_access.specs.declared.halt.Halt.{Halt}
@@ -42,8 +42,8 @@ unfolding sharedBy
 shared-two t start gone =
     omega (
       arith,
-      digit-le (onTick t start),
-      at-most (eqb gone start) (digit (onTick t gone)) (digit-le (onTick t gone)),
+      one-where-le (onTick t start),
+      at-most (eqb gone start) (oneWhere (onTick t gone)) (one-where-le (onTick t gone)),
     )
 
 module _ (halt : Halt) (span : ℕ) (ticking : Ticking) (start : Work) (memory₀ : List ℕ) where
@@ -75,13 +75,13 @@ module _ (halt : Halt) (span : ℕ) (ticking : Ticking) (start : Work) (memory�
   unfolding sharedBy
   shared-most none = omega arith
   shared-most (more {v} so-far (pushing worked inside e z q)) =
-      let here = digit-le (onTick ticking (v .gone .0 + v .wait + 1)) in
+      let here = one-where-le (onTick ticking (v .gone .0 + v .wait + 1)) in
       let same = eq-eqb (v .gone .0 + v .wait + 1) (v .gone .0 + v .wait + 1) refl in
       rw same (omega (arith, shared-most so-far, here))
   shared-most (more {v} so-far (storing worked x fits long e z q)) =
-      let here = digit-le (onTick ticking (v .gone .0 + v .wait + 1)) in
+      let here = one-where-le (onTick ticking (v .gone .0 + v .wait + 1)) in
       let there =
       at-most (eqb (v .gone .0 + v .wait + 1 + (worked .length - 1)) (v .gone .0 + v .wait + 1))
-      (digit (onTick ticking (v .gone .0 + v .wait + 1 + (worked .length - 1))))
-      (digit-le (onTick ticking (v .gone .0 + v .wait + 1 + (worked .length - 1)))) in
+      (oneWhere (onTick ticking (v .gone .0 + v .wait + 1 + (worked .length - 1))))
+      (one-where-le (onTick ticking (v .gone .0 + v .wait + 1 + (worked .length - 1)))) in
       omega (arith, shared-most so-far, here, there, long)

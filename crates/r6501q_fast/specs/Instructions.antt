@@ -4,7 +4,7 @@ use mathlib.Core.Bool.{cond}
 use mathlib.Core.List.{List}
 use Prim.Native.Nat.{ℕ, _+_}
 use lib.Dec.{eqb}
-use Rattle.bits.specs.Bits.{digit}
+use Rattle.bits.specs.Bits.{oneWhere}
 use Rattle.cpu_access.specs.declared.halt.Halt.{Halt}
 use Rattle.cpu_access.specs.declared.waiting.Waiting.{Waiting}
 use Rattle.cpu_access.specs.declared.waiting.Waiting.the-variants as waiting
@@ -16,7 +16,7 @@ use Rattle.r6501q_fast.specs.declared.RanOn.{RanOn}
 
 -- of the clocks that one instruction acts on, its start and the clock of a store's byte, those that have a tick too
 unfoldable pub sharedBy : Ticking → ℕ → ℕ → ℕ
-sharedBy t start gone = digit (onTick t start) + cond (eqb gone start) 0 (digit (onTick t gone))
+sharedBy t start gone = oneWhere (onTick t start) + cond (eqb gone start) 0 (oneWhere (onTick t gone))
 
 -- instructions one after the other, and how many of the clocks that they act on have a tick too
 pub data ByInstructions (halt : Halt) (span : ℕ) (t : Ticking) (w : Work) (memory : List ℕ) : Work → List ℕ → ℕ

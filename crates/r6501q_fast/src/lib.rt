@@ -5,13 +5,13 @@ ghost use Prim.Native.Nat.{_+_, _≤_, _<_};
 ghost use Rattle.page_sums.specs.PageSums.{sumsAfter};
 ghost use Rattle.cpu.specs.Work.{WithinSpan};
 ghost use Rattle.r6501q_fast.specs.Instructions.{ByInstructions, RunsOn, sharedBy};
-use bits::digit8;
+use bits::one_where;
 use counters::time::Clocks;
 use cpu::work::Work;
 use cpu_access::halt::Halt;
 use cpu_access::memory_byte;
 use cpu_access::waiting::Waiting;
-use memory::MEMORY_SPAN;
+use memory::MEMORY_LENGTH;
 use memory::is_register;
 use r6501q_mnemonics::same_work;
 use r6501q_spans::Working;
@@ -47,11 +47,11 @@ fn shared_by(ticking: Ticking, start: u32, gone: u32) -> u32
     requires { ⌜ 0 < ticking .period ⌝ }
     ensures { λ r. ⌜ r ≡ sharedBy ticking start gone ⌝ }
 {
-    let first = digit8(on_tick(ticking, start)) as u32;
+    let first = one_where(on_tick(ticking, start)) as u32;
     if gone == start {
         return first;
     }
-    first + digit8(on_tick(ticking, gone)) as u32
+    first + one_where(on_tick(ticking, gone)) as u32
 }
 
 // The same added to those before, where the instruction was done.
@@ -66,9 +66,10 @@ fn with_shared(ticking: Ticking, shared: u32, start: u32, succeeded: bool, gone:
 }
 
 // The instructions that start in a span, one after the other, up to the first that is left to `work_once`: one that
-// reads a register, writes to one or at the halt address, BRK, an undefined opcode, a store whose last clock lies behind
-// the span, or one whose bytes may be at a register's address. The match stands in the loop itself, so that the work stays in the host's registers; and
-// the memory's length is looked at before it, so that no access within asks again.
+// reads a register, writes to one or at the halt address, BRK, an undefined opcode, a store whose last clock lies
+// behind the span, or one whose bytes may be at a register's address. The match stands in the loop itself, so that the
+// work stays in the host's registers; and the memory's length is looked at before it, so that no access within asks
+// again.
 pub fn run_opcodes(
     start: Work,
     span: Clocks,
@@ -84,7 +85,7 @@ pub fn run_opcodes(
     ensures { λ r. ⌜ WithinSpan (r .work) (span .0) ⌝ }
     ensures { λ _. ⌜ now (sums .exit) ≡ sumsAfter (now (sums .entry)) (now (memory .entry)) (now (memory .exit)) ⌝ }
 {
-    if memory.len() != MEMORY_SPAN {
+    if memory.len() != MEMORY_LENGTH {
         return Ran {
             work: start,
             shared: 0,
@@ -103,22 +104,22 @@ pub fn run_opcodes(
         }
         let opcode = memory_byte(memory, pc);
         let tried = match opcode / 16 {
-            0 => r6501q_rows::row_0(w, span, memory, sums, halt, opcode),
-            1 => r6501q_rows::row_1(w, span, memory, sums, halt, opcode),
-            2 => r6501q_rows::row_2(w, span, memory, sums, halt, opcode),
-            3 => r6501q_rows::row_3(w, span, memory, sums, halt, opcode),
-            4 => r6501q_rows::row_4(w, span, memory, sums, halt, opcode),
-            5 => r6501q_rows::row_5(w, span, memory, sums, halt, opcode),
-            6 => r6501q_rows::row_6(w, span, memory, sums, halt, opcode),
-            7 => r6501q_rows::row_7(w, span, memory, sums, halt, opcode),
-            8 => r6501q_rows::row_8(w, span, memory, sums, halt, opcode),
-            9 => r6501q_rows::row_9(w, span, memory, sums, halt, opcode),
-            10 => r6501q_rows::row_a(w, span, memory, sums, halt, opcode),
-            11 => r6501q_rows::row_b(w, span, memory, sums, halt, opcode),
-            12 => r6501q_rows::row_c(w, span, memory, sums, halt, opcode),
-            13 => r6501q_rows::row_d(w, span, memory, sums, halt, opcode),
-            14 => r6501q_rows::row_e(w, span, memory, sums, halt, opcode),
-            _ => r6501q_rows::row_f(w, span, memory, sums, halt, opcode),
+            0 => r6501q_rows::opcodes_00(w, span, memory, sums, halt, opcode),
+            1 => r6501q_rows::opcodes_10(w, span, memory, sums, halt, opcode),
+            2 => r6501q_rows::opcodes_20(w, span, memory, sums, halt, opcode),
+            3 => r6501q_rows::opcodes_30(w, span, memory, sums, halt, opcode),
+            4 => r6501q_rows::opcodes_40(w, span, memory, sums, halt, opcode),
+            5 => r6501q_rows::opcodes_50(w, span, memory, sums, halt, opcode),
+            6 => r6501q_rows::opcodes_60(w, span, memory, sums, halt, opcode),
+            7 => r6501q_rows::opcodes_70(w, span, memory, sums, halt, opcode),
+            8 => r6501q_rows::opcodes_80(w, span, memory, sums, halt, opcode),
+            9 => r6501q_rows::opcodes_90(w, span, memory, sums, halt, opcode),
+            10 => r6501q_rows::opcodes_a0(w, span, memory, sums, halt, opcode),
+            11 => r6501q_rows::opcodes_b0(w, span, memory, sums, halt, opcode),
+            12 => r6501q_rows::opcodes_c0(w, span, memory, sums, halt, opcode),
+            13 => r6501q_rows::opcodes_d0(w, span, memory, sums, halt, opcode),
+            14 => r6501q_rows::opcodes_e0(w, span, memory, sums, halt, opcode),
+            _ => r6501q_rows::opcodes_f0(w, span, memory, sums, halt, opcode),
         };
         shared = with_shared(
             ticking,

@@ -8,7 +8,7 @@ use native.Mathlib.Omega.{arith}
 use lib.Dec.{eqb}
 use lib.ListN.{take}
 use borrow.Author.Tests.{eqb-false, ne-eqb, not-false}
-use Rattle.bits.specs.Bits.{digit}
+use Rattle.bits.specs.Bits.{oneWhere}
 use Rattle.bits.proofs.Cond.{cond-both}
 use Rattle.cpu_access.specs.Waiting.{byteWaits}
 use Rattle.counters.specs.declared.time.Clocks.{Clocks}
@@ -18,10 +18,10 @@ use Rattle.r6501q_state.specs.Pins.{levelsOf}
 use Rattle.r6501q_clock.specs.Clock.{readyOf}
 use Rattle.r6501q_cpu.specs.Processor.{processorOf, withoutWrites}
 use Rattle.r6501q_state.specs.Inputs.{lastPin}
-use Rattle.pin_lists.specs.PinLists.{pinsRight, dueCount}
+use Rattle.pin_lists.specs.PinLists.{pinsRight, inputCount}
 use Rattle.pin_lists.proofs.PinLists.{right-above}
 use Rattle.r6501q_gaps.specs.Events.{hasInput, sameLevels, levelsChange, isReset, resetChanges, eventOf}
-use Rattle.r6501q_gaps.specs.Gaps.{clocksOf, runningA, runningB, toInput, toChange, toUnderflowA, toUnderflowB}
+use Rattle.r6501q_gaps.specs.Gaps.{clocksOf, countingA, countingB, toInput, toChange, toUnderflowA, toUnderflowB}
 use Rattle.r6501q_gaps.specs.Gaps.{toReset, untilCpu, toCpu, gapOf, waitAfter, passOf}
 use Rattle.r6501q_gaps.proofs.Same.{same-levels, levels-same}
 use Rattle.r6501q_gaps.proofs.Quiet.{Quiet, no-both, both-no, clock-quiet, quiet-event, event-quiet}
@@ -79,24 +79,24 @@ gap-quiet n s clocks h = record {
   still = record {
     levels = same-levels (levelsOf s) (s .last) (not-false _ (no-event (levelsChange s) n (omega arith)));
     above-a =
-        count-above (runningA (s .peripherals .control) (s .last .ports)) (s .peripherals .countera .count) n
+        count-above (countingA (s .peripherals .control) (s .last .ports)) (s .peripherals .countera .count) n
         (omega arith);
-    above-b = count-above (runningB (s .peripherals .control)) (s .peripherals .counterb .count) n (omega arith);
+    above-b = count-above (countingB (s .peripherals .control)) (s .peripherals .counterb .count) n (omega arith);
     reset = both-no (s .last .res) (isReset s) (no-event (resetChanges s) n (omega arith));
   };
   waits = count-above (s .last .res) (untilCpu (s .cpu)) n (omega arith);
 }
 
-pub not-due : (n clock : ℕ) (clocks : List ℕ) → 0 < toInput n clock clocks → dueCount (clock + 1) clocks ≡ 0
-unfolding toInput dueCount
-not-due n clock [] h = refl
-not-due n clock (t ∷ ts) h = rw (ne-eqb t (clock + 1) (λ e. omega arith))
+pub no-input-next : (n clock : ℕ) (clocks : List ℕ) → 0 < toInput n clock clocks → inputCount (clock + 1) clocks ≡ 0
+unfolding toInput inputCount
+no-input-next n clock [] h = refl
+no-input-next n clock (t ∷ ts) h = rw (ne-eqb t (clock + 1) (λ e. omega arith))
 
 module _ (n : ℕ) (s : State) (clocks : List ℕ) (h : 0 < gapOf n s clocks .0) where
-  -- no input is due
-  pub gap-no-input : dueCount (s .clock + 1) clocks ≡ 0
+  -- the next clock has no input
+  pub gap-no-input : inputCount (s .clock + 1) clocks ≡ 0
   unfolding gapOf
-  gap-no-input = not-due n (s .clock) clocks (omega arith)
+  gap-no-input = no-input-next n (s .clock) clocks (omega arith)
 
   -- the clock is done, writes nothing, and is a gap of one clock passed
   pub gap-clock : (memory : List ℕ) → processorOf (readyOf s []) memory ≡ withoutWrites (passOf s (clocksOf 1))
@@ -120,10 +120,10 @@ unfolding gapOf toChange toUnderflowA toUnderflowB toReset toCpu levelsChange re
 quiet-gap n s clocks h q i =
     let change = above-event (not (sameLevels (levelsOf s) (s .last))) n
     (ap not (levels-same (levelsOf s) (s .last) (q .still .levels))) h in
-    let a = above-count (runningA (s .peripherals .control) (s .last .ports)) (s .peripherals .countera .count) n
+    let a = above-count (countingA (s .peripherals .control) (s .last .ports)) (s .peripherals .countera .count) n
     (q .still .above-a) h in
     let b =
-    above-count (runningB (s .peripherals .control)) (s .peripherals .counterb .count) n (q .still .above-b) h in
+    above-count (countingB (s .peripherals .control)) (s .peripherals .counterb .count) n (q .still .above-b) h in
     let reset =
     above-event (not (s .last .res) && not (isReset s)) n (no-both (s .last .res) (isReset s) (q .still .reset)) h in
     let cpu = above-count (s .last .res) (untilCpu (s .cpu)) n (q .waits) h in
@@ -131,14 +131,14 @@ quiet-gap n s clocks h q i =
 
 -- the next input is later, or the next clock has it
 input-later : (n clock : ℕ) (clocks codes : List ℕ) → pinsRight lastPin clock clocks codes ≡ true
-    → hasInput (take (dueCount (clock + 1) clocks) codes) ≡ false → 0 < n → 0 < toInput n clock clocks
-unfolding pinsRight toInput dueCount hasInput
+    → hasInput (take (inputCount (clock + 1) clocks) codes) ≡ false → 0 < n → 0 < toInput n clock clocks
+unfolding pinsRight toInput inputCount hasInput
 input-later n clock [] codes right none h = h
 input-later n clock (t ∷ ts) [] right none h = absurd (false≢true right)
 input-later n clock (t ∷ ts) (code ∷ codes) right none h = by-clock (eqb t (clock + 1)) refl none
   where
     by-clock : (b : Bool) → eqb t (clock + 1) ≡ b
-        → hasInput (take (cond b (suc (dueCount (clock + 1) ts)) 0) (code ∷ codes)) ≡ false
+        → hasInput (take (cond b (suc (inputCount (clock + 1) ts)) 0) (code ∷ codes)) ≡ false
         → 0 < t - clock - 1
     by-clock true e z = absurd (false≢true (sym z))
     by-clock false e z =
@@ -163,17 +163,17 @@ no-codes (code ∷ codes) e = absurd (false≢true (sym e))
 -- with a clock left and no gap, the next clock is an event clock: of inputs that are right for the state's clock
 pub gap-event : (n : ℕ) (s : State) (clocks codes : List ℕ) → pinsRight lastPin (s .clock) clocks codes ≡ true → 0 < n
     → gapOf n s clocks .0 ≡ 0
-    → eventOf s (take (dueCount (s .clock + 1) clocks) codes) ≡ true
-gap-event n s clocks codes right h none = by-event (eventOf s due) refl
+    → eventOf s (take (inputCount (s .clock + 1) clocks) codes) ≡ true
+gap-event n s clocks codes right h none = by-event (eventOf s inputs) refl
   where
-    due : List ℕ
-    due = take (dueCount (s .clock + 1) clocks) codes
+    inputs : List ℕ
+    inputs = take (inputCount (s .clock + 1) clocks) codes
 
-    by-event : (b : Bool) → eventOf s due ≡ b → b ≡ true
+    by-event : (b : Bool) → eventOf s inputs ≡ b → b ≡ true
     by-event true e = refl
     by-event false e =
-        let input = event-input s due e in
-        let q = event-quiet s (ap (eventOf s) (sym (no-codes due input)) ∙ e) in
+        let input = event-input s inputs e in
+        let q = event-quiet s (ap (eventOf s) (sym (no-codes inputs input)) ∙ e) in
         let above = quiet-gap n s clocks h q (input-later n (s .clock) clocks codes right input h) in
         absurd (omega arith)
 
@@ -208,11 +208,11 @@ module _ (n : ℕ) (s : State) (g : ℕ) where
   less-underflow-a : toUnderflowA (n - g) (passOf s (clocksOf g)) ≡ toUnderflowA n s - g
   unfolding toUnderflowA passOf passA
   less-underflow-a =
-      less-count (runningA (s .peripherals .control) (s .last .ports)) (s .peripherals .countera .count) n g
+      less-count (countingA (s .peripherals .control) (s .last .ports)) (s .peripherals .countera .count) n g
 
   less-underflow-b : toUnderflowB (n - g) (passOf s (clocksOf g)) ≡ toUnderflowB n s - g
   unfolding toUnderflowB passOf passB
-  less-underflow-b = less-count (runningB (s .peripherals .control)) (s .peripherals .counterb .count) n g
+  less-underflow-b = less-count (countingB (s .peripherals .control)) (s .peripherals .counterb .count) n g
 
   less-reset : toReset (n - g) (passOf s (clocksOf g)) ≡ toReset n s - g
   unfolding toReset
@@ -220,7 +220,7 @@ module _ (n : ℕ) (s : State) (g : ℕ) where
 
   less-cpu : toCpu (n - g) (passOf s (clocksOf g)) ≡ toCpu n s - g
   unfolding toCpu untilCpu passOf waitAfter
-  less-cpu = less-until (s .last .res) (s .cpu .wait) (digit (byteWaits (s .cpu .waiting))) n g
+  less-cpu = less-until (s .last .res) (s .cpu .wait) (oneWhere (byteWaits (s .cpu .waiting))) n g
 
   -- after g clocks of it, the gap is g clocks shorter
   pub gap-passed : (clocks : List ℕ) → gapOf (n - g) (passOf s (clocksOf g)) clocks .0 ≡ gapOf n s clocks .0 - g

@@ -20,6 +20,6 @@ first-input n clock [] h = absurd (h refl)
 first-input n clock (t ∷ ts) h = refl
 
 -- a first input that is not above the clock
-pub first-due : (n clock : ℕ) (clocks : List ℕ) → (length clocks ≡ 0 → ⊥) → getD clocks 0 0 ≤ clock
+pub first-passed : (n clock : ℕ) (clocks : List ℕ) → (length clocks ≡ 0 → ⊥) → getD clocks 0 0 ≤ clock
     → toInput n clock clocks ≡ 0
-first-due n clock clocks h l = first-input n clock clocks h ∙ omega arith
+first-passed n clock clocks h l = first-input n clock clocks h ∙ omega arith

@@ -6,7 +6,7 @@ use native.Mathlib.Nat.{add-zero, add-assoc}
 use native.Mathlib.Omega.{arith}
 use lib.Dec.{leb, eqb}
 use borrow.Author.Tests.{leb-true, le-leb, eqb-false, ne-eqb}
-use Rattle.bits.specs.Bits.{digit}
+use Rattle.bits.specs.Bits.{oneWhere}
 use Rattle.cpu_access.specs.Waiting.{byteWaits}
 use Rattle.counters.specs.declared.a.CounterA.{CounterA}
 use Rattle.counters.specs.declared.b.CounterB.{CounterB}
@@ -55,12 +55,12 @@ unfolding waitAfter
 wait-add wait true g h = omega arith
 wait-add wait false g h = refl
 
-pub zero-a : (c : CounterA) (running : Bool) → passA c running (clocksOf 0) ≡ c
+pub zero-a : (c : CounterA) (counting : Bool) → passA c counting (clocksOf 0) ≡ c
 unfolding passA
 zero-a c true = let e : c .count - 0 ≡ c .count = omega arith in rw e
 zero-a c false = refl
 
-pub zero-b : (c : CounterB) (running : Bool) → passB c running (clocksOf 0) ≡ c
+pub zero-b : (c : CounterB) (counting : Bool) → passB c counting (clocksOf 0) ≡ c
 unfolding passB
 zero-b c true = let e : c .count - 0 ≡ c .count = omega arith in rw e
 zero-b c false = refl
@@ -80,7 +80,7 @@ unfolding waitAfter
 wait-fits wait true g e = let h = leb-true wait 6 e in le-leb (wait - g) 6 (omega arith)
 wait-fits wait false g e = e
 
-still-waits : (b high : Bool) (wait g : ℕ) → (high ≡ true → g ≤ wait - digit b) → (b && eqb wait 0) ≡ false
+still-waits : (b high : Bool) (wait g : ℕ) → (high ≡ true → g ≤ wait - oneWhere b) → (b && eqb wait 0) ≡ false
     → (b && eqb (waitAfter wait high (clocksOf g)) 0) ≡ false
 unfolding waitAfter
 still-waits true true wait g h e =

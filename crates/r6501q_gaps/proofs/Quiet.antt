@@ -7,12 +7,13 @@ use native.Mathlib.Omega.{arith}
 use lib.Dec.{ltb, eqb}
 use lib.ListN.{getD}
 use borrow.Author.Tests.{eqb-true, eqb-false, ne-eqb, le-ltb, lt-ltb, not-false}
-use Rattle.bits.specs.Bits.{bit, digit, setWhere, flipWhere}
+use Rattle.bits.specs.Bits.{bit, oneWhere, setWhere, flipWhere}
 use Rattle.cpu_access.specs.Waiting.{byteWaits}
 use Rattle.bits.specs.Lists.{anyOf}
 use Rattle.counters.specs.declared.a.CounterA.{CounterA}
 use Rattle.counters.specs.declared.b.CounterB.{CounterB}
-use Rattle.counters.specs.Counters.{clockA, countsA, downA, runsA, clockB, downB, runsB, passA, passB, ticksOf}
+use Rattle.counters.specs.Counters.{clockA, countsA, downA, countsThroughA, clockB, downB, countsThroughB, passA, passB}
+use Rattle.counters.specs.Counters.{ticksOf}
 use Rattle.counters.proofs.Gaps.{clock-passes-a, clock-passes-b}
 use Rattle.serial.specs.Transmitter.{transmitterClock}
 use Rattle.serial.specs.Receiver.{receiverClock}
@@ -26,7 +27,7 @@ use Rattle.r6501q_cpu.specs.Processor.{processorOf, withoutWrites}
 use Rattle.r6501q_cpu.proofs.Stores.{clock-waits, waited-less}
 use Rattle.r6501q_gaps.specs.Events.{hasInput, levelsChange, underflowsA, underflowsB, isReset, resetChanges}
 use Rattle.r6501q_gaps.specs.Events.{cpuStarts, putsByte, eventTests, eventOf}
-use Rattle.r6501q_gaps.specs.Gaps.{clocksOf, runningA, runningB, untilCpu, waitAfter, passCounters, passOf}
+use Rattle.r6501q_gaps.specs.Gaps.{clocksOf, countingA, countingB, untilCpu, waitAfter, passCounters, passOf}
 use Rattle.r6501q_gaps.proofs.Same.{same-levels, levels-same, reset-same}
 
 -- ---- no edge between equal levels
@@ -58,10 +59,10 @@ no-nmi false false = refl
 
 -- ---- underflows without a rise
 
--- counter A underflows where it runs and stands at 0000h
+-- counter A underflows where it counts and stands at 0000h
 underflow-a : (c : CounterA) (mode : ℕ) (low : Bool)
-    → clockA c mode false low .underflow ≡ (runsA mode low && eqb (c .count) 0)
-unfolding clockA runsA downA
+    → clockA c mode false low .underflow ≡ (countsThroughA mode low && eqb (c .count) 0)
+unfolding clockA countsThroughA downA
 underflow-a c mode low = by-tests (countsA mode false low) (eqb (c .count) 0) refl refl
   where
     by-tests : (t z : Bool) → countsA mode false low ≡ t → eqb (c .count) 0 ≡ z
@@ -71,8 +72,8 @@ underflow-a c mode low = by-tests (countsA mode false low) (eqb (c .count) 0) re
     by-tests false z e f = rw e
 
 -- and so does counter B
-underflow-b : (c : CounterB) (mode : ℕ) → clockB c mode false .underflow ≡ (runsB mode && eqb (c .count) 0)
-unfolding clockB runsB downB
+underflow-b : (c : CounterB) (mode : ℕ) → clockB c mode false .underflow ≡ (countsThroughB mode && eqb (c .count) 0)
+unfolding clockB countsThroughB downB
 underflow-b c mode = by-tests (ltb mode 2) (eqb mode 2) (eqb (c .count) 0) refl refl refl
   where
     by-tests : (l t z : Bool) → ltb mode 2 ≡ l → eqb mode 2 ≡ t → eqb (c .count) 0 ≡ z
@@ -89,8 +90,8 @@ underflow-b c mode = by-tests (ltb mode 2) (eqb mode 2) (eqb (c .count) 0) refl 
 -- the same of a state whose levels are the last ones
 still-a : (s : State)
     → underflowsA (s .last .ports) s
-    ≡ (runningA (s .peripherals .control) (s .last .ports) && eqb (s .peripherals .countera .count) 0)
-unfolding underflowsA runningA
+    ≡ (countingA (s .peripherals .control) (s .last .ports) && eqb (s .peripherals .countera .count) 0)
+unfolding underflowsA countingA
 still-a s =
     let c = s .peripherals .countera in
     let mode = modeA (s .peripherals .control .mcr) (s .peripherals .control .sccr) in
@@ -98,19 +99,19 @@ still-a s =
     ap (λ (r : Bool). clockA c mode r low .underflow) (no-rise 4 (s .last .ports)) ∙ underflow-a c mode low
 
 still-b : (s : State)
-    → underflowsB (s .last .ports) s ≡ (runningB (s .peripherals .control) && eqb (s .peripherals .counterb .count) 0)
-unfolding underflowsB runningB
+    → underflowsB (s .last .ports) s ≡ (countingB (s .peripherals .control) && eqb (s .peripherals .counterb .count) 0)
+unfolding underflowsB countingB
 still-b s =
     let c = s .peripherals .counterb in
     let mode = modeB (s .peripherals .control .mcr) in
     ap (λ (r : Bool). clockB c mode r .underflow) (no-rise 5 (s .last .ports)) ∙ underflow-b c mode
 
 -- a counter, or the wait, that counts down is above 0, or it does not count down
-pub not-at-zero : (running : Bool) (count : ℕ) → (running ≡ true → 0 < count) → (running && eqb count 0) ≡ false
+pub not-at-zero : (counting : Bool) (count : ℕ) → (counting ≡ true → 0 < count) → (counting && eqb count 0) ≡ false
 not-at-zero true count h = ne-eqb count 0 (λ e. let k = h refl in omega arith)
 not-at-zero false count h = refl
 
-pub above-zero : (running : Bool) (count : ℕ) → (running && eqb count 0) ≡ false → running ≡ true → 0 < count
+pub above-zero : (counting : Bool) (count : ℕ) → (counting && eqb count 0) ≡ false → counting ≡ true → 0 < count
 above-zero true count e z = let k = eqb-false count 0 e in omega arith
 above-zero false count e z = absurd (false≢true z)
 
@@ -127,8 +128,8 @@ both-no false t e z = not-false t e
 
 pub record Still (s : State) : Type 0 where
   pub levels : levelsOf s ≡ s .last
-  pub above-a : runningA (s .peripherals .control) (s .last .ports) ≡ true → 0 < s .peripherals .countera .count
-  pub above-b : runningB (s .peripherals .control) ≡ true → 0 < s .peripherals .counterb .count
+  pub above-a : countingA (s .peripherals .control) (s .last .ports) ≡ true → 0 < s .peripherals .countera .count
+  pub above-b : countingB (s .peripherals .control) ≡ true → 0 < s .peripherals .counterb .count
   pub reset : s .last .res ≡ false → isReset s ≡ true
 
 -- ---- what is known of a state whose next clock, without an input, is no event clock
@@ -188,17 +189,20 @@ sensed-ahead s e h = rw (levels-ahead, e) (sensedAt-same (ahead s) (λ k. reset-
 
 -- ---- steps 2 and 3
 
-counted-a-quiet : (p : Peripherals) (x : ℕ) → (runningA (p .control) x ≡ true → 0 < p .countera .count)
+counted-a-quiet : (p : Peripherals) (x : ℕ) → (countingA (p .control) x ≡ true → 0 < p .countera .count)
     → countA p x x
-    ≡ record
-    { peripherals = withCounterA p (passA (p .countera) (runningA (p .control) x) (clocksOf 1)); ticks = ticksOf false }
-unfolding countA runningA setWhere flipWhere
+    ≡ record {
+      peripherals = withCounterA p
+          (passA (p .countera) (countingA (p .control) x) (clocksOf 1));
+      ticks = ticksOf false;
+    }
+unfolding countA countingA setWhere flipWhere
 counted-a-quiet p x h =
     rw (no-rise 4 x, clock-passes-a (p .countera) (modeA (p .control .mcr) (p .control .sccr)) (not (bit 4 x)) h)
 
-pub counted-b-quiet : (p : Peripherals) (x : ℕ) → (runningB (p .control) ≡ true → 0 < p .counterb .count)
-    → countB p x x ≡ withCounterB p (passB (p .counterb) (runningB (p .control)) (clocksOf 1))
-unfolding countB runningB setWhere flipWhere
+pub counted-b-quiet : (p : Peripherals) (x : ℕ) → (countingB (p .control) ≡ true → 0 < p .counterb .count)
+    → countB p x x ≡ withCounterB p (passB (p .counterb) (countingB (p .control)) (clocksOf 1))
+unfolding countB countingB setWhere flipWhere
 counted-b-quiet p x h = rw (no-rise 5 x, clock-passes-b (p .counterb) (modeB (p .control .mcr)) h)
 
 -- without a tick the transmitter stands still, in either mode, and without a tick and a rise of PA4 the receiver
@@ -210,13 +214,13 @@ heard-none : (p : Peripherals) (x : ℕ) → heardBy p (ticksOf false) x x ≡ p
 unfolding heardBy receiverClock ticksOf
 heard-none p x = rw (no-rise 4 x)
 
-pub peripherals-quiet : (p : Peripherals) (x : ℕ) → (runningA (p .control) x ≡ true → 0 < p .countera .count)
-    → (runningB (p .control) ≡ true → 0 < p .counterb .count) → peripheralsClock p x x ≡ passCounters p x (clocksOf 1)
+pub peripherals-quiet : (p : Peripherals) (x : ℕ) → (countingA (p .control) x ≡ true → 0 < p .countera .count)
+    → (countingB (p .control) ≡ true → 0 < p .counterb .count) → peripheralsClock p x x ≡ passCounters p x (clocksOf 1)
 unfolding peripheralsClock
 peripherals-quiet p x a b =
     rw (
       counted-a-quiet p x a,
-      counted-b-quiet (withCounterA p (passA (p .countera) (runningA (p .control) x) (clocksOf 1))) x b,
+      counted-b-quiet (withCounterA p (passA (p .countera) (countingA (p .control) x) (clocksOf 1))) x b,
       sent-none,
       heard-none,
     )
@@ -244,7 +248,7 @@ ready-quiet : (s : State) → Quiet s
 ready-quiet s q = ready-still s (q .still)
 
 -- the CPU neither starts nor puts a byte: it waits, and where a byte waits for more than a clock
-pub not-put : (r b : Bool) (wait : ℕ) → (r ≡ true → 0 < wait - digit b) → (r && b && eqb wait 1) ≡ false
+pub not-put : (r b : Bool) (wait : ℕ) → (r ≡ true → 0 < wait - oneWhere b) → (r && b && eqb wait 1) ≡ false
 not-put true true wait h = ne-eqb wait 1 (λ e. let k = h refl in omega arith)
 not-put true false wait h = refl
 not-put false b wait h = refl
@@ -253,7 +257,7 @@ pub not-over : (r : Bool) (d wait : ℕ) → (r ≡ true → 0 < wait - d) → r
 not-over r d wait h e = let k = h e in omega arith
 
 acts-later : (r b : Bool) (wait : ℕ) → (r && eqb wait 0) ≡ false → (r && b && eqb wait 1) ≡ false → r ≡ true
-    → 0 < wait - digit b
+    → 0 < wait - oneWhere b
 acts-later true true wait e f z = let some = eqb-false wait 0 e in let more = eqb-false wait 1 f in omega arith
 acts-later true false wait e f z = let some = eqb-false wait 0 e in omega arith
 acts-later false b wait e f z = absurd (false≢true z)

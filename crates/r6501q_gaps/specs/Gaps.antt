@@ -2,10 +2,10 @@
 use mathlib.Core.Bool.{Bool, true, false, not, cond}
 use mathlib.Core.List.{List, [], _∷_}
 use Prim.Native.Nat.{ℕ, _+_, _-_, min}
-use Rattle.bits.specs.Bits.{bit, digit}
+use Rattle.bits.specs.Bits.{bit, oneWhere}
 use Rattle.cpu_access.specs.Waiting.{byteWaits}
 use Rattle.counters.specs.declared.time.Clocks.{Clocks}
-use Rattle.counters.specs.Counters.{runsA, runsB, passA, passB}
+use Rattle.counters.specs.Counters.{countsThroughA, countsThroughB, passA, passB}
 use Rattle.r6501q_state.specs.declared.state.Control.{Control}
 use Rattle.r6501q_state.specs.declared.state.Cpu.{Cpu}
 use Rattle.r6501q_state.specs.declared.state.Peripherals.{Peripherals}
@@ -18,12 +18,12 @@ abbrev pub clocksOf : ℕ → Clocks
 clocksOf n = record { 0 = n }
 
 -- a counter that "counts in all of" a gap: A by its mode in force and PA4's level
-unfoldable pub runningA : Control → ℕ → Bool
-runningA c ports = runsA (modeA (c .mcr) (c .sccr)) (not (bit 4 ports))
+unfoldable pub countingA : Control → ℕ → Bool
+countingA c ports = countsThroughA (modeA (c .mcr) (c .sccr)) (not (bit 4 ports))
 
 -- and B by its mode
-unfoldable pub runningB : Control → Bool
-runningB c = runsB (modeB (c .mcr))
+unfoldable pub countingB : Control → Bool
+countingB c = countsThroughB (modeB (c .mcr))
 
 -- The clocks before the next event clock of each kind, where there is one to be seen, else the n that are left.
 -- An input: of the rest of the input list, the first entry's clock
@@ -35,12 +35,12 @@ toInput n clock (t ∷ ts) = t - clock - 1
 unfoldable pub toChange : ℕ → State → ℕ
 toChange n s = cond (levelsChange s) 0 n
 
--- "an underflow": from 0000h, so that a counter which runs has its count of clocks before it
+-- "an underflow": from 0000h, so that a counter which counts has its count of clocks before it
 unfoldable pub toUnderflowA : ℕ → State → ℕ
-toUnderflowA n s = cond (runningA (s .peripherals .control) (s .last .ports)) (s .peripherals .countera .count) n
+toUnderflowA n s = cond (countingA (s .peripherals .control) (s .last .ports)) (s .peripherals .countera .count) n
 
 unfoldable pub toUnderflowB : ℕ → State → ℕ
-toUnderflowB n s = cond (runningB (s .peripherals .control)) (s .peripherals .counterb .count) n
+toUnderflowB n s = cond (countingB (s .peripherals .control)) (s .peripherals .counterb .count) n
 
 -- "RES low changes any field": the next clock does it
 unfoldable pub toReset : ℕ → State → ℕ
@@ -49,7 +49,7 @@ toReset n s = cond (resetChanges s) 0 n
 -- the clocks before the CPU acts, where RES is high: before it starts, its wait; before it puts a byte that waits, one
 -- less (02, U6: "on its last clock")
 unfoldable pub untilCpu : Cpu → ℕ
-untilCpu c = c .wait - digit (byteWaits (c .waiting))
+untilCpu c = c .wait - oneWhere (byteWaits (c .waiting))
 
 -- "the CPU starts"; 02, U6: "A last clock with a byte waiting"
 unfoldable pub toCpu : ℕ → State → ℕ
@@ -69,8 +69,8 @@ waitAfter wait high gap = cond high (wait - gap .0) wait
 -- "each counter that counts in all of it minus gap"
 abbrev pub passCounters : Peripherals → ℕ → Clocks → Peripherals
 passCounters p ports gap =
-    withCounterB (withCounterA p (passA (p .countera) (runningA (p .control) ports) gap))
-    (passB (p .counterb) (runningB (p .control)) gap)
+    withCounterB (withCounterA p (passA (p .countera) (countingA (p .control) ports) gap))
+    (passB (p .counterb) (countingB (p .control)) gap)
 
 -- "the gap passed: clock plus gap, each counter that counts in all of it minus gap, wait too if RES is high, nothing
 -- else"

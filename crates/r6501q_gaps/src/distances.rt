@@ -1,7 +1,7 @@
 // The clocks before the next event clock of each kind, where there is one to be seen, else the clocks left.
 ghost use mathlib.Core.Bool.{cond};
 ghost use mathlib.Core.Path.{_≡_};
-ghost use Rattle.r6501q_gaps.specs.Gaps.{clocksOf, runningA, runningB, toInput, toChange, toUnderflowA};
+ghost use Rattle.r6501q_gaps.specs.Gaps.{clocksOf, countingA, countingB, toInput, toChange, toUnderflowA};
 ghost use Rattle.r6501q_gaps.specs.Gaps.{toUnderflowB, toReset, untilCpu, toCpu};
 use crate::events::levels_change;
 use crate::events::reset_changes;
@@ -12,17 +12,17 @@ use r6501q_state::state::Cpu;
 use r6501q_state::state::State;
 
 // Whether counter A counts in every clock of a gap, given the port levels.
-pub fn running_a(c: Control, ports: u32) -> bool
-    ensures { λ r. ⌜ r ≡ runningA c ports ⌝ }
+pub fn counting_a(c: Control, ports: u32) -> bool
+    ensures { λ r. ⌜ r ≡ countingA c ports ⌝ }
 {
-    counters::a::runs(c.mode_a(), !bits::bit32(ports, 4))
+    counters::a::counts_through(c.mode_a(), !bits::bit32(ports, 4))
 }
 
 // Whether counter B does.
-pub fn running_b(c: Control) -> bool
-    ensures { λ r. ⌜ r ≡ runningB c ⌝ }
+pub fn counting_b(c: Control) -> bool
+    ensures { λ r. ⌜ r ≡ countingB c ⌝ }
 {
-    counters::b::runs(c.mode_b())
+    counters::b::counts_through(c.mode_b())
 }
 
 // An input: the first entry of the rest of the input list.
@@ -60,16 +60,16 @@ pub fn to_change(left: Clocks, s: State) -> Clocks
 pub fn to_underflow_a(left: Clocks, s: State) -> Clocks
     ensures { λ r. ⌜ r ≡ clocksOf (toUnderflowA (left .0) s) ⌝ }
 {
-    let running = running_a(s.peripherals.control, s.last.ports);
-    where_seen(running, Clocks(s.peripherals.countera.count as u32), left)
+    let counting = counting_a(s.peripherals.control, s.last.ports);
+    where_seen(counting, Clocks(s.peripherals.countera.count as u32), left)
 }
 
 // An underflow of counter B.
 pub fn to_underflow_b(left: Clocks, s: State) -> Clocks
     ensures { λ r. ⌜ r ≡ clocksOf (toUnderflowB (left .0) s) ⌝ }
 {
-    let running = running_b(s.peripherals.control);
-    where_seen(running, Clocks(s.peripherals.counterb.count as u32), left)
+    let counting = counting_b(s.peripherals.control);
+    where_seen(counting, Clocks(s.peripherals.counterb.count as u32), left)
 }
 
 // RES low that changes a field.

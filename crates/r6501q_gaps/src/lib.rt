@@ -11,8 +11,8 @@ ghost use mathlib.Core.Path.{_≡_};
 ghost use Prim.Native.Nat.{_+_, _≤_, min};
 ghost use Rattle.r6501q_gaps.specs.Gaps.{clocksOf, gapOf, waitAfter, passCounters, passOf};
 use counters::time::Clocks;
-use distances::running_a;
-use distances::running_b;
+use distances::counting_a;
+use distances::counting_b;
 use distances::to_change;
 use distances::to_cpu;
 use distances::to_input;
@@ -66,8 +66,8 @@ fn wait_after(wait: u8, high: bool, gap: Clocks) -> u8
 fn pass_counters(mut p: Peripherals, ports: u32, gap: Clocks) -> Peripherals
     ensures { λ r. ⌜ r ≡ passCounters p ports gap ⌝ }
 {
-    let counter_a = p.countera.pass(running_a(p.control, ports), gap);
-    let counter_b = p.counterb.pass(running_b(p.control), gap);
+    let counter_a = p.countera.pass(counting_a(p.control, ports), gap);
+    let counter_b = p.counterb.pass(counting_b(p.control), gap);
     p.countera = counter_a;
     p.counterb = counter_b;
     p

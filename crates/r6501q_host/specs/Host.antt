@@ -3,7 +3,7 @@ use mathlib.Core.Bool.{Bool, true, false, _&&_, _||_, cond}
 use Prim.Native.Nat.{ℕ}
 use lib.Dec.{leb, eqb}
 use Rattle.page_sums.specs.declared.TotalResult.{TotalResult}
-use Rattle.bits.specs.Bits.{digit}
+use Rattle.bits.specs.Bits.{oneWhere}
 use Rattle.bit_rate.specs.declared.Found.{Found}
 use Rattle.bit_rate.specs.declared.Found.the-variants.{Fits, Nothing, Refused}
 use Rattle.bit_rate.specs.BitRate.{latchNumber}
@@ -133,16 +133,17 @@ hostCpu c = record {
 }
 
 abbrev pub hostDue : Due → HostDue
-hostDue d = record { reset = digit (d .reset); nmi = digit (d .nmi) }
+hostDue d = record { reset = oneWhere (d .reset); nmi = oneWhere (d .nmi) }
 
 abbrev pub hostCounterB : CounterB → HostCounterB
-hostCounterB c = record { count = c .count; latchb = c .latchb; latchc = c .latchc; turnc = digit (c .turnc) }
+hostCounterB c = record { count = c .count; latchb = c .latchb; latchc = c .latchc; turnc = oneWhere (c .turnc) }
 
 abbrev pub hostReceiver : Receiver → HostReceiver
-hostReceiver v = record { subinterval = v .subinterval; half = digit (v .half); left = v .left; register = v .register }
+hostReceiver v =
+    record { subinterval = v .subinterval; half = oneWhere (v .half); left = v .left; register = v .register }
 
 abbrev pub hostLevels : Levels → HostLevels
-hostLevels l = record { ports = l .ports; nmi = digit (l .nmi); res = digit (l .res) }
+hostLevels l = record { ports = l .ports; nmi = oneWhere (l .nmi); res = oneWhere (l .res) }
 
 abbrev pub hostPeripherals : Peripherals → HostPeripherals
 hostPeripherals p = record {

@@ -1,13 +1,14 @@
 // The state and what is handed back as the host, a program in C or Rust, holds them: each flag and level is a byte, 0
 // or 1, and no byte waiting is 0, 0, 0.
 ghost use mathlib.Core.Path.{_≡_};
-ghost use Rattle.r6501q_host.specs.Host.{waitingFromHost, cpuFromHost, waitingFits, hostWaiting, hostCpu, dueFromHost};
+ghost use Rattle.r6501q_host.specs.Host.{waitingFromHost, cpuFromHost, waitingFits, hostWaiting, hostCpu};
+ghost use Rattle.r6501q_host.specs.Host.{dueFromHost};
 ghost use Rattle.r6501q_host.specs.Host.{counterBFromHost, receiverFromHost, levelsFromHost, peripheralsFromHost};
 ghost use Rattle.r6501q_host.specs.Host.{stateFromHost, flagsFit, haltOf, hostDue, hostCounterB, hostReceiver};
 ghost use Rattle.r6501q_host.specs.Host.{hostLevels, hostPeripherals, hostState, hostResult, hostLoadResult};
 ghost use Rattle.r6501q_host.specs.Host.{hostTotalResult, hostLatchResult};
 use bit_rate::Found;
-use bits::digit8;
+use bits::one_where;
 use counters::a::CounterA;
 use counters::b::CounterB;
 use cpu_access::halt::Halt;
@@ -294,8 +295,8 @@ fn host_due(d: Due) -> HostDue
     ensures { λ r. ⌜ r ≡ hostDue d ⌝ }
 {
     HostDue {
-        reset: digit8(d.reset),
-        nmi: digit8(d.nmi),
+        reset: one_where(d.reset),
+        nmi: one_where(d.nmi),
     }
 }
 
@@ -306,7 +307,7 @@ fn host_counter_b(c: CounterB) -> HostCounterB
         count: c.count,
         latchb: c.latchb,
         latchc: c.latchc,
-        turnc: digit8(c.turnc),
+        turnc: one_where(c.turnc),
     }
 }
 
@@ -315,7 +316,7 @@ fn host_receiver(v: Receiver) -> HostReceiver
 {
     HostReceiver {
         subinterval: v.subinterval,
-        half: digit8(v.half),
+        half: one_where(v.half),
         left: v.left,
         register: v.register,
     }
@@ -326,8 +327,8 @@ fn host_levels(l: Levels) -> HostLevels
 {
     HostLevels {
         ports: l.ports,
-        nmi: digit8(l.nmi),
-        res: digit8(l.res),
+        nmi: one_where(l.nmi),
+        res: one_where(l.res),
     }
 }
 

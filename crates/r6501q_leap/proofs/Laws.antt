@@ -27,7 +27,7 @@ use Rattle.r6501q_clock.proofs.Ends.{done-clock, done-room, done-formed, commit
 use Rattle.r6501q_gaps.specs.Gaps.{clocksOf, gapOf, passOf}
 use Rattle.r6501q_gaps.proofs.Passing.{pass-driven, pass-zero, pass-add, pass-clock}
 use Rattle.r6501q_gaps.proofs.Gaps.{gap-le, gap-no-input, gap-clock, gap-no-event, gap-event, gap-passed}
-use Rattle.r6501q_step.specs.R6501q.{endOf, clockOutcome, r6501q, chip}
+use Rattle.r6501q_step.specs.R6501q.{endOf, clockOutcome, r6501q, system}
 
 -- what holds of each end of a clock holds of the end that the theory sees, and of a stop likewise
 module _ (halt : Halt) (s : State) (codes memory : List ℕ) (free : Bool) where
@@ -125,5 +125,5 @@ laws halt = record {
   pass-clock = λ g s. pass-clock s g;
 }
 
-pub lawful : (halt : Halt) → Lawful (chip halt)
+pub lawful : (halt : Halt) → Lawful (system halt)
 lawful halt = chips.lawful (r6501q halt) (laws halt)

@@ -8,14 +8,14 @@ use native.Mathlib.Omega.{arith}
 use lib.Dec.{ltb, eqb}
 use lib.ListN.{length, drop, length-drop}
 use borrow.Author.Tests.{ltb-true, ltb-false, lt-ltb, le-ltb, eq-eqb, ne-eqb, eqb-true}
-use Rattle.bits.proofs.Cond.{cond-both, digit-le, and-left, and-right}
+use Rattle.bits.proofs.Cond.{cond-both, one-where-le, and-left, and-right}
 use Rattle.counters.specs.declared.time.Clocks.{Clocks}
 use Rattle.cpu_access.specs.declared.halt.Halt.{Halt}
 use Rattle.refusals.specs.Refusals.{lastClock, refusalOf}
 use Rattle.refusals.proofs.Accepted.{accepted}
 use Rattle.leaps.specs.Leaps.{Run, leapOf, leftAfter, movedOf, run}
 use Rattle.leaps.specs.World.{runningIn, passIn}
-use Rattle.leaps.specs.Lists.{handedRun, runOf, plainRunOf}
+use Rattle.leaps.specs.CallLists.{handedRun, runOf, plainRunOf}
 use Rattle.leaps.specs.Calls.{callStart, handedBackOf, refusalIn}
 use Rattle.leaps.proofs.Laws.{run-leap, run-over}
 use Rattle.leaps.proofs.Chips.{Advanced, plain-advances}
@@ -26,11 +26,11 @@ use Rattle.r6501q_gaps.specs.Gaps.{clocksOf, gapOf, passOf}
 use Rattle.r6501q_gaps.proofs.Gaps.{gap-le}
 use Rattle.r6501q_gaps.proofs.Passing.{pass-clock}
 use Rattle.r6501q_step.specs.declared.Progress.{Progress}
-use Rattle.r6501q_step.specs.R6501q.{World, r6501qLimits, r6501q, plain, chip, machine}
+use Rattle.r6501q_step.specs.R6501q.{World, r6501qLimits, r6501q, plain, system, machine}
 use Rattle.r6501q_step.specs.World.{worldOf, Going}
 use Rattle.r6501q_step.specs.Calls.{handed, begin, refusalResult, progressResult, leapsFrom}
 use Rattle.r6501q_leap.specs.declared.Leaped.{Leaped}
-use Rattle.r6501q_leap.specs.Leap.{passedBy, goesOn, runFrom, runEnded, beginRun, Leaping}
+use Rattle.r6501q_leap.specs.RunInCode.{passedBy, goesOn, runFrom, runEnded, beginRun, Leaping}
 use Rattle.r6501q_leap.proofs.Laws.{laws, lawful}
 
 -- the gap of a world
@@ -46,7 +46,7 @@ pub record Leapt (n : ℕ) (w v : World) : Type 0 where
   pub outputWords : length (v .outputWords) ≡ length (w .outputWords)
   pub written : w .written ≤ length (w .outputClocks) → v .written ≤ length (w .outputClocks)
 
-pub leap-goes : (halt : Halt) (n : ℕ) (w : World) → Leapt n w (leapOf (chip halt) n w)
+pub leap-goes : (halt : Halt) (n : ℕ) (w : World) → Leapt n w (leapOf (system halt) n w)
 unfolding leapOf
 leap-goes halt n w =
     let g = gapIn n w in
@@ -73,20 +73,20 @@ leap-goes halt n w =
     })
 
 -- one leap of a run
-pub leap-run : (halt : Halt) (n leaps : ℕ) (w v : World) → 0 < n → runningIn w ≡ true → v ≡ leapOf (chip halt) n w
+pub leap-run : (halt : Halt) (n leaps : ℕ) (w v : World) → 0 < n → runningIn w ≡ true → v ≡ leapOf (system halt) n w
     → _≡_ {A = Run World}
     (record {
-      world = run (chip halt) (n - (gapIn n w + 1)) v .world;
-      leaps = leaps + leapsFrom (w .state .clock) (v .state .clock) + run (chip halt) (n - (gapIn n w + 1)) v .leaps;
+      world = run (system halt) (n - (gapIn n w + 1)) v .world;
+      leaps = leaps + leapsFrom (w .state .clock) (v .state .clock) + run (system halt) (n - (gapIn n w + 1)) v .leaps;
     })
-    (record { world = run (chip halt) n w .world; leaps = leaps + run (chip halt) n w .leaps })
+    (record { world = run (system halt) n w .world; leaps = leaps + run (system halt) n w .leaps })
 unfolding movedOf
-leap-run halt n leaps w v h z e = rw (run-leap (chip halt) (lawful halt) n w h z, e, add-assoc)
+leap-run halt n leaps w v h z e = rw (run-leap (system halt) (lawful halt) n w h z, e, add-assoc)
 
 module _ (halt : Halt) (memory clocks codes times words memory' times' words' : List ℕ) (p q : Progress) (n : ℕ)
     (l : Leaping p n clocks codes times words)
     (e : worldOf q memory' clocks codes times' words'
-    ≡ leapOf (chip halt) n (worldOf p memory clocks codes times words)) where
+    ≡ leapOf (system halt) n (worldOf p memory clocks codes times words)) where
   abbrev w : World
   w = worldOf p memory clocks codes times words
 
@@ -108,7 +108,7 @@ pub run-ended : (halt : Halt) (l : Leaped) (memory clocks codes times words : Li
     → runEnded l memory clocks codes times words ≡ runFrom halt l memory clocks codes times words
 run-ended halt l memory clocks codes times words e =
     rw (
-      run-over (chip halt) (lawful halt) (l .left .0) (worldOf (l .progress) memory clocks codes times words) e,
+      run-over (system halt) (lawful halt) (l .left .0) (worldOf (l .progress) memory clocks codes times words) e,
       add-zero (l .leaps),
     )
 
@@ -157,7 +157,7 @@ module _ (s : State) (n : ℕ) (memory clocks codes times words : List ℕ)
   unfolding runOf
   runs halt l memory' times' words' e =
       rw (eq-eqb _ 0 good) (ap (handedRun (machine halt)) e
-      ∙ ap (λ k. handedBackOf k (run (chip halt) n start .world)) (zero-add (run (chip halt) n start .leaps)))
+      ∙ ap (λ k. handedBackOf k (run (system halt) n start .world)) (zero-add (run (system halt) n start .leaps)))
 
 -- ---- the code's parts
 
@@ -185,13 +185,13 @@ passed-goes p n clocks codes times words gap l on h = record {
 -- a leap that reaches its event clock, and one that ends before
 pub leap-reaches : (halt : Halt) (n : ℕ) (w : World) (gap : Clocks) → gap ≡ gapOf n (w .state) (w .inputClocks)
     → gap .0 < n
-    → plain halt (passIn (r6501q halt) (gap .0) w) ≡ leapOf (chip halt) n w
+    → plain halt (passIn (r6501q halt) (gap .0) w) ≡ leapOf (system halt) n w
 unfolding leapOf
 leap-reaches halt n w gap e h = rw (← e, lt-ltb (gap .0) n h)
 
 pub leap-falls-short : (halt : Halt) (n : ℕ) (w : World) (gap : Clocks) → gap ≡ gapOf n (w .state) (w .inputClocks)
     → n ≤ gap .0
-    → passIn (r6501q halt) (gap .0) w ≡ leapOf (chip halt) n w
+    → passIn (r6501q halt) (gap .0) w ≡ leapOf (system halt) n w
 unfolding leapOf
 leap-falls-short halt n w gap e h = rw (← e, le-ltb (gap .0) n h)
 
@@ -201,9 +201,9 @@ module _ (halt : Halt) (memory clocks codes times words memory' times' words' : 
     (on : at .progress .stop ≡ 0)
     (bound : at .leaps + at .left .0 ≤ lastClock)
     (e : worldOf (r .progress) memory' clocks codes times' words'
-    ≡ leapOf (chip halt) (at .left .0) (worldOf (at .progress) memory clocks codes times words))
+    ≡ leapOf (system halt) (at .left .0) (worldOf (at .progress) memory clocks codes times words))
     (left : r .left
-    ≡ clocksOf (leftAfter (chip halt) (at .left .0) (worldOf (at .progress) memory clocks codes times words)))
+    ≡ clocksOf (leftAfter (system halt) (at .left .0) (worldOf (at .progress) memory clocks codes times words)))
     (leaps : r .leaps ≡ at .leaps + leapsFrom (at .progress .state .clock) (r .progress .state .clock)) where
   abbrev before : World
   before = worldOf (at .progress) memory clocks codes times words
@@ -224,7 +224,7 @@ module _ (halt : Halt) (memory clocks codes times words memory' times' words' : 
 
   pub later-bound : (r .leaps + r .left .0 ≤ lastClock) × (r .left .0 < at .left .0)
   later-bound = (
-    omega (arith, fewer, leaps, digit-le (ltb (at .progress .state .clock) (r .progress .state .clock))),
+    omega (arith, fewer, leaps, one-where-le (ltb (at .progress .state .clock) (r .progress .state .clock))),
     omega (arith, fewer),
   )
 

@@ -1,1 +1,1 @@
-pub mod Leap
+pub mod RunInCode

@@ -4,12 +4,12 @@ ghost use Prim.Native.Nat.{_+_, _-_, _≤_, _<_};
 ghost use lib.ListN.{length, drop};
 ghost use Rattle.page_sums.specs.PageSums.{sumsAfter};
 ghost use Rattle.leaps.specs.Leaps.{leapOf, leftAfter};
-ghost use Rattle.cpu_opcodes.specs.Table.{opcodeTable};
+ghost use Rattle.cpu_opcodes.specs.TableInCode.{opcodeTable};
 ghost use Rattle.r6501q_gaps.specs.Gaps.{gapOf, clocksOf};
-ghost use Rattle.r6501q_step.specs.R6501q.{chip};
+ghost use Rattle.r6501q_step.specs.R6501q.{system};
 ghost use Rattle.r6501q_step.specs.World.{worldAtEntry, worldAtExit};
 ghost use Rattle.r6501q_step.specs.Calls.{leapsFrom};
-ghost use Rattle.r6501q_leap.specs.Leap.{passedBy, Leaping};
+ghost use Rattle.r6501q_leap.specs.RunInCode.{passedBy, Leaping};
 use counters::time::Clocks;
 use cpu_access::halt::Halt;
 use r6501q_step::Progress;
@@ -75,7 +75,7 @@ fn leap(
     requires { ⌜ gap ≡ gapOf (left .0) (p .state) (drop (p .read) (now inputclocks)) ⌝ }
     requires { ⌜ now entries ≡ opcodeTable ⌝ }
     ensures { λ r. ⌜ worldAtExit r memory inputclocks inputcodes outputclocks outputwords
-        ≡ leapOf (chip halt) (left .0) (worldAtEntry p memory inputclocks inputcodes outputclocks outputwords) ⌝ }
+        ≡ leapOf (system halt) (left .0) (worldAtEntry p memory inputclocks inputcodes outputclocks outputwords) ⌝ }
     ensures { λ _. ⌜ now (sums .exit) ≡ sumsAfter (now (sums .entry)) (now (memory .entry)) (now (memory .exit)) ⌝ }
 {
     let passed = pass_progress(p, gap);
@@ -113,10 +113,10 @@ pub fn leap_once(
     requires { ⌜ at .leaps + at .left .0 ≤ 4294967295 ⌝ }
     requires { ⌜ now entries ≡ opcodeTable ⌝ }
     ensures { λ r. ⌜ worldAtExit (r .progress) memory inputclocks inputcodes outputclocks outputwords
-        ≡ leapOf (chip halt) (at .left .0)
+        ≡ leapOf (system halt) (at .left .0)
         (worldAtEntry (at .progress) memory inputclocks inputcodes outputclocks outputwords) ⌝ }
     ensures { λ r. ⌜ r .left
-        ≡ clocksOf (leftAfter (chip halt) (at .left .0)
+        ≡ clocksOf (leftAfter (system halt) (at .left .0)
         (worldAtEntry (at .progress) memory inputclocks inputcodes outputclocks outputwords)) ⌝ }
     ensures { λ r. ⌜ r .leaps ≡ at .leaps + leapsFrom (at .progress .state .clock) (r .progress .state .clock) ⌝ }
     ensures { λ _. ⌜ now (sums .exit) ≡ sumsAfter (now (sums .entry)) (now (memory .entry)) (now (memory .exit)) ⌝ }

@@ -1,10 +1,10 @@
--- One instruction of a span tried by its opcode: done whole, with the byte that it stores put, or left as it was.
+-- One instruction of a span tried by its opcode: done whole, with the byte that it stores put, or not at all.
 use mathlib.Core.Path.{_≡_}
 use mathlib.Core.Bool.{Bool, true, false, _||_, cond}
 use mathlib.Core.List.{List, []}
 use Prim.Native.Nat.{ℕ, _+_, _-_, _≤_, _<_}
 use lib.Dec.{ltb, eqb}
-use Rattle.bits.specs.Bits.{digit}
+use Rattle.bits.specs.Bits.{oneWhere}
 use Rattle.memory.specs.Memory.{isRegister}
 use Rattle.cpu_opcodes.specs.declared.operation.BitBranchOperation.{BitBranchOperation}
 use Rattle.cpu_opcodes.specs.declared.operation.FlagOperation.{FlagOperation}
@@ -28,7 +28,7 @@ use Rattle.cpu_alu.specs.declared.Computed.{Computed}
 use Rattle.cpu_alu.specs.declared.Status.{Status}
 use Rattle.cpu_alu.specs.Status.{unpacked}
 use Rattle.bits.specs.Bits.{word16}
-use Rattle.cpu_access.specs.Bus.{idle, nextAddress, memoryByte, fetchOf}
+use Rattle.cpu_access.specs.Bus.{unasked, nextAddress, memoryByte, fetchOf}
 use Rattle.cpu_modes.specs.Modes.{relativeTo}
 use Rattle.cpu_access.specs.Stack.{writeAt, oneWrite, pushAt, down, pushAddress, pullOf, pullAddress, readAfter}
 use Rattle.cpu_effects.specs.declared.Worked.{Worked}
@@ -40,7 +40,7 @@ use Rattle.cpu_kinds.specs.Kinds.{withFlag}
 use Rattle.cpu_kinds.specs.Updates.{withPc, withSp, withStatus, intoA}
 use Rattle.cpu.specs.declared.Outcome.the-variants.{Done}
 use Rattle.cpu.specs.declared.work.Work.{Work}
-use Rattle.cpu.specs.Instruction.{instructionOf}
+use Rattle.cpu.specs.InstructionInCode.{instructionOf}
 use Rattle.cpu.specs.Work.{nextWork, waitedOut}
 use Rattle.r6501q_clock.specs.Commit.{committed}
 use Rattle.cpu_access.specs.Halt.{endsSpan}
@@ -65,8 +65,8 @@ pub data Tries (halt : Halt) (span : ℕ) (w : Work) (memory : List ℕ) : Attem
 
 -- ---- what the functions for each kind of operation give
 
-abbrev pub leftAsItWas : Work → Attempt
-leftAsItWas w = record { succeeded = false; work = w }
+abbrev pub failedAttempt : Work → Attempt
+failedAttempt w = record { succeeded = false; work = w }
 
 abbrev pub workedOut : CpuRegisters → Writing → ℕ → Worked
 workedOut r x n = record { registers = r; writing = x; length = n }
@@ -83,27 +83,27 @@ storedWhole w r n = record { succeeded = true; work = waitedOut (nextWork w (wor
 abbrev pub asksFor : Place → Bool
 asksFor p = p .bus .missing || isRegister (p .address)
 
--- a store is left to `work_once`: at a register, at the halt address, or where its last clock lies behind the span
-abbrev pub storeLeft : Halt → ℕ → Work → Write → ℕ → Bool
-storeLeft halt span w x n = endsSpan halt (oneWrite x) || ltb (span - w .gone .0) (w .wait + n)
+-- a store is deferred to `work_once`: at a register, at the halt address, or where its last clock lies behind the span
+abbrev pub storeDeferred : Halt → ℕ → Work → Write → ℕ → Bool
+storeDeferred halt span w x n = endsSpan halt (oneWrite x) || ltb (span - w .gone .0) (w .wait + n)
 
 unfoldable pub readTried : ReadOperation → Work → List ℕ → Place → ℕ → Attempt
 readTried o w memory p n =
-    cond (asksFor p) (leftAsItWas w)
+    cond (asksFor p) (failedAttempt w)
     (startedNext w (withRead o (withPc (p .pc) (w .registers)) (memoryByte memory (p .address)))
-    (n + digit (p .crossed)))
+    (n + oneWhere (p .crossed)))
 
 -- a byte is stored by an instruction that leaves the registers r
 unfoldable pub storeTried : Halt → ℕ → Work → CpuRegisters → Write → ℕ → Attempt
-storeTried halt span w r x n = cond (storeLeft halt span w x n) (leftAsItWas w) (storedWhole w r n)
+storeTried halt span w r x n = cond (storeDeferred halt span w x n) (failedAttempt w) (storedWhole w r n)
 
 unfoldable pub storeMemory : Halt → ℕ → Work → Write → ℕ → List ℕ → List ℕ
-storeMemory halt span w x n memory = cond (storeLeft halt span w x n) memory (committed memory (oneWrite x))
+storeMemory halt span w x n memory = cond (storeDeferred halt span w x n) memory (committed memory (oneWrite x))
 
 -- STA, STX and STY
 unfoldable pub saveTried : Halt → ℕ → StoreOperation → Work → Place → ℕ → Attempt
 saveTried halt span o w p n =
-    cond (asksFor p) (leftAsItWas w)
+    cond (asksFor p) (failedAttempt w)
     (storeTried halt span w (withPc (p .pc) (w .registers)) (writeAt (p .address) (byteToStore o (w .registers))) n)
 
 unfoldable pub saveMemory : Halt → ℕ → StoreOperation → Work → Place → ℕ → List ℕ → List ℕ
@@ -116,7 +116,7 @@ changedAt o w memory p = changedBy o (memoryByte memory (p .address)) (w .regist
 
 unfoldable pub changeTried : Halt → ℕ → ModifyOperation → Work → List ℕ → Place → ℕ → Attempt
 changeTried halt span o w memory p n =
-    cond (asksFor p) (leftAsItWas w)
+    cond (asksFor p) (failedAttempt w)
     (storeTried halt span w (withStatus (changedAt o w memory p .status) (withPc (p .pc) (w .registers)))
     (writeAt (p .address) (changedAt o w memory p .value)) n)
 
@@ -131,23 +131,23 @@ accumulatorTried o w pc n =
 
 unfoldable pub branchTried : Bool → Work → Place → ℕ → Attempt
 branchTried taken w p n =
-    cond (p .bus .missing) (leftAsItWas w)
-    (cond taken (startedNext w (withPc (p .address) (w .registers)) (n + 1 + digit (p .crossed)))
+    cond (p .bus .missing) (failedAttempt w)
+    (cond taken (startedNext w (withPc (p .address) (w .registers)) (n + 1 + oneWhere (p .crossed)))
     (startedNext w (withPc (p .pc) (w .registers)) n))
 
 unfoldable pub bitBranchTried : BitBranchOperation → Work → List ℕ → Place → ℕ → Attempt
 bitBranchTried o w memory p n =
-    cond (asksFor p) (leftAsItWas w)
+    cond (asksFor p) (failedAttempt w)
     (branchTried (bitBranchTaken o (memoryByte memory (p .address))) w
     (relativeTo (fetchOf [] memory (p .pc) (p .bus))) n)
 
 unfoldable pub jumpTried : Work → Place → ℕ → Attempt
-jumpTried w p n = cond (p .bus .missing) (leftAsItWas w) (startedNext w (withPc (p .address) (w .registers)) n)
+jumpTried w p n = cond (p .bus .missing) (failedAttempt w) (startedNext w (withPc (p .address) (w .registers)) n)
 
 -- PHA and PHP
 unfoldable pub pushTried : Halt → Work → ℕ → ℕ → ℕ → Attempt
 pushTried halt w v pc n =
-    cond (endsSpan halt (oneWrite (pushAt (w .registers .sp) v))) (leftAsItWas w)
+    cond (endsSpan halt (oneWrite (pushAt (w .registers .sp) v))) (failedAttempt w)
     (startedNext w (withSp (down (w .registers .sp)) (withPc pc (w .registers))) n)
 
 unfoldable pub pushMemory : Halt → Work → ℕ → List ℕ → List ℕ
@@ -158,56 +158,56 @@ pushMemory halt w v memory =
 -- PLA and PLP
 abbrev pub pulledAttempt : PullOperation → Work → ℕ → ℕ → Pulled → Attempt
 pulledAttempt o w pc n p =
-    cond (p .bus .missing) (leftAsItWas w)
+    cond (p .bus .missing) (failedAttempt w)
     (startedNext w (withPulled o (withSp (p .sp) (withPc pc (w .registers))) (p .value)) n)
 
 unfoldable pub pullTried : PullOperation → Work → List ℕ → ℕ → ℕ → Attempt
-pullTried o w memory pc n = pulledAttempt o w pc n (pullOf [] memory (w .registers .sp) idle)
+pullTried o w memory pc n = pulledAttempt o w pc n (pullOf [] memory (w .registers .sp) unasked)
 
 -- JSR
-abbrev pub callPushes : Work → Fetched → Writes
-callPushes w l = pushAddress (w .registers .sp) (l .pc)
+abbrev pub jsrPushes : Work → Fetched → Writes
+jsrPushes w l = pushAddress (w .registers .sp) (l .pc)
 
-abbrev pub callUpper : List ℕ → Work → Fetched → Got
-callUpper memory w l = readAfter [] memory (callPushes w l) (l .pc) (l .bus)
+abbrev pub jsrUpper : List ℕ → Work → Fetched → Got
+jsrUpper memory w l = readAfter [] memory (jsrPushes w l) (l .pc) (l .bus)
 
-abbrev pub callAttempt : Halt → Work → ℕ → Fetched → Got → Attempt
-callAttempt halt w n l u =
-    cond (u .bus .missing || endsSpan halt (callPushes w l)) (leftAsItWas w)
+abbrev pub jsrAttempt : Halt → Work → ℕ → Fetched → Got → Attempt
+jsrAttempt halt w n l u =
+    cond (u .bus .missing || endsSpan halt (jsrPushes w l)) (failedAttempt w)
     (startedNext w (withPc (word16 (u .value) (l .value)) (withSp (down (down (w .registers .sp))) (w .registers))) n)
 
-abbrev pub callBytes : Halt → Work → List ℕ → Fetched → Got → List ℕ
-callBytes halt w memory l u =
-    cond (u .bus .missing || endsSpan halt (callPushes w l)) memory (committed memory (callPushes w l))
+abbrev pub jsrBytes : Halt → Work → List ℕ → Fetched → Got → List ℕ
+jsrBytes halt w memory l u =
+    cond (u .bus .missing || endsSpan halt (jsrPushes w l)) memory (committed memory (jsrPushes w l))
 
-unfoldable pub callTried : Halt → Work → List ℕ → ℕ → ℕ → Attempt
-callTried halt w memory pc n =
-    callAttempt halt w n (fetchOf [] memory pc idle) (callUpper memory w (fetchOf [] memory pc idle))
+unfoldable pub jsrTried : Halt → Work → List ℕ → ℕ → ℕ → Attempt
+jsrTried halt w memory pc n =
+    jsrAttempt halt w n (fetchOf [] memory pc unasked) (jsrUpper memory w (fetchOf [] memory pc unasked))
 
-unfoldable pub callMemory : Halt → Work → List ℕ → ℕ → List ℕ
-callMemory halt w memory pc =
-    callBytes halt w memory (fetchOf [] memory pc idle) (callUpper memory w (fetchOf [] memory pc idle))
+unfoldable pub jsrMemory : Halt → Work → List ℕ → ℕ → List ℕ
+jsrMemory halt w memory pc =
+    jsrBytes halt w memory (fetchOf [] memory pc unasked) (jsrUpper memory w (fetchOf [] memory pc unasked))
 
 -- RTS
 abbrev pub returnAttempt : Work → ℕ → PulledAddress → Attempt
 returnAttempt w n p =
-    cond (p .bus .missing) (leftAsItWas w)
+    cond (p .bus .missing) (failedAttempt w)
     (startedNext w (withPc (nextAddress (p .value)) (withSp (p .sp) (w .registers))) n)
 
 unfoldable pub returnTried : Work → List ℕ → ℕ → Attempt
-returnTried w memory n = returnAttempt w n (pullAddress [] memory (w .registers .sp) idle)
+returnTried w memory n = returnAttempt w n (pullAddress [] memory (w .registers .sp) unasked)
 
 -- RTI
 abbrev pub resumeAttempt : Work → ℕ → Status → PulledAddress → Attempt
 resumeAttempt w n s p =
-    cond (p .bus .missing) (leftAsItWas w)
+    cond (p .bus .missing) (failedAttempt w)
     (startedNext w (withPc (p .value) (withStatus s (withSp (p .sp) (w .registers)))) n)
 
 abbrev pub resumeAfter : Work → List ℕ → ℕ → Pulled → Attempt
 resumeAfter w memory n p = resumeAttempt w n (unpacked (p .value)) (pullAddress [] memory (p .sp) (p .bus))
 
 unfoldable pub interruptReturnTried : Work → List ℕ → ℕ → Attempt
-interruptReturnTried w memory n = resumeAfter w memory n (pullOf [] memory (w .registers .sp) idle)
+interruptReturnTried w memory n = resumeAfter w memory n (pullOf [] memory (w .registers .sp) unasked)
 
 unfoldable pub registerTried : RegisterOperation → Work → ℕ → ℕ → Attempt
 registerTried o w pc n = startedNext w (withRegister o (withPc pc (w .registers))) n

@@ -10,14 +10,14 @@ ghost use Rattle.cpu_kinds.specs.Kinds.{branchTaken, byteToPush};
 ghost use Rattle.cpu_opcodes.specs.declared.operation.PullOperation.the-variants.{Pla, Plp};
 ghost use Rattle.cpu_access.specs.Stack.{pushAt, oneWrite};
 ghost use Rattle.r6501q_mnemonics.specs.Attempts.{startedNext, branchTried, bitBranchTried, jumpTried, pushTried};
-ghost use Rattle.r6501q_mnemonics.specs.Attempts.{pushMemory, pullTried, callTried, callMemory, returnTried};
+ghost use Rattle.r6501q_mnemonics.specs.Attempts.{pushMemory, pullTried, jsrTried, jsrMemory, returnTried};
 ghost use Rattle.r6501q_mnemonics.specs.Attempts.{interruptReturnTried};
 use crate::Attempt;
 use crate::asks_for;
-use crate::left_as_it_was;
+use crate::failed_attempt;
 use crate::started_next;
 use bits::bit8;
-use bits::digit8;
+use bits::one_where;
 use bits::word16;
 use cpu::work::Work;
 use cpu_access::Bus;
@@ -45,10 +45,10 @@ pub fn branch(w: Work, taken: bool, p: Place, length: u8) -> Attempt
     ensures { λ r. ⌜ r ≡ branchTried taken w p length ⌝ }
 {
     if p.bus.missing {
-        return left_as_it_was(w);
+        return failed_attempt(w);
     }
     if taken {
-        let clocks = length + 1 + digit8(p.crossed);
+        let clocks = length + 1 + one_where(p.crossed);
         return started_next(w, with_pc(w.registers, p.address), clocks);
     }
     started_next(w, with_pc(w.registers, p.pc), length)
@@ -59,7 +59,7 @@ pub fn bbr(w: Work, memory: &[u8], p: Place, bit: u8, length: u8) -> Attempt
     ensures { λ r. ⌜ r ≡ bitBranchTried (Bbr bit) w (now (memory .entry)) p length ⌝ }
 {
     if asks_for(p) {
-        return left_as_it_was(w);
+        return failed_attempt(w);
     }
     let none = [0u8; 0];
     let bus = p.bus;
@@ -73,7 +73,7 @@ pub fn bbs(w: Work, memory: &[u8], p: Place, bit: u8, length: u8) -> Attempt
     ensures { λ r. ⌜ r ≡ bitBranchTried (Bbs bit) w (now (memory .entry)) p length ⌝ }
 {
     if asks_for(p) {
-        return left_as_it_was(w);
+        return failed_attempt(w);
     }
     let none = [0u8; 0];
     let bus = p.bus;
@@ -87,7 +87,7 @@ pub fn jump(w: Work, p: Place, length: u8) -> Attempt
     ensures { λ r. ⌜ r ≡ jumpTried w p length ⌝ }
 {
     if p.bus.missing {
-        return left_as_it_was(w);
+        return failed_attempt(w);
     }
     started_next(w, with_pc(w.registers, p.address), length)
 }
@@ -110,7 +110,7 @@ pub fn push(
     let sp = w.registers.sp;
     let x = cpu_access::stack::push(sp, value);
     if ends_span(one_write(x.address, x.value), halt) {
-        return left_as_it_was(w);
+        return failed_attempt(w);
     }
     put_write(memory, sums, true, x);
     let r = with_pc(w.registers, pc);
@@ -122,9 +122,9 @@ pub fn pla(w: Work, memory: &[u8], pc: u16, length: u8) -> Attempt
     ensures { λ r. ⌜ r ≡ pullTried Pla w (now (memory .entry)) pc length ⌝ }
 {
     let none = [0u8; 0];
-    let pulled = Bus::idle().pull(&none, memory, w.registers.sp);
+    let pulled = Bus::unasked().pull(&none, memory, w.registers.sp);
     if pulled.bus.missing {
-        return left_as_it_was(w);
+        return failed_attempt(w);
     }
     let stacked = with_sp(with_pc(w.registers, pc), pulled.sp);
     started_next(w, load_a(stacked, pulled.value), length)
@@ -135,9 +135,9 @@ pub fn plp(w: Work, memory: &[u8], pc: u16, length: u8) -> Attempt
     ensures { λ r. ⌜ r ≡ pullTried Plp w (now (memory .entry)) pc length ⌝ }
 {
     let none = [0u8; 0];
-    let pulled = Bus::idle().pull(&none, memory, w.registers.sp);
+    let pulled = Bus::unasked().pull(&none, memory, w.registers.sp);
     if pulled.bus.missing {
-        return left_as_it_was(w);
+        return failed_attempt(w);
     }
     let stacked = with_sp(with_pc(w.registers, pc), pulled.sp);
     started_next(
@@ -148,28 +148,21 @@ pub fn plp(w: Work, memory: &[u8], pc: u16, length: u8) -> Attempt
 }
 
 // JSR.
-pub fn call(
-    w: Work,
-    memory: &mut [u8],
-    sums: &mut [u16],
-    halt: Halt,
-    pc: u16,
-    length: u8,
-) -> Attempt
+pub fn jsr(w: Work, memory: &mut [u8], sums: &mut [u16], halt: Halt, pc: u16, length: u8) -> Attempt
     requires { ⌜ (w .gone .0 + w .wait + 1 ≤ 4294967295) × (w .leaps + 1 ≤ 4294967295) ⌝ }
-    ensures { λ r. ⌜ r ≡ callTried halt w (now (memory .entry)) pc length ⌝ }
-    ensures { λ _. ⌜ now (memory .exit) ≡ callMemory halt w (now (memory .entry)) pc ⌝ }
+    ensures { λ r. ⌜ r ≡ jsrTried halt w (now (memory .entry)) pc length ⌝ }
+    ensures { λ _. ⌜ now (memory .exit) ≡ jsrMemory halt w (now (memory .entry)) pc ⌝ }
     ensures { λ _. ⌜ now (sums .exit) ≡ sumsAfter (now (sums .entry)) (now (memory .entry)) (now (memory .exit)) ⌝ }
 {
     let none = [0u8; 0];
     let sp = w.registers.sp;
-    let lower = Bus::idle().fetch(&none, memory, pc);
+    let lower = Bus::unasked().fetch(&none, memory, pc);
     let between = lower.bus;
     let writes = push_address(sp, lower.pc);
     let upper = between.read_after(&none, memory, writes, lower.pc);
     let ends = ends_span(writes, halt);
     if upper.bus.missing | ends {
-        return left_as_it_was(w);
+        return failed_attempt(w);
     }
     commit(memory, sums, writes);
     let target = word16(upper.value, lower.value);
@@ -183,9 +176,9 @@ pub fn return_from_subroutine(w: Work, memory: &[u8], length: u8) -> Attempt
     ensures { λ r. ⌜ r ≡ returnTried w (now (memory .entry)) length ⌝ }
 {
     let none = [0u8; 0];
-    let pulled = Bus::idle().pull_address(&none, memory, w.registers.sp);
+    let pulled = Bus::unasked().pull_address(&none, memory, w.registers.sp);
     if pulled.bus.missing {
-        return left_as_it_was(w);
+        return failed_attempt(w);
     }
     let stacked = with_sp(w.registers, pulled.sp);
     started_next(w, with_pc(stacked, next_address(pulled.value)), length)
@@ -197,11 +190,11 @@ pub fn return_from_interrupt(w: Work, memory: &[u8], length: u8) -> Attempt
     ensures { λ r. ⌜ r ≡ interruptReturnTried w (now (memory .entry)) length ⌝ }
 {
     let none = [0u8; 0];
-    let p = Bus::idle().pull(&none, memory, w.registers.sp);
+    let p = Bus::unasked().pull(&none, memory, w.registers.sp);
     let between = p.bus;
     let pulled = between.pull_address(&none, memory, p.sp);
     if pulled.bus.missing {
-        return left_as_it_was(w);
+        return failed_attempt(w);
     }
     let status = Status::unpack(p.value);
     let back = with_status(with_sp(w.registers, pulled.sp), status);

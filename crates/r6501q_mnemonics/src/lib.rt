@@ -1,7 +1,7 @@
 // One instruction of a span tried by its mnemonic: done whole, or left as it was.
 ghost use mathlib.Core.Path.{_≡_};
 ghost use Prim.Native.Nat.{_+_, _≤_};
-ghost use Rattle.r6501q_mnemonics.specs.Attempts.{leftAsItWas, startedNext, storedWhole, asksFor};
+ghost use Rattle.r6501q_mnemonics.specs.Attempts.{failedAttempt, startedNext, storedWhole, asksFor};
 use counters::time::Clocks;
 use cpu::work::Work;
 use cpu_access::CpuRegisters;
@@ -33,9 +33,9 @@ pub fn same_work(w: Work) -> Work
     }
 }
 
-// The instruction is left to others.
-pub fn left_as_it_was(w: Work) -> Attempt
-    ensures { λ r. ⌜ r ≡ leftAsItWas w ⌝ }
+// An attempt that failed: all is as it was.
+pub fn failed_attempt(w: Work) -> Attempt
+    ensures { λ r. ⌜ r ≡ failedAttempt w ⌝ }
 {
     Attempt {
         succeeded: false,

@@ -6,9 +6,9 @@ ghost use Rattle.cpu_opcodes.specs.declared.operation.ReadOperation.the-variant
 ghost use Rattle.r6501q_mnemonics.specs.Attempts.{readTried};
 use crate::Attempt;
 use crate::asks_for;
-use crate::left_as_it_was;
+use crate::failed_attempt;
 use crate::started_next;
-use bits::digit8;
+use bits::one_where;
 use cpu::work::Work;
 use cpu_access::memory_byte;
 use cpu_alu::arithmetic;
@@ -26,13 +26,13 @@ pub fn adc(w: Work, memory: &[u8], p: Place, length: u8) -> Attempt
     ensures { λ r. ⌜ r ≡ readTried Adc w (now (memory .entry)) p length ⌝ }
 {
     if asks_for(p) {
-        return left_as_it_was(w);
+        return failed_attempt(w);
     }
     let value = memory_byte(memory, p.address);
     let r = with_pc(w.registers, p.pc);
     let computed = arithmetic::adc(r.a, value, r.status);
     let after = into_a(r, computed);
-    started_next(w, after, length + digit8(p.crossed))
+    started_next(w, after, length + one_where(p.crossed))
 }
 
 pub fn and(w: Work, memory: &[u8], p: Place, length: u8) -> Attempt
@@ -40,13 +40,13 @@ pub fn and(w: Work, memory: &[u8], p: Place, length: u8) -> Attempt
     ensures { λ r. ⌜ r ≡ readTried And w (now (memory .entry)) p length ⌝ }
 {
     if asks_for(p) {
-        return left_as_it_was(w);
+        return failed_attempt(w);
     }
     let value = memory_byte(memory, p.address);
     let r = with_pc(w.registers, p.pc);
     let computed = logic::and(r.a, value, r.status);
     let after = into_a(r, computed);
-    started_next(w, after, length + digit8(p.crossed))
+    started_next(w, after, length + one_where(p.crossed))
 }
 
 pub fn bit(w: Work, memory: &[u8], p: Place, length: u8) -> Attempt
@@ -54,13 +54,13 @@ pub fn bit(w: Work, memory: &[u8], p: Place, length: u8) -> Attempt
     ensures { λ r. ⌜ r ≡ readTried Bit w (now (memory .entry)) p length ⌝ }
 {
     if asks_for(p) {
-        return left_as_it_was(w);
+        return failed_attempt(w);
     }
     let value = memory_byte(memory, p.address);
     let r = with_pc(w.registers, p.pc);
     let computed = logic::bit_test(r.a, value, r.status);
     let after = with_status(r, computed);
-    started_next(w, after, length + digit8(p.crossed))
+    started_next(w, after, length + one_where(p.crossed))
 }
 
 pub fn cmp(w: Work, memory: &[u8], p: Place, length: u8) -> Attempt
@@ -68,13 +68,13 @@ pub fn cmp(w: Work, memory: &[u8], p: Place, length: u8) -> Attempt
     ensures { λ r. ⌜ r ≡ readTried Cmp w (now (memory .entry)) p length ⌝ }
 {
     if asks_for(p) {
-        return left_as_it_was(w);
+        return failed_attempt(w);
     }
     let value = memory_byte(memory, p.address);
     let r = with_pc(w.registers, p.pc);
     let computed = arithmetic::compare(r.a, value, r.status);
     let after = with_status(r, computed);
-    started_next(w, after, length + digit8(p.crossed))
+    started_next(w, after, length + one_where(p.crossed))
 }
 
 pub fn cpx(w: Work, memory: &[u8], p: Place, length: u8) -> Attempt
@@ -82,13 +82,13 @@ pub fn cpx(w: Work, memory: &[u8], p: Place, length: u8) -> Attempt
     ensures { λ r. ⌜ r ≡ readTried Cpx w (now (memory .entry)) p length ⌝ }
 {
     if asks_for(p) {
-        return left_as_it_was(w);
+        return failed_attempt(w);
     }
     let value = memory_byte(memory, p.address);
     let r = with_pc(w.registers, p.pc);
     let computed = arithmetic::compare(r.x, value, r.status);
     let after = with_status(r, computed);
-    started_next(w, after, length + digit8(p.crossed))
+    started_next(w, after, length + one_where(p.crossed))
 }
 
 pub fn cpy(w: Work, memory: &[u8], p: Place, length: u8) -> Attempt
@@ -96,13 +96,13 @@ pub fn cpy(w: Work, memory: &[u8], p: Place, length: u8) -> Attempt
     ensures { λ r. ⌜ r ≡ readTried Cpy w (now (memory .entry)) p length ⌝ }
 {
     if asks_for(p) {
-        return left_as_it_was(w);
+        return failed_attempt(w);
     }
     let value = memory_byte(memory, p.address);
     let r = with_pc(w.registers, p.pc);
     let computed = arithmetic::compare(r.y, value, r.status);
     let after = with_status(r, computed);
-    started_next(w, after, length + digit8(p.crossed))
+    started_next(w, after, length + one_where(p.crossed))
 }
 
 pub fn eor(w: Work, memory: &[u8], p: Place, length: u8) -> Attempt
@@ -110,13 +110,13 @@ pub fn eor(w: Work, memory: &[u8], p: Place, length: u8) -> Attempt
     ensures { λ r. ⌜ r ≡ readTried Eor w (now (memory .entry)) p length ⌝ }
 {
     if asks_for(p) {
-        return left_as_it_was(w);
+        return failed_attempt(w);
     }
     let value = memory_byte(memory, p.address);
     let r = with_pc(w.registers, p.pc);
     let computed = logic::eor(r.a, value, r.status);
     let after = into_a(r, computed);
-    started_next(w, after, length + digit8(p.crossed))
+    started_next(w, after, length + one_where(p.crossed))
 }
 
 pub fn lda(w: Work, memory: &[u8], p: Place, length: u8) -> Attempt
@@ -124,12 +124,12 @@ pub fn lda(w: Work, memory: &[u8], p: Place, length: u8) -> Attempt
     ensures { λ r. ⌜ r ≡ readTried Lda w (now (memory .entry)) p length ⌝ }
 {
     if asks_for(p) {
-        return left_as_it_was(w);
+        return failed_attempt(w);
     }
     let value = memory_byte(memory, p.address);
     let r = with_pc(w.registers, p.pc);
     let after = load_a(r, value);
-    started_next(w, after, length + digit8(p.crossed))
+    started_next(w, after, length + one_where(p.crossed))
 }
 
 pub fn ldx(w: Work, memory: &[u8], p: Place, length: u8) -> Attempt
@@ -137,12 +137,12 @@ pub fn ldx(w: Work, memory: &[u8], p: Place, length: u8) -> Attempt
     ensures { λ r. ⌜ r ≡ readTried Ldx w (now (memory .entry)) p length ⌝ }
 {
     if asks_for(p) {
-        return left_as_it_was(w);
+        return failed_attempt(w);
     }
     let value = memory_byte(memory, p.address);
     let r = with_pc(w.registers, p.pc);
     let after = load_x(r, value);
-    started_next(w, after, length + digit8(p.crossed))
+    started_next(w, after, length + one_where(p.crossed))
 }
 
 pub fn ldy(w: Work, memory: &[u8], p: Place, length: u8) -> Attempt
@@ -150,12 +150,12 @@ pub fn ldy(w: Work, memory: &[u8], p: Place, length: u8) -> Attempt
     ensures { λ r. ⌜ r ≡ readTried Ldy w (now (memory .entry)) p length ⌝ }
 {
     if asks_for(p) {
-        return left_as_it_was(w);
+        return failed_attempt(w);
     }
     let value = memory_byte(memory, p.address);
     let r = with_pc(w.registers, p.pc);
     let after = load_y(r, value);
-    started_next(w, after, length + digit8(p.crossed))
+    started_next(w, after, length + one_where(p.crossed))
 }
 
 pub fn ora(w: Work, memory: &[u8], p: Place, length: u8) -> Attempt
@@ -163,13 +163,13 @@ pub fn ora(w: Work, memory: &[u8], p: Place, length: u8) -> Attempt
     ensures { λ r. ⌜ r ≡ readTried Ora w (now (memory .entry)) p length ⌝ }
 {
     if asks_for(p) {
-        return left_as_it_was(w);
+        return failed_attempt(w);
     }
     let value = memory_byte(memory, p.address);
     let r = with_pc(w.registers, p.pc);
     let computed = logic::ora(r.a, value, r.status);
     let after = into_a(r, computed);
-    started_next(w, after, length + digit8(p.crossed))
+    started_next(w, after, length + one_where(p.crossed))
 }
 
 pub fn sbc(w: Work, memory: &[u8], p: Place, length: u8) -> Attempt
@@ -177,11 +177,11 @@ pub fn sbc(w: Work, memory: &[u8], p: Place, length: u8) -> Attempt
     ensures { λ r. ⌜ r ≡ readTried Sbc w (now (memory .entry)) p length ⌝ }
 {
     if asks_for(p) {
-        return left_as_it_was(w);
+        return failed_attempt(w);
     }
     let value = memory_byte(memory, p.address);
     let r = with_pc(w.registers, p.pc);
     let computed = arithmetic::sbc(r.a, value, r.status);
     let after = into_a(r, computed);
-    started_next(w, after, length + digit8(p.crossed))
+    started_next(w, after, length + one_where(p.crossed))
 }

@@ -10,7 +10,7 @@ ghost use Rattle.r6501q_mnemonics.specs.Attempts.{storeTried, storeMemor
 ghost use Rattle.r6501q_mnemonics.specs.Attempts.{saveMemory, accumulatorTried};
 use crate::Attempt;
 use crate::asks_for;
-use crate::left_as_it_was;
+use crate::failed_attempt;
 use crate::started_next;
 use crate::stored_whole;
 use counters::time::Clocks;
@@ -49,7 +49,7 @@ fn store(
     let ends = ends_span(one_write(address, value), halt);
     let behind = span.0 - w.gone.0 < w.wait as u32 + length as u32;
     if ends | behind {
-        return left_as_it_was(w);
+        return failed_attempt(w);
     }
     let x = Write {
         address: address,
@@ -74,7 +74,7 @@ pub fn asl(
     ensures { λ _. ⌜ now (sums .exit) ≡ sumsAfter (now (sums .entry)) (now (memory .entry)) (now (memory .exit)) ⌝ }
 {
     if asks_for(p) {
-        return left_as_it_was(w);
+        return failed_attempt(w);
     }
     let r = with_pc(w.registers, p.pc);
     let value = memory_byte(memory, p.address);
@@ -108,7 +108,7 @@ pub fn dec(
     ensures { λ _. ⌜ now (sums .exit) ≡ sumsAfter (now (sums .entry)) (now (memory .entry)) (now (memory .exit)) ⌝ }
 {
     if asks_for(p) {
-        return left_as_it_was(w);
+        return failed_attempt(w);
     }
     let r = with_pc(w.registers, p.pc);
     let value = memory_byte(memory, p.address);
@@ -142,7 +142,7 @@ pub fn inc(
     ensures { λ _. ⌜ now (sums .exit) ≡ sumsAfter (now (sums .entry)) (now (memory .entry)) (now (memory .exit)) ⌝ }
 {
     if asks_for(p) {
-        return left_as_it_was(w);
+        return failed_attempt(w);
     }
     let r = with_pc(w.registers, p.pc);
     let value = memory_byte(memory, p.address);
@@ -176,7 +176,7 @@ pub fn lsr(
     ensures { λ _. ⌜ now (sums .exit) ≡ sumsAfter (now (sums .entry)) (now (memory .entry)) (now (memory .exit)) ⌝ }
 {
     if asks_for(p) {
-        return left_as_it_was(w);
+        return failed_attempt(w);
     }
     let r = with_pc(w.registers, p.pc);
     let value = memory_byte(memory, p.address);
@@ -210,7 +210,7 @@ pub fn rol(
     ensures { λ _. ⌜ now (sums .exit) ≡ sumsAfter (now (sums .entry)) (now (memory .entry)) (now (memory .exit)) ⌝ }
 {
     if asks_for(p) {
-        return left_as_it_was(w);
+        return failed_attempt(w);
     }
     let r = with_pc(w.registers, p.pc);
     let value = memory_byte(memory, p.address);
@@ -244,7 +244,7 @@ pub fn ror(
     ensures { λ _. ⌜ now (sums .exit) ≡ sumsAfter (now (sums .entry)) (now (memory .entry)) (now (memory .exit)) ⌝ }
 {
     if asks_for(p) {
-        return left_as_it_was(w);
+        return failed_attempt(w);
     }
     let r = with_pc(w.registers, p.pc);
     let value = memory_byte(memory, p.address);
@@ -279,7 +279,7 @@ pub fn rmb(
     ensures { λ _. ⌜ now (sums .exit) ≡ sumsAfter (now (sums .entry)) (now (memory .entry)) (now (memory .exit)) ⌝ }
 {
     if asks_for(p) {
-        return left_as_it_was(w);
+        return failed_attempt(w);
     }
     let r = with_pc(w.registers, p.pc);
     let value = memory_byte(memory, p.address);
@@ -303,7 +303,7 @@ pub fn smb(
     ensures { λ _. ⌜ now (sums .exit) ≡ sumsAfter (now (sums .entry)) (now (memory .entry)) (now (memory .exit)) ⌝ }
 {
     if asks_for(p) {
-        return left_as_it_was(w);
+        return failed_attempt(w);
     }
     let r = with_pc(w.registers, p.pc);
     let value = memory_byte(memory, p.address);
@@ -362,7 +362,7 @@ pub fn sta(
     ensures { λ _. ⌜ now (sums .exit) ≡ sumsAfter (now (sums .entry)) (now (memory .entry)) (now (memory .exit)) ⌝ }
 {
     if asks_for(p) {
-        return left_as_it_was(w);
+        return failed_attempt(w);
     }
     let r = with_pc(w.registers, p.pc);
     store(
@@ -393,7 +393,7 @@ pub fn stx(
     ensures { λ _. ⌜ now (sums .exit) ≡ sumsAfter (now (sums .entry)) (now (memory .entry)) (now (memory .exit)) ⌝ }
 {
     if asks_for(p) {
-        return left_as_it_was(w);
+        return failed_attempt(w);
     }
     let r = with_pc(w.registers, p.pc);
     store(
@@ -424,7 +424,7 @@ pub fn sty(
     ensures { λ _. ⌜ now (sums .exit) ≡ sumsAfter (now (sums .entry)) (now (memory .entry)) (now (memory .exit)) ⌝ }
 {
     if asks_for(p) {
-        return left_as_it_was(w);
+        return failed_attempt(w);
     }
     let r = with_pc(w.registers, p.pc);
     store(

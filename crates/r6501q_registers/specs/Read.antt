@@ -2,7 +2,7 @@
 use mathlib.Core.Bool.{Bool, true, false, cond}
 use Prim.Native.Nat.{ℕ, _/_, _%_}
 use lib.Dec.{eqb}
-use Rattle.bits.specs.Bits.{low, high, withBit}
+use Rattle.bits.specs.Bits.{lowByte, highByte, withBit}
 use Rattle.r6501q_state.specs.declared.state.Peripherals.{Peripherals}
 use Rattle.r6501q_state.specs.Copies.{flagged, statused}
 use Rattle.r6501q_state.specs.Control.{flagsOf}
@@ -15,17 +15,17 @@ use Rattle.r6501q_registers.specs.Addresses.{lowerBAddress, upperBAddres
 -- "Ports 00h to 03h: read step 1's levels"; 001, 4.1: "During the Read cycle of a Read/Modify/Write instruction the
 -- Port I/O register is read. For all other read instructions the port input lines are read."
 unfoldable pub portValue : Bool → ℕ → ℕ → ℕ
-portValue latch latched levels = cond latch latched (levels % 256)
+portValue modify latched levels = cond modify latched (levels % 256)
 
 -- What is read. 01: "IFR reads at 11h"; "10h reads FFh"; Machine state, "unassigned registers read FFh".
 unfoldable pub registerValue : Peripherals → ℕ → Bool → ℕ → ℕ
-registerValue p levels latch at =
-    cond (eqb at startBAddress) (low (p .counterb .count))  -- 1Eh
-    (cond (eqb at upperBAddress) (high (p .counterb .count))  -- 1Dh
-    (cond (eqb at lowerBAddress) (low (p .counterb .count))  -- 1Ch
-    (cond (eqb at startAAddress) (low (p .countera .count))  -- 1Ah
-    (cond (eqb at upperAAddress) (high (p .countera .count))  -- 19h
-    (cond (eqb at lowerAAddress) (low (p .countera .count))  -- 18h
+registerValue p levels modify at =
+    cond (eqb at startBAddress) (lowByte (p .counterb .count))  -- 1Eh
+    (cond (eqb at upperBAddress) (highByte (p .counterb .count))  -- 1Dh
+    (cond (eqb at lowerBAddress) (lowByte (p .counterb .count))  -- 1Ch
+    (cond (eqb at startAAddress) (lowByte (p .countera .count))  -- 1Ah
+    (cond (eqb at upperAAddress) (highByte (p .countera .count))  -- 19h
+    (cond (eqb at lowerAAddress) (lowByte (p .countera .count))  -- 18h
     (cond (eqb at serialDataAddress) (p .serial .received)  -- 17h
     (cond (eqb at serialStatusAddress) (p .control .scsr)  -- 16h
     (cond (eqb at serialControlAddress) (p .control .sccr)  -- 15h
@@ -33,10 +33,10 @@ registerValue p levels latch at =
     (cond (eqb at interruptEnableAddress) (p .control .ier)  -- 12h
     (cond (eqb at interruptFlagsAddress) (flagsOf (p .control))  -- 11h
     (cond (eqb at flagClearAddress) 0xFF  -- 10h
-    (cond (eqb at portDAddress) (portValue latch (p .ports .d) (levels / 0x1000000))  -- 03h
-    (cond (eqb at portCAddress) (portValue latch (p .ports .c) (levels / 0x10000))  -- 02h
-    (cond (eqb at portBAddress) (portValue latch (p .ports .b) (levels / 0x100))  -- 01h
-    (cond (eqb at portAAddress) (portValue latch (p .ports .a) levels)  -- 00h
+    (cond (eqb at portDAddress) (portValue modify (p .ports .d) (levels / 0x1000000))  -- 03h
+    (cond (eqb at portCAddress) (portValue modify (p .ports .c) (levels / 0x10000))  -- 02h
+    (cond (eqb at portBAddress) (portValue modify (p .ports .b) (levels / 0x100))  -- 01h
+    (cond (eqb at portAAddress) (portValue modify (p .ports .a) levels)  -- 00h
     0xFF))))))))))))))))
 
 -- "reading clears SCSR0 to 3"

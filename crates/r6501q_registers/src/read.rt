@@ -27,15 +27,19 @@ pub struct Reading {
 }
 
 // What a port reads as: its latch for a read-modify-write instruction, else its pins, the lowest byte of `levels`.
-fn port_value(latch: bool, latched: u8, levels: u32) -> u8
-    ensures { λ r. ⌜ r ≡ portValue latch latched levels ⌝ }
+fn port_value(modify: bool, latched: u8, levels: u32) -> u8
+    ensures { λ r. ⌜ r ≡ portValue modify latched levels ⌝ }
 {
-    if latch { latched } else { (levels % 256) as u8 }
+    if modify {
+        latched
+    } else {
+        (levels % 256) as u8
+    }
 }
 
-// What a register reads as, given step 1's levels; `latch` for the read of a read-modify-write instruction.
-pub fn value(p: Peripherals, levels: u32, latch: bool, address: u16) -> u8
-    ensures { λ r. ⌜ r ≡ registerValue p levels latch address ⌝ }
+// What a register reads as, given step 1's levels; `modify` for the read of a read-modify-write instruction.
+pub fn value(p: Peripherals, levels: u32, modify: bool, address: u16) -> u8
+    ensures { λ r. ⌜ r ≡ registerValue p levels modify address ⌝ }
 {
     match address {
         START_B => bits::low_byte(p.counterb.count),
@@ -51,10 +55,10 @@ pub fn value(p: Peripherals, levels: u32, latch: bool, address: u16) -> u8
         INTERRUPT_ENABLE => p.control.ier,
         INTERRUPT_FLAGS => p.control.flags(),
         FLAG_CLEAR => 0xFF,
-        PORT_D => port_value(latch, p.ports.d, levels / 0x1000000),
-        PORT_C => port_value(latch, p.ports.c, levels / 0x10000),
-        PORT_B => port_value(latch, p.ports.b, levels / 0x100),
-        PORT_A => port_value(latch, p.ports.a, levels),
+        PORT_D => port_value(modify, p.ports.d, levels / 0x1000000),
+        PORT_C => port_value(modify, p.ports.c, levels / 0x10000),
+        PORT_B => port_value(modify, p.ports.b, levels / 0x100),
+        PORT_A => port_value(modify, p.ports.a, levels),
         _ => 0xFF,
     }
 }

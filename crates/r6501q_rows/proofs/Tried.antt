@@ -31,10 +31,10 @@ use Rattle.cpu_access.specs.declared.stack.Write.{Write}
 use Rattle.cpu_access.specs.declared.stack.Writes.{Writes}
 use Rattle.cpu_access.specs.declared.Fetched.{Fetched}
 use Rattle.cpu_access.specs.declared.stack.Pulled.{Pulled}
-use Rattle.bits.specs.Bits.{digit, word16}
+use Rattle.bits.specs.Bits.{oneWhere, word16}
 use Rattle.cpu_alu.specs.Status.{unpacked}
 use Rattle.r6501q_mnemonics.specs.declared.Attempt.{Attempt}
-use Rattle.cpu_access.specs.Bus.{idle, nextAddress, memoryByte, readOf, fetchOf}
+use Rattle.cpu_access.specs.Bus.{unasked, nextAddress, memoryByte, readOf, fetchOf}
 use Rattle.cpu_modes.specs.Modes.{locateOf, relativeTo}
 use Rattle.cpu_access.specs.Stack.{writeAt, oneWrite, pushAt, down, pullOf, pullAddress}
 use Rattle.cpu_effects.specs.declared.Worked.{Worked}
@@ -50,20 +50,20 @@ use Rattle.cpu_kinds.proofs.Bytes.{byte-stored, byte-pushed}
 use Rattle.cpu.specs.declared.Outcome.{Outcome}
 use Rattle.cpu.specs.declared.Outcome.the-variants.{Done}
 use Rattle.cpu.specs.declared.work.Work.{Work}
-use Rattle.cpu.specs.Instruction.{instructionOf, executeOf, outcomeOf, carriedOut, operandByte, subroutineCall}
-use Rattle.cpu.specs.Instruction.{writesAsked}
+use Rattle.cpu.specs.InstructionInCode.{instructionOf, executeOf, outcomeOf, carriedOut, operandByte, jsrOutcome}
+use Rattle.cpu.specs.InstructionInCode.{writesAsked}
 use Rattle.cpu.specs.Work.{nextWork}
 use Rattle.r6501q_clock.specs.Commit.{putWrite, committed}
 use Rattle.cpu_access.specs.Halt.{endsSpan}
 use Rattle.r6501q_spans.specs.Spans.{putWork}
 use Rattle.bits.proofs.Cond.{either-false}
 use Rattle.cpu_access.proofs.Ends.{no-writes-end}
-use Rattle.r6501q_mnemonics.specs.Attempts.{Instructed, pushing, storing, Tries, unchanged, whole, leftAsItWas}
-use Rattle.r6501q_mnemonics.specs.Attempts.{workedOut, startedNext, storedWhole, asksFor, storeLeft, readTried}
+use Rattle.r6501q_mnemonics.specs.Attempts.{Instructed, pushing, storing, Tries, unchanged, whole, failedAttempt}
+use Rattle.r6501q_mnemonics.specs.Attempts.{workedOut, startedNext, storedWhole, asksFor, storeDeferred, readTried}
 use Rattle.r6501q_mnemonics.specs.Attempts.{storeTried, storeMemory, saveTried, saveMemory, changedAt, changeTried}
 use Rattle.r6501q_mnemonics.specs.Attempts.{changeMemory, accumulatorTried, branchTried, bitBranchTried, jumpTried}
-use Rattle.r6501q_mnemonics.specs.Attempts.{pushTried, pushMemory, pullTried, callPushes, callUpper, callTried}
-use Rattle.r6501q_mnemonics.specs.Attempts.{callMemory, returnTried, interruptReturnTried, registerTried, flagTried}
+use Rattle.r6501q_mnemonics.specs.Attempts.{pushTried, pushMemory, pullTried, jsrPushes, jsrUpper, jsrTried}
+use Rattle.r6501q_mnemonics.specs.Attempts.{jsrMemory, returnTried, interruptReturnTried, registerTried, flagTried}
 
 abbrev entry : Operation → Mode → ℕ → Entry
 entry o m n = record { operation = o; mode = m; length = n }
@@ -71,7 +71,7 @@ entry o m n = record { operation = o; mode = m; length = n }
 -- a defined opcode at an address that is no register's: the instruction is what its entry executes
 pub opcode-executes : (r : CpuRegisters) (memory : List ℕ) (e : Entry) → isRegister (r .pc) ≡ false
     → decodeOf (memoryByte memory (r .pc)) ≡ decoded.Defined e
-    → instructionOf r [] memory ≡ executeOf [] memory e (withPc (nextAddress (r .pc)) r) idle
+    → instructionOf r [] memory ≡ executeOf [] memory e (withPc (nextAddress (r .pc)) r) unasked
 unfolding instructionOf fetchOf readOf
 opcode-executes r memory e free d = rw (free, d) refl
 
@@ -90,23 +90,23 @@ module _ (halt : Halt) (span : ℕ) (w : Work) (memory : List ℕ) (inside : w .
   behind = withPc (nextAddress (w .registers .pc)) (w .registers)
 
   abbrev placeOf : Mode → Place
-  placeOf m = locateOf [] memory m behind idle
+  placeOf m = locateOf [] memory m behind unasked
 
   abbrev Decodes : Operation → Mode → ℕ → Type 0
   Decodes o m n = decodeOf (memoryByte memory (w .registers .pc)) ≡ decoded.Defined (entry o m n)
 
   abbrev Executes : Operation → Mode → ℕ → Worked → Type 0
-  Executes o m n worked = executeOf [] memory (entry o m n) behind idle ≡ Done worked
+  Executes o m n worked = executeOf [] memory (entry o m n) behind unasked ≡ Done worked
 
-  left-or : (t : Bool) (a : Attempt) (memory' : List ℕ) → (t ≡ false → Tries halt span w memory a memory')
-      → Tries halt span w memory (cond t (leftAsItWas w) a) (cond t memory memory')
-  left-or true a memory' f = unchanged
-  left-or false a memory' f = f refl
+  failed-or : (t : Bool) (a : Attempt) (memory' : List ℕ) → (t ≡ false → Tries halt span w memory a memory')
+      → Tries halt span w memory (cond t (failedAttempt w) a) (cond t memory memory')
+  failed-or true a memory' f = unchanged
+  failed-or false a memory' f = f refl
 
-  left-or-same : (t : Bool) (a : Attempt) → (t ≡ false → Tries halt span w memory a memory)
-      → Tries halt span w memory (cond t (leftAsItWas w) a) memory
-  left-or-same true a f = unchanged
-  left-or-same false a f = f refl
+  failed-or-same : (t : Bool) (a : Attempt) → (t ≡ false → Tries halt span w memory a memory)
+      → Tries halt span w memory (cond t (failedAttempt w) a) memory
+  failed-or-same true a f = unchanged
+  failed-or-same false a f = f refl
 
   -- nothing is written
   read-only : (o : Operation) (m : Mode) (n : ℕ) → Decodes o m n → (r : CpuRegisters) (length : ℕ)
@@ -134,7 +134,7 @@ module _ (halt : Halt) (span : ℕ) (w : Work) (memory : List ℕ) (inside : w .
       → Tries halt span w memory (storeTried halt span w r x n) (storeMemory halt span w x n memory)
   unfolding storeTried storeMemory
   stores o m n d r x long e =
-      left-or (storeLeft halt span w x n) (storedWhole w r n) (committed memory (oneWrite x))
+      failed-or (storeDeferred halt span w x n) (storedWhole w r n) (committed memory (oneWrite x))
       (λ t.
       let both = either-false (endsSpan halt (oneWrite x)) (ltb (span - w .gone .0) (w .wait + n)) t in
       let fits = ltb-false (span - w .gone .0) (w .wait + n) (both .1) in
@@ -146,7 +146,7 @@ module _ (halt : Halt) (span : ℕ) (w : Work) (memory : List ℕ) (inside : w .
       → isRegister (placeOf m .address) ≡ false
       → Executes (operation.Read o) m n
       (workedOut (withRead o (withPc (placeOf m .pc) (w .registers)) (memoryByte memory (placeOf m .address))) Nothing
-      (n + digit (placeOf m .crossed)))
+      (n + oneWhere (placeOf m .crossed)))
   unfolding executeOf carriedOut operandByte readOf outcomeOf operateOf completed
   read-done o m n b a = rw (a, b) refl
 
@@ -154,7 +154,7 @@ module _ (halt : Halt) (span : ℕ) (w : Work) (memory : List ℕ) (inside : w .
       → Tries halt span w memory (readTried o w memory (placeOf m) n) memory
   unfolding readTried
   read-tries o m n d =
-      left-or-same (asksFor (placeOf m)) _
+      failed-or-same (asksFor (placeOf m)) _
       (λ t. let both = either-false (placeOf m .bus .missing) (isRegister (placeOf m .address)) t in
       read-only (operation.Read o) m n d _ _ (read-done o m n (both .0) (both .1)))
 
@@ -170,7 +170,7 @@ module _ (halt : Halt) (span : ℕ) (w : Work) (memory : List ℕ) (inside : w .
       → Tries halt span w memory (saveTried halt span o w (placeOf m) n) (saveMemory halt span o w (placeOf m) n memory)
   unfolding saveTried saveMemory
   save-tries o m n d long =
-      left-or (asksFor (placeOf m)) _ _
+      failed-or (asksFor (placeOf m)) _ _
       (λ t. let both = either-false (placeOf m .bus .missing) (isRegister (placeOf m .address)) t in
       stores (operation.Store o) m n d _ _ long (save-done o m n (both .0)))
 
@@ -190,7 +190,7 @@ module _ (halt : Halt) (span : ℕ) (w : Work) (memory : List ℕ) (inside : w .
       (changeMemory halt span o w memory (placeOf m) n)
   unfolding changeTried changeMemory
   change-tries o m n d c long =
-      left-or (asksFor (placeOf m)) _ _
+      failed-or (asksFor (placeOf m)) _ _
       (λ t. let both = either-false (placeOf m .bus .missing) (isRegister (placeOf m .address)) t in
       stores (operation.Modify o) m n d _ _ long (change-done o m n c (both .0) (both .1)))
 
@@ -204,7 +204,7 @@ module _ (halt : Halt) (span : ℕ) (w : Work) (memory : List ℕ) (inside : w .
   branch-done : (o : Operation) (m : Mode) (n : ℕ) → Decodes o m n → (taken : Bool) (p : Place)
       → p .bus .missing ≡ false
       → ((t : Bool) → t ≡ taken
-      → Executes o m n (cond t (workedOut (withPc (p .address) (w .registers)) Nothing (n + 1 + digit (p .crossed)))
+      → Executes o m n (cond t (workedOut (withPc (p .address) (w .registers)) Nothing (n + 1 + oneWhere (p .crossed)))
       (workedOut (withPc (p .pc) (w .registers)) Nothing n)))
       → Tries halt span w memory (branchTried taken w p n) memory
   unfolding branchTried
@@ -212,7 +212,7 @@ module _ (halt : Halt) (span : ℕ) (w : Work) (memory : List ℕ) (inside : w .
     where
       by-taken : (t : Bool) → t ≡ taken
           → Tries halt span w memory
-          (cond t (startedNext w (withPc (p .address) (w .registers)) (n + 1 + digit (p .crossed)))
+          (cond t (startedNext w (withPc (p .address) (w .registers)) (n + 1 + oneWhere (p .crossed)))
           (startedNext w (withPc (p .pc) (w .registers)) n)) memory
       by-taken true z = read-only o m n d _ _ (e true z)
       by-taken false z = read-only o m n d _ _ (e false z)
@@ -222,7 +222,7 @@ module _ (halt : Halt) (span : ℕ) (w : Work) (memory : List ℕ) (inside : w .
       → t ≡ branchTaken o (w .registers .status)
       → Executes (operation.Branch o) Relative n
       (cond t (workedOut (withPc (placeOf Relative .address) (w .registers)) Nothing
-      (n + 1 + digit (placeOf Relative .crossed)))
+      (n + 1 + oneWhere (placeOf Relative .crossed)))
       (workedOut (withPc (placeOf Relative .pc) (w .registers)) Nothing n))
   unfolding executeOf carriedOut operandByte outcomeOf operateOf branched
   branch-executes o n b true z = rw (sym z, b) refl
@@ -252,7 +252,7 @@ module _ (halt : Halt) (span : ℕ) (w : Work) (memory : List ℕ) (inside : w .
       → target .bus .missing ≡ false
       → (t : Bool) → t ≡ bitBranchTaken o (memoryByte memory (placeOf ZeroPageRelative .address))
       → Executes (operation.BitBranch o) ZeroPageRelative n
-      (cond t (workedOut (withPc (target .address) (w .registers)) Nothing (n + 1 + digit (target .crossed)))
+      (cond t (workedOut (withPc (target .address) (w .registers)) Nothing (n + 1 + oneWhere (target .crossed)))
       (workedOut (withPc (target .pc) (w .registers)) Nothing n))
   unfolding executeOf carriedOut operandByte readOf outcomeOf operateOf bitBranched branched
   bit-branch-executes o n a b true z = rw (a, sym z, b) refl
@@ -262,7 +262,7 @@ module _ (halt : Halt) (span : ℕ) (w : Work) (memory : List ℕ) (inside : w .
       → Tries halt span w memory (bitBranchTried o w memory (placeOf ZeroPageRelative) n) memory
   unfolding bitBranchTried
   bit-branch-tries o n d =
-      left-or-same (asksFor (placeOf ZeroPageRelative)) _
+      failed-or-same (asksFor (placeOf ZeroPageRelative)) _
       (λ t. let both = either-false (placeOf ZeroPageRelative .bus .missing)
       (isRegister (placeOf ZeroPageRelative .address)) t in
       by-missing (both .1) (target .bus .missing) refl)
@@ -284,7 +284,8 @@ module _ (halt : Halt) (span : ℕ) (w : Work) (memory : List ℕ) (inside : w .
   pub jump-tries : (m : Mode) (n : ℕ) → Decodes operation.Jmp m n
       → Tries halt span w memory (jumpTried w (placeOf m) n) memory
   unfolding jumpTried
-  jump-tries m n d = left-or-same (placeOf m .bus .missing) _ (λ b. read-only operation.Jmp m n d _ _ (jump-done m n b))
+  jump-tries m n d =
+      failed-or-same (placeOf m .bus .missing) _ (λ b. read-only operation.Jmp m n d _ _ (jump-done m n b))
 
   -- PHA and PHP
   push-done : (o : PushOperation) (n : ℕ)
@@ -298,13 +299,13 @@ module _ (halt : Halt) (span : ℕ) (w : Work) (memory : List ℕ) (inside : w .
       → Tries halt span w memory (pushTried halt w (byteToPush o (w .registers)) (nextAddress (w .registers .pc)) n)
       (pushMemory halt w (byteToPush o (w .registers)) memory)
   unfolding pushTried pushMemory
-  push-tries o n d = left-or _ _ _ (λ q. pushes (operation.Push o) Implied n d _ _ n (push-done o n) q)
+  push-tries o n d = failed-or _ _ _ (λ q. pushes (operation.Push o) Implied n d _ _ n (push-done o n) q)
 
   -- PLA and PLP
-  pull-done : (o : PullOperation) (n : ℕ) → pullOf [] memory (w .registers .sp) idle .bus .missing ≡ false
+  pull-done : (o : PullOperation) (n : ℕ) → pullOf [] memory (w .registers .sp) unasked .bus .missing ≡ false
       → Executes (operation.Pull o) Implied n
-      (workedOut (withPulled o (withSp (pullOf [] memory (w .registers .sp) idle .sp) behind)
-      (pullOf [] memory (w .registers .sp) idle .value)) Nothing n)
+      (workedOut (withPulled o (withSp (pullOf [] memory (w .registers .sp) unasked .sp) behind)
+      (pullOf [] memory (w .registers .sp) unasked .value)) Nothing n)
   unfolding executeOf carriedOut operandByte outcomeOf operateOf pulledByte locateOf
   pull-done o n b = rw b refl
 
@@ -312,7 +313,7 @@ module _ (halt : Halt) (span : ℕ) (w : Work) (memory : List ℕ) (inside : w .
       → Tries halt span w memory (pullTried o w memory (nextAddress (w .registers .pc)) n) memory
   unfolding pullTried
   pull-tries o n d =
-      left-or-same (pullOf [] memory (w .registers .sp) idle .bus .missing) _
+      failed-or-same (pullOf [] memory (w .registers .sp) unasked .bus .missing) _
       (λ b. read-only (operation.Pull o) Implied n d _ _ (pull-done o n b))
 
   pub register-tries : (o : RegisterOperation) (n : ℕ) → Decodes (operation.Register o) Implied n
@@ -337,30 +338,30 @@ module _ (halt : Halt) (span : ℕ) (w : Work) (memory : List ℕ) (inside : w .
 
   -- JSR
   abbrev lower : Fetched
-  lower = fetchOf [] memory (nextAddress (w .registers .pc)) idle
+  lower = fetchOf [] memory (nextAddress (w .registers .pc)) unasked
 
-  call-done : (n : ℕ) → callUpper memory w lower .bus .missing ≡ false
+  jsr-done : (n : ℕ) → jsrUpper memory w lower .bus .missing ≡ false
       → Executes operation.Jsr Absolute n
-      (workedOut (withPc (word16 (callUpper memory w lower .value) (lower .value))
+      (workedOut (withPc (word16 (jsrUpper memory w lower .value) (lower .value))
       (withSp (down (down (w .registers .sp))) (w .registers)))
-      (Pushed (callPushes w lower)) n)
-  unfolding executeOf subroutineCall outcomeOf
-  call-done n b = rw b refl
+      (Pushed (jsrPushes w lower)) n)
+  unfolding executeOf jsrOutcome outcomeOf
+  jsr-done n b = rw b refl
 
-  pub call-tries : (n : ℕ) → Decodes operation.Jsr Absolute n
-      → Tries halt span w memory (callTried halt w memory (nextAddress (w .registers .pc)) n)
-      (callMemory halt w memory (nextAddress (w .registers .pc)))
-  unfolding callTried callMemory
-  call-tries n d =
-      left-or (callUpper memory w lower .bus .missing || endsSpan halt (callPushes w lower)) _ _
-      (λ t. let both = either-false (callUpper memory w lower .bus .missing) (endsSpan halt (callPushes w lower)) t in
-      pushes operation.Jsr Absolute n d _ _ n (call-done n (both .0)) (both .1))
+  pub jsr-tries : (n : ℕ) → Decodes operation.Jsr Absolute n
+      → Tries halt span w memory (jsrTried halt w memory (nextAddress (w .registers .pc)) n)
+      (jsrMemory halt w memory (nextAddress (w .registers .pc)))
+  unfolding jsrTried jsrMemory
+  jsr-tries n d =
+      failed-or (jsrUpper memory w lower .bus .missing || endsSpan halt (jsrPushes w lower)) _ _
+      (λ t. let both = either-false (jsrUpper memory w lower .bus .missing) (endsSpan halt (jsrPushes w lower)) t in
+      pushes operation.Jsr Absolute n d _ _ n (jsr-done n (both .0)) (both .1))
 
   -- RTS and RTI
-  return-done : (n : ℕ) → pullAddress [] memory (w .registers .sp) idle .bus .missing ≡ false
+  return-done : (n : ℕ) → pullAddress [] memory (w .registers .sp) unasked .bus .missing ≡ false
       → Executes operation.Rts Implied n
-      (workedOut (withPc (nextAddress (pullAddress [] memory (w .registers .sp) idle .value))
-      (withSp (pullAddress [] memory (w .registers .sp) idle .sp) (w .registers)))
+      (workedOut (withPc (nextAddress (pullAddress [] memory (w .registers .sp) unasked .value))
+      (withSp (pullAddress [] memory (w .registers .sp) unasked .sp) (w .registers)))
       Nothing n)
   unfolding executeOf carriedOut operandByte outcomeOf operateOf returned locateOf
   return-done n b = rw b refl
@@ -369,11 +370,11 @@ module _ (halt : Halt) (span : ℕ) (w : Work) (memory : List ℕ) (inside : w .
       → Tries halt span w memory (returnTried w memory n) memory
   unfolding returnTried
   return-tries n d =
-      left-or-same (pullAddress [] memory (w .registers .sp) idle .bus .missing) _
+      failed-or-same (pullAddress [] memory (w .registers .sp) unasked .bus .missing) _
       (λ b. read-only operation.Rts Implied n d _ _ (return-done n b))
 
   abbrev status : Pulled
-  status = pullOf [] memory (w .registers .sp) idle
+  status = pullOf [] memory (w .registers .sp) unasked
 
   resume-done : (n : ℕ) → pullAddress [] memory (status .sp) (status .bus) .bus .missing ≡ false
       → Executes operation.Rti Implied n
@@ -387,5 +388,5 @@ module _ (halt : Halt) (span : ℕ) (w : Work) (memory : List ℕ) (inside : w .
       → Tries halt span w memory (interruptReturnTried w memory n) memory
   unfolding interruptReturnTried
   interrupt-return-tries n d =
-      left-or-same (pullAddress [] memory (status .sp) (status .bus) .bus .missing) _
+      failed-or-same (pullAddress [] memory (status .sp) (status .bus) .bus .missing) _
       (λ b. read-only operation.Rti Implied n d _ _ (resume-done n b))

@@ -1,5 +1,5 @@
-// The opcodes by the rows of the code matrix (source document 001, A.3): an opcode's high digit chooses its row. Each
-// defined opcode but BRK is tried; any other is left to `work_once`.
+// The opcodes by the rows of the code matrix (source document 001, A.3): an opcode's high digit chooses its row, 2 that
+// of `opcodes_20`. Each defined opcode but BRK is tried; any other is left to `work_once`.
 ghost use mathlib.Core.Path.{_≡_};
 ghost use mathlib.Core.Bool.{false};
 ghost use Prim.Native.Nat.{_+_, _≤_, _<_};
@@ -12,14 +12,14 @@ use cpu::work::Work;
 use cpu_access::halt::Halt;
 use cpu_access::next_address;
 use r6501q_mnemonics::Attempt;
+use r6501q_mnemonics::failed_attempt;
 use r6501q_mnemonics::flow;
-use r6501q_mnemonics::left_as_it_was;
 use r6501q_mnemonics::places;
 use r6501q_mnemonics::reads;
 use r6501q_mnemonics::registers;
 use r6501q_mnemonics::stores;
 
-pub fn row_0(
+pub fn opcodes_00(
     w: Work,
     span: Clocks,
     memory: &mut [u8],
@@ -67,11 +67,11 @@ pub fn row_0(
         0x0D => reads::ora(w, memory, places::absolute(memory, pc), 4),
         0x0E => stores::asl(w, span, memory, sums, halt, places::absolute(memory, pc), 6),
         0x0F => flow::bbr(w, memory, places::zero_page(memory, pc), 0, 5),
-        _ => left_as_it_was(w),
+        _ => failed_attempt(w),
     }
 }
 
-pub fn row_1(
+pub fn opcodes_10(
     w: Work,
     span: Clocks,
     memory: &mut [u8],
@@ -142,11 +142,11 @@ pub fn row_1(
             7,
         ),
         0x1F => flow::bbr(w, memory, places::zero_page(memory, pc), 1, 5),
-        _ => left_as_it_was(w),
+        _ => failed_attempt(w),
     }
 }
 
-pub fn row_2(
+pub fn opcodes_20(
     w: Work,
     span: Clocks,
     memory: &mut [u8],
@@ -162,7 +162,7 @@ pub fn row_2(
 {
     let pc = next_address(w.registers.pc);
     match opcode {
-        0x20 => flow::call(w, memory, sums, halt, pc, 6),
+        0x20 => flow::jsr(w, memory, sums, halt, pc, 6),
         0x21 => reads::and(
             w,
             memory,
@@ -197,11 +197,11 @@ pub fn row_2(
         0x2D => reads::and(w, memory, places::absolute(memory, pc), 4),
         0x2E => stores::rol(w, span, memory, sums, halt, places::absolute(memory, pc), 6),
         0x2F => flow::bbr(w, memory, places::zero_page(memory, pc), 2, 5),
-        _ => left_as_it_was(w),
+        _ => failed_attempt(w),
     }
 }
 
-pub fn row_3(
+pub fn opcodes_30(
     w: Work,
     span: Clocks,
     memory: &mut [u8],
@@ -272,11 +272,11 @@ pub fn row_3(
             7,
         ),
         0x3F => flow::bbr(w, memory, places::zero_page(memory, pc), 3, 5),
-        _ => left_as_it_was(w),
+        _ => failed_attempt(w),
     }
 }
 
-pub fn row_4(
+pub fn opcodes_40(
     w: Work,
     span: Clocks,
     memory: &mut [u8],
@@ -326,11 +326,11 @@ pub fn row_4(
         0x4D => reads::eor(w, memory, places::absolute(memory, pc), 4),
         0x4E => stores::lsr(w, span, memory, sums, halt, places::absolute(memory, pc), 6),
         0x4F => flow::bbr(w, memory, places::zero_page(memory, pc), 4, 5),
-        _ => left_as_it_was(w),
+        _ => failed_attempt(w),
     }
 }
 
-pub fn row_5(
+pub fn opcodes_50(
     w: Work,
     span: Clocks,
     memory: &mut [u8],
@@ -401,11 +401,11 @@ pub fn row_5(
             7,
         ),
         0x5F => flow::bbr(w, memory, places::zero_page(memory, pc), 5, 5),
-        _ => left_as_it_was(w),
+        _ => failed_attempt(w),
     }
 }
 
-pub fn row_6(
+pub fn opcodes_60(
     w: Work,
     span: Clocks,
     memory: &mut [u8],
@@ -455,11 +455,11 @@ pub fn row_6(
         0x6D => reads::adc(w, memory, places::absolute(memory, pc), 4),
         0x6E => stores::ror(w, span, memory, sums, halt, places::absolute(memory, pc), 6),
         0x6F => flow::bbr(w, memory, places::zero_page(memory, pc), 6, 5),
-        _ => left_as_it_was(w),
+        _ => failed_attempt(w),
     }
 }
 
-pub fn row_7(
+pub fn opcodes_70(
     w: Work,
     span: Clocks,
     memory: &mut [u8],
@@ -530,11 +530,11 @@ pub fn row_7(
             7,
         ),
         0x7F => flow::bbr(w, memory, places::zero_page(memory, pc), 7, 5),
-        _ => left_as_it_was(w),
+        _ => failed_attempt(w),
     }
 }
 
-pub fn row_8(
+pub fn opcodes_80(
     w: Work,
     span: Clocks,
     memory: &mut [u8],
@@ -602,11 +602,11 @@ pub fn row_8(
         0x8D => stores::sta(w, span, memory, sums, halt, places::absolute(memory, pc), 4),
         0x8E => stores::stx(w, span, memory, sums, halt, places::absolute(memory, pc), 4),
         0x8F => flow::bbs(w, memory, places::zero_page(memory, pc), 0, 5),
-        _ => left_as_it_was(w),
+        _ => failed_attempt(w),
     }
 }
 
-pub fn row_9(
+pub fn opcodes_90(
     w: Work,
     span: Clocks,
     memory: &mut [u8],
@@ -690,11 +690,11 @@ pub fn row_9(
             5,
         ),
         0x9F => flow::bbs(w, memory, places::zero_page(memory, pc), 1, 5),
-        _ => left_as_it_was(w),
+        _ => failed_attempt(w),
     }
 }
 
-pub fn row_a(
+pub fn opcodes_a0(
     w: Work,
     span: Clocks,
     memory: &mut [u8],
@@ -738,11 +738,11 @@ pub fn row_a(
         0xAD => reads::lda(w, memory, places::absolute(memory, pc), 4),
         0xAE => reads::ldx(w, memory, places::absolute(memory, pc), 4),
         0xAF => flow::bbs(w, memory, places::zero_page(memory, pc), 2, 5),
-        _ => left_as_it_was(w),
+        _ => failed_attempt(w),
     }
 }
 
-pub fn row_b(
+pub fn opcodes_b0(
     w: Work,
     span: Clocks,
     memory: &mut [u8],
@@ -820,11 +820,11 @@ pub fn row_b(
             4,
         ),
         0xBF => flow::bbs(w, memory, places::zero_page(memory, pc), 3, 5),
-        _ => left_as_it_was(w),
+        _ => failed_attempt(w),
     }
 }
 
-pub fn row_c(
+pub fn opcodes_c0(
     w: Work,
     span: Clocks,
     memory: &mut [u8],
@@ -875,11 +875,11 @@ pub fn row_c(
         0xCD => reads::cmp(w, memory, places::absolute(memory, pc), 4),
         0xCE => stores::dec(w, span, memory, sums, halt, places::absolute(memory, pc), 6),
         0xCF => flow::bbs(w, memory, places::zero_page(memory, pc), 4, 5),
-        _ => left_as_it_was(w),
+        _ => failed_attempt(w),
     }
 }
 
-pub fn row_d(
+pub fn opcodes_d0(
     w: Work,
     span: Clocks,
     memory: &mut [u8],
@@ -950,11 +950,11 @@ pub fn row_d(
             7,
         ),
         0xDF => flow::bbs(w, memory, places::zero_page(memory, pc), 5, 5),
-        _ => left_as_it_was(w),
+        _ => failed_attempt(w),
     }
 }
 
-pub fn row_e(
+pub fn opcodes_e0(
     w: Work,
     span: Clocks,
     memory: &mut [u8],
@@ -1005,11 +1005,11 @@ pub fn row_e(
         0xED => reads::sbc(w, memory, places::absolute(memory, pc), 4),
         0xEE => stores::inc(w, span, memory, sums, halt, places::absolute(memory, pc), 6),
         0xEF => flow::bbs(w, memory, places::zero_page(memory, pc), 6, 5),
-        _ => left_as_it_was(w),
+        _ => failed_attempt(w),
     }
 }
 
-pub fn row_f(
+pub fn opcodes_f0(
     w: Work,
     span: Clocks,
     memory: &mut [u8],
@@ -1080,6 +1080,6 @@ pub fn row_f(
             7,
         ),
         0xFF => flow::bbs(w, memory, places::zero_page(memory, pc), 7, 5),
-        _ => left_as_it_was(w),
+        _ => failed_attempt(w),
     }
 }

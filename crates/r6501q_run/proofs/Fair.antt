@@ -8,12 +8,12 @@ use Rattle.cpu_access.specs.declared.halt.Halt.{Halt}
 use Rattle.refusals.specs.Refusals.{lastClock}
 use Rattle.leaps.specs.Leaps.{trace, leadingQuiet}
 use Rattle.leaps.specs.World.{runningIn}
-use Rattle.leaps.specs.Lists.{Call, runFor, calls, stepOf, plainRunOf}
+use Rattle.leaps.specs.CallLists.{Call, runFor, calls, stepOf, plainRunOf}
 use Rattle.leaps.specs.Calls.{callStart, Room, Fit}
 use Rattle.leaps.proofs.Calls as theory
 use Rattle.r6501q_state.specs.declared.state.State.{State}
 use Rattle.r6501q_gaps.specs.Gaps.{gapOf}
-use Rattle.r6501q_step.specs.R6501q.{World, r6501q, chip, machine}
+use Rattle.r6501q_step.specs.R6501q.{World, r6501q, system, machine}
 use Rattle.r6501q_run.specs.Fair.{Fair}
 use Rattle.r6501q_leap.proofs.Laws.{laws}
 
@@ -39,7 +39,7 @@ single-run halt w = theory.single-run (r6501q halt) (laws halt) w
 
 -- "the gap (clocks before the next event clock, at most those left)", of the clocks that plain clocks do
 pub gap-leading : (halt : Halt) (n : ℕ) (w : World) → Fit (r6501q halt) w → runningIn w ≡ true
-    → gapOf n (w .state) (w .inputClocks) .0 ≡ leadingQuiet (trace (chip halt) n w)
+    → gapOf n (w .state) (w .inputClocks) .0 ≡ leadingQuiet (trace (system halt) n w)
 gap-leading halt n w f on = theory.gap-leading (r6501q halt) (laws halt) n w f on
 
 -- a run of a + b that fits the clock, cut into a and then b over the rest of the lists, ends the same in all but the

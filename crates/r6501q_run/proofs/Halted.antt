@@ -8,12 +8,12 @@ use lib.ListN.{length}
 use borrow.Author.Tests.{eqb-true}
 use Rattle.cpu_access.specs.declared.halt.Halt.{Halt}
 use Rattle.leaps.specs.Leaps.{plains, leapCount}
-use Rattle.leaps.specs.Lists.{Call, singleClock, runFor, countOf, callOf, plainRunOf}
+use Rattle.leaps.specs.CallLists.{Call, singleClock, runFor, countOf, callOf, plainRunOf}
 use Rattle.leaps.specs.Calls.{stopOf, handedBackOf, refusalIn, refusedCall, Room}
 use Rattle.leaps.proofs.Calls as theory
 use Rattle.leaps.proofs.Calls.{refusal-no-stop}
 use Rattle.r6501q_state.specs.State.{wellFormed}
-use Rattle.r6501q_step.specs.R6501q.{World, Handed, r6501qLimits, r6501q, chip, machine}
+use Rattle.r6501q_step.specs.R6501q.{World, Handed, r6501qLimits, r6501q, system, machine}
 use Rattle.r6501q_step.proofs.Halted.{clocksBefore, plains-twelve}
 use Rattle.r6501q_leap.proofs.Laws.{laws}
 use Rattle.r6501q_run.proofs.Fair.{single-run}
@@ -41,7 +41,7 @@ unfolding plainRunOf
 plain-run-twelve halt n w on = by-test (eqb (refusalIn (r6501q halt) n w) 0)
   where
     by-test : (t : Bool)
-        → eqb (cond t (handedBackOf (leapCount (chip halt) n w) (plains (chip halt) n w))
+        → eqb (cond t (handedBackOf (leapCount (system halt) n w) (plains (system halt) n w))
         (refusedCall (r6501q halt) n w) .result .number) 12
         ≡ (t && ltb (clocksBefore halt n w) n)
     by-test true = plains-twelve halt n w on

@@ -9,15 +9,15 @@ use native.Mathlib.Omega.{arith}
 use lib.Dec.{eqb}
 use lib.ListN.{length, take}
 use borrow.Author.Tests.{eq-eqb}
-use Rattle.memory.specs.Memory.{memorySpan}
+use Rattle.memory.specs.Memory.{memoryLength}
 use Rattle.cpu_access.specs.declared.halt.Halt.{Halt}
-use Rattle.pin_lists.specs.PinLists.{pinOf, pinsRight, dueCount}
-use Rattle.pin_lists.proofs.PinLists.{due-within}
+use Rattle.pin_lists.specs.PinLists.{pinOf, pinsRight, inputCount}
+use Rattle.pin_lists.proofs.PinLists.{input-count-within}
 use Rattle.refusals.specs.Refusals.{lastClock}
 use Rattle.refusals.proofs.Accepted.{accepted}
 use Rattle.leaps.specs.Leaps.{eventsIn, quietEnd, plains, trace, leapCount}
 use Rattle.leaps.specs.World.{eventIn}
-use Rattle.leaps.specs.Lists.{runOf, plainRunOf}
+use Rattle.leaps.specs.CallLists.{runOf, plainRunOf}
 use Rattle.leaps.specs.Calls.{callStart, handedBackOf, refusalIn, Room, Fit}
 use Rattle.leaps.proofs.Laws.{trace-done}
 use Rattle.leaps.proofs.Parts.{wholeOf, plains-whole, trace-whole}
@@ -26,7 +26,7 @@ use Rattle.r6501q_state.specs.State.{fresh, wellFormed}
 use Rattle.r6501q_state.specs.Inputs.{lastPin}
 use Rattle.r6501q_state.proofs.Ranges.{fresh-formed}
 use Rattle.cpu_access.specs.Waiting.{byteWaits}
-use Rattle.r6501q_step.specs.R6501q.{World, Handed, r6501qLimits, r6501q, plain, chip, machine}
+use Rattle.r6501q_step.specs.R6501q.{World, Handed, r6501qLimits, r6501q, plain, system, machine}
 use Rattle.r6501q_step.proofs.Held.{heldState, heldLeaps, held-clocks, held-leaps}
 use Rattle.r6501q_step.proofs.ReleaseLists.{belowRes}
 use Rattle.r6501q_step.proofs.Released.{releasedStart, oldStart, oneMoreRead, first-plain, first-event, start-done}
@@ -39,13 +39,13 @@ start-room w none = record { outputClocks = omega (arith, none); outputWords = o
 
 -- what a call that is not refused hands back, by plain clocks
 accepted-run : (halt : Halt) (n : ℕ) (w : World) → w .written ≡ 0 → eqb (refusalIn (r6501q halt) n w) 0 ≡ true
-    → runOf (machine halt) n w ≡ handedBackOf (leapCount (chip halt) n w) (plains (chip halt) n w)
+    → runOf (machine halt) n w ≡ handedBackOf (leapCount (system halt) n w) (plains (system halt) n w)
 unfolding plainRunOf
 accepted-run halt n w none e = theory.runs-plainly (r6501q halt) (laws halt) n w (start-room w none) ∙ rw e
 
 -- ---- "A fresh chip with no inputs"
 
-fresh-fits : (halt : Halt) (memory times words : List ℕ) → length memory ≡ memorySpan → length times ≡ length words
+fresh-fits : (halt : Halt) (memory times words : List ℕ) → length memory ≡ memoryLength → length times ≡ length words
     → Fit (r6501q halt) (callStart fresh memory [] [] times words)
 unfolding fresh pinsRight
 fresh-fits halt memory times words whole equal =
@@ -57,7 +57,7 @@ fresh-clock = refl
 
 -- "stays without a CPU start for any n that fits the clock, its counters still counting, and leaping agrees there too":
 -- the run by leaps, for any memory, halt address and output space
-pub held-run : (halt : Halt) (n : ℕ) (memory times words : List ℕ) → n ≤ lastClock → length memory ≡ memorySpan
+pub held-run : (halt : Halt) (n : ℕ) (memory times words : List ℕ) → n ≤ lastClock → length memory ≡ memoryLength
     → length times ≡ length words
     → runOf (machine halt) n (callStart fresh memory [] [] times words)
     ≡ record {
@@ -108,26 +108,31 @@ whole-one : (v : World) → wholeOf oneRead v ≡ oneMoreRead v
 whole-one v = let read : 1 + v .read ≡ v .read + 1 = omega arith in rw (read, zero-add (v .written))
 
 module _ (halt : Halt) where
-  plains-more : (n : ℕ) (v : World) → plains (chip halt) n (oneMoreRead v) ≡ oneMoreRead (plains (chip halt) n v)
+  plains-more : (n : ℕ) (v : World) → plains (system halt) n (oneMoreRead v) ≡ oneMoreRead (plains (system halt) n v)
   plains-more n v =
-      ap (plains (chip halt) n) (sym (whole-one v)) ∙ plains-whole (r6501q halt) n oneRead v (start-room oneRead refl)
-      ∙ whole-one (plains (chip halt) n v)
+      ap (plains (system halt) n) (sym (whole-one v)) ∙ plains-whole (r6501q halt) n oneRead v (start-room oneRead refl)
+      ∙ whole-one (plains (system halt) n v)
 
-  trace-more : (n : ℕ) (v : World) → trace (chip halt) n (oneMoreRead v) ≡ trace (chip halt) n v
+  trace-more : (n : ℕ) (v : World) → trace (system halt) n (oneMoreRead v) ≡ trace (system halt) n v
   trace-more n v =
-      ap (trace (chip halt) n) (sym (whole-one v))
+      ap (trace (system halt) n) (sym (whole-one v))
       ∙ trace-whole (r6501q halt) (laws halt) n oneRead v (start-room oneRead refl)
 
   -- two starts whose first clocks are done and are both event clocks or neither
-  count-same : (n : ℕ) (w v : World) → chip halt .done w ≡ true → chip halt .done v ≡ true
-      → chip halt .event w ≡ chip halt .event v
-      → trace (chip halt) n (plain halt w) ≡ trace (chip halt) n (plain halt v)
-      → leapCount (chip halt) (suc n) w ≡ leapCount (chip halt) (suc n) v
+  count-same : (n : ℕ) (w v : World) → system halt .done w ≡ true → system halt .done v ≡ true
+      → system halt .event w ≡ system halt .event v
+      → trace (system halt) n (plain halt w) ≡ trace (system halt) n (plain halt v)
+      → leapCount (system halt) (suc n) w ≡ leapCount (system halt) (suc n) v
   unfolding leapCount
   count-same n w v done done' event later =
-      rw (trace-done (chip halt) (lawful halt) n w done, trace-done (chip halt) (lawful halt) n v done', event, later)
+      rw (
+        trace-done (system halt) (lawful halt) n w done,
+        trace-done (system halt) (lawful halt) n v done',
+        event,
+        later,
+      )
 
-  module _ (memory clocks codes times words : List ℕ) (below : belowRes (take (dueCount 1 clocks) codes) ≡ true) where
+  module _ (memory clocks codes times words : List ℕ) (below : belowRes (take (inputCount 1 clocks) codes) ≡ true) where
     abbrev start : World
     start = releasedStart memory clocks codes times words
 
@@ -135,20 +140,20 @@ module _ (halt : Halt) where
     old = oldStart memory clocks codes times words
 
     -- the clocks that are done
-    pub released-plains : (n : ℕ) → dueCount 1 clocks ≤ length codes
-        → plains (chip halt) (suc n) start ≡ oneMoreRead (plains (chip halt) (suc n) old)
+    pub released-plains : (n : ℕ) → inputCount 1 clocks ≤ length codes
+        → plains (system halt) (suc n) start ≡ oneMoreRead (plains (system halt) (suc n) old)
     unfolding plains
     released-plains n within =
-        ap (plains (chip halt) n) (first-plain halt memory clocks codes times words below within)
+        ap (plains (system halt) n) (first-plain halt memory clocks codes times words below within)
         ∙ plains-more n (plain halt old)
 
-    released-count : (n : ℕ) → dueCount 1 clocks ≤ length codes
-        → leapCount (chip halt) (suc n) start ≡ leapCount (chip halt) (suc n) old
+    released-count : (n : ℕ) → inputCount 1 clocks ≤ length codes
+        → leapCount (system halt) (suc n) start ≡ leapCount (system halt) (suc n) old
     released-count n within =
         count-same n start old (start-done halt memory clocks codes times words below within)
         (old-done halt memory clocks codes times words)
         (first-event halt memory clocks codes times words below within)
-        (ap (trace (chip halt) n) (first-plain halt memory clocks codes times words below within)
+        (ap (trace (system halt) n) (first-plain halt memory clocks codes times words below within)
         ∙ trace-more n (plain halt old))
 
     -- "their output must be what it was, but for the one input more that is read": for every n above 0, memory, halt
@@ -159,7 +164,7 @@ module _ (halt : Halt) where
         let same = refusal-same halt (suc n) memory clocks codes times words below in
         let equal =
         accepted r6501qLimits _ _ (length memory) clocks codes (length times) (length words) (suc n) none .inputs in
-        let within : dueCount 1 clocks ≤ length codes = omega (arith, equal, due-within 1 clocks) in
+        let within : inputCount 1 clocks ≤ length codes = omega (arith, equal, input-count-within 1 clocks) in
         rw (
           accepted-run halt (suc n) start refl (eq-eqb (refusalIn (r6501q halt) (suc n) start) 0 (same ∙ none)),
           accepted-run halt (suc n) old refl (eq-eqb (refusalIn (r6501q halt) (suc n) old) 0 none),
@@ -176,7 +181,7 @@ module _ (halt : Halt) where
 
   -- a list that sets RES on clock 1 itself: in all what it was
   module _ (memory clocks codes times words front : List ℕ) (code : ℕ)
-      (given : take (dueCount 1 clocks) codes ≡ front ++ (code ∷ []))
+      (given : take (inputCount 1 clocks) codes ≡ front ++ (code ∷ []))
       (below : belowRes front ≡ true) (res : pinOf code ≡ lastPin) where
     abbrev givenStart : World
     givenStart = callStart fresh memory clocks codes times words
@@ -197,8 +202,8 @@ module _ (halt : Halt) where
         count-same n givenStart givenOld (given-done halt memory clocks codes times words front code given below res)
         (old-done halt memory clocks codes times words)
         (given-event halt memory clocks codes times words front code given below res)
-        (ap (trace (chip halt) n) first) in
+        (ap (trace (system halt) n) first) in
         accepted-run halt (suc n) givenStart refl
         (eq-eqb (refusalIn (r6501q halt) (suc n) givenStart) 0 (refused-alike (suc n) ∙ none))
-        ∙ ap₂ (λ (leaps : ℕ) (w : World). handedBackOf leaps w) count (ap (plains (chip halt) n) first)
+        ∙ ap₂ (λ (leaps : ℕ) (w : World). handedBackOf leaps w) count (ap (plains (system halt) n) first)
         ∙ sym (accepted-run halt (suc n) givenOld refl (eq-eqb (refusalIn (r6501q halt) (suc n) givenOld) 0 none))

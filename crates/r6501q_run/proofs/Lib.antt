@@ -2,6 +2,6 @@ pub mod Rests
 pub mod Fair
 pub mod Halted
 pub mod Held
-pub mod LowMemory
+pub mod Untouched
 pub mod Shifted
 pub mod Summed

@@ -13,15 +13,15 @@ use Rattle.cpu_access.specs.declared.halt.Halt.{Halt}
 use Rattle.refusals.specs.Refusals.{lastClock}
 use Rattle.leaps.specs.Leaps.{Run, leapOf, leftAfter, run}
 use Rattle.leaps.specs.Chip.{ChipRules, ClockOutcome, stopped, ended}
-use Rattle.leaps.specs.World.{WorldOf, after, dueIn, outcomeIn, plainOf, runningIn, systemOf}
-use Rattle.leaps.proofs.Along.{Unseen, run-along}
+use Rattle.leaps.specs.World.{WorldOf, after, inputCountIn, outcomeIn, plainOf, runningIn, systemOf}
+use Rattle.leaps.proofs.Along.{Unaffected, run-along}
 use Rattle.r6501q_gaps.specs.Gaps.{clocksOf}
-use Rattle.r6501q_step.specs.R6501q.{World, r6501q, chip}
+use Rattle.r6501q_step.specs.R6501q.{World, r6501q, system}
 use Rattle.r6501q_step.specs.World.{worldOf}
 use Rattle.r6501q_step.specs.Calls.{leapsFrom}
 use Rattle.r6501q_step.proofs.Worlds.{lent-part}
 use Rattle.r6501q_leap.specs.declared.Leaped.{Leaped}
-use Rattle.r6501q_leap.specs.Leap.{goesOn, runFrom, runEnded, Leaping}
+use Rattle.r6501q_leap.specs.RunInCode.{goesOn, runFrom, runEnded, Leaping}
 use Rattle.r6501q_span_leaps.specs.Spanned.{Spanned}
 use Rattle.r6501q_leap.proofs.Runs.{goes-some, goes-unstopped, later-run, later-leaping, later-bound, run-ended}
 use Rattle.r6501q_span_leaps.proofs.Spanned.{run-later, leaping-later}
@@ -46,19 +46,19 @@ module _ {S : Type 0} (k : ℕ) where
 
   -- no clock, gap or count sees how many
   module _ (C : ChipRules S) where
-    after-read : (w : WorldOf S) (due : ℕ) (o : ClockOutcome S)
-        → readBefore (after C w due o) ≡ after C (readBefore w) due o
-    after-read w due (stopped number) = refl
-    after-read w due (ended d) = rw (add-assoc k (w .read) due)
+    after-read : (w : WorldOf S) (inputs : ℕ) (o : ClockOutcome S)
+        → readBefore (after C w inputs o) ≡ after C (readBefore w) inputs o
+    after-read w inputs (stopped number) = refl
+    after-read w inputs (ended d) = rw (add-assoc k (w .read) inputs)
 
     plain-read : (w : WorldOf S) → plainOf C (readBefore w) ≡ readBefore (plainOf C w)
     unfolding plainOf
     plain-read w =
-        sym (cond-along readBefore (runningIn w) (after C w (dueIn C w) (outcomeIn C w (dueIn C w))) w
-        (after-read w (dueIn C w) (outcomeIn C w (dueIn C w))) refl)
+        sym (cond-along readBefore (runningIn w) (after C w (inputCountIn C w) (outcomeIn C w (inputCountIn C w))) w
+        (after-read w (inputCountIn C w) (outcomeIn C w (inputCountIn C w))) refl)
 
-    pub read-unseen : Unseen (systemOf C) readBefore
-    read-unseen = record {
+    pub read-unaffected : Unaffected (systemOf C) readBefore
+    read-unaffected = record {
       plain = plain-read;
       pass = λ g w. refl;
       gap = λ n w. refl;
@@ -104,8 +104,8 @@ rest-run halt l memory clocks codes times words =
     let before : World = worldOf (l .progress) memory clocks codes times words in
     let same : before ≡ readBefore k rest = rw (add-zero k) in
     ap {B = Run World} (λ (r : Run World). record { world = r .world; leaps = l .leaps + r .leaps })
-    (ap (run (chip halt) (l .left .0)) same
-    ∙ run-along (chip halt) (readBefore k) (read-unseen k (r6501q halt)) (l .left .0) rest)
+    (ap (run (system halt) (l .left .0)) same
+    ∙ run-along (system halt) (readBefore k) (read-unaffected k (r6501q halt)) (l .left .0) rest)
 
 -- what the loop keeps: the run of what is left, over the rests of the lists, is that of the start
 module _ (halt : Halt) (start : Leaped) (memory₀ inputClocks inputCodes times₀ words₀ : List ℕ) where
@@ -113,7 +113,7 @@ module _ (halt : Halt) (start : Leaped) (memory₀ inputClocks inputCodes times�
   abbrev pub readTo : List ℕ → ℕ
   readTo clocks = length inputClocks - length clocks
 
-  pub record Running (memory times words : List ℕ) (at : Leaped) (clocks codes : List ℕ) : Type 0 where
+  pub record RunSoFar (memory times words : List ℕ) (at : Leaped) (clocks codes : List ℕ) : Type 0 where
     pub run : runBefore (readTo clocks) (runFrom halt at memory clocks codes times words)
         ≡ runFrom halt start memory₀ inputClocks inputCodes times₀ words₀
     pub clocks-rest : clocks ≡ drop (readTo clocks) inputClocks
@@ -125,9 +125,9 @@ module _ (halt : Halt) (start : Leaped) (memory₀ inputClocks inputCodes times�
     pub times-kept : length times ≡ length times₀
     pub words-kept : length words ≡ length words₀
 
-  pub running-begins : Leaping (start .progress) (start .left .0) inputClocks inputCodes times₀ words₀
-      → start .leaps + start .left .0 ≤ lastClock → Running memory₀ times₀ words₀ start inputClocks inputCodes
-  running-begins l b =
+  pub run-so-far-begins : Leaping (start .progress) (start .left .0) inputClocks inputCodes times₀ words₀
+      → start .leaps + start .left .0 ≤ lastClock → RunSoFar memory₀ times₀ words₀ start inputClocks inputCodes
+  run-so-far-begins l b =
       let none : readTo inputClocks ≡ 0 = omega arith in
       record {
         run = rw (none, zero-add);
@@ -142,13 +142,13 @@ module _ (halt : Halt) (start : Leaped) (memory₀ inputClocks inputCodes times�
       }
 
   module _ {memory times words : List ℕ} {at : Leaped} {clocks codes : List ℕ}
-      (k : Running memory times words at clocks codes) where
+      (k : RunSoFar memory times words at clocks codes) where
     -- one leap
     module _ {memory' times' words' : List ℕ} (r : Leaped) (on : goesOn at ≡ true)
         (e : worldOf (r .progress) memory' clocks codes times' words'
-        ≡ leapOf (chip halt) (at .left .0) (worldOf (at .progress) memory clocks codes times words))
+        ≡ leapOf (system halt) (at .left .0) (worldOf (at .progress) memory clocks codes times words))
         (left : r .left
-        ≡ clocksOf (leftAfter (chip halt) (at .left .0) (worldOf (at .progress) memory clocks codes times words)))
+        ≡ clocksOf (leftAfter (system halt) (at .left .0) (worldOf (at .progress) memory clocks codes times words)))
         (leaps : r .leaps ≡ at .leaps + leapsFrom (at .progress .state .clock) (r .progress .state .clock)) where
       fits : (r .leaps + r .left .0 ≤ lastClock) × (r .left .0 < at .left .0)
       fits =
@@ -159,7 +159,7 @@ module _ (halt : Halt) (start : Leaped) (memory₀ inputClocks inputCodes times�
       leapt-fewer = fits .1
 
       pub leapt : length memory' ≡ length memory → length times' ≡ length times → length words' ≡ length words
-          → Running memory' times' words' r clocks codes
+          → RunSoFar memory' times' words' r clocks codes
       leapt m t w = record {
         run =
             ap (runBefore (readTo clocks))
@@ -179,7 +179,7 @@ module _ (halt : Halt) (start : Leaped) (memory₀ inputClocks inputCodes times�
 
     -- the leaps of a span
     pub spanned : {memory' : List ℕ} {r : Leaped} → Spanned halt at memory r memory' clocks
-        → length memory' ≡ length memory → Running memory' times words r clocks codes
+        → length memory' ≡ length memory → RunSoFar memory' times words r clocks codes
     spanned {memory'} {r} z m = record {
       run = ap (runBefore (readTo clocks)) (run-later halt at r memory memory' clocks codes times words z) ∙ k .run;
       clocks-rest = k .clocks-rest;
@@ -206,7 +206,7 @@ module _ (halt : Halt) (start : Leaped) (memory₀ inputClocks inputCodes times�
     codes-then = ap (drop from) (k .codes-rest) ∙ drop-drop from (readTo clocks) inputCodes
 
     -- they are taken from the front of both lists
-    pub handed-on : Running memory times words (unread at) (take (length clocks - from) (drop from clocks))
+    pub handed-on : RunSoFar memory times words (unread at) (take (length clocks - from) (drop from clocks))
         (take (length codes - from) (drop from codes))
     handed-on =
         let fewer = length-drop from clocks in

@@ -5,11 +5,11 @@ use mathlib.Core.List.{List}
 use Prim.Native.Nat.{ℕ}
 use Rattle.cpu_access.specs.declared.halt.Halt.{Halt}
 use Rattle.leaps.specs.Leaps.{plains, leapCount}
-use Rattle.leaps.specs.Lists.{Call, runOf, calls}
+use Rattle.leaps.specs.CallLists.{Call, runOf, calls}
 use Rattle.leaps.specs.Calls.{Room, refusalIn, handedBackOf}
 use Rattle.leaps.specs.Shifted.{ShiftedWorld, ShiftedHanded, ShiftedListed, clocksFit}
 use Rattle.leaps.proofs.ShiftedCalls as theory
-use Rattle.r6501q_step.specs.R6501q.{World, r6501q, chip, machine}
+use Rattle.r6501q_step.specs.R6501q.{World, r6501q, system, machine}
 use Rattle.r6501q_step.specs.Shifted.{shiftedState}
 use Rattle.r6501q_step.proofs.Shifted.{shift-laws}
 use Rattle.r6501q_leap.proofs.Laws.{laws}
@@ -25,5 +25,5 @@ module _ (halt : Halt) (k : ℕ) (w v : World) (r : ShiftedWorld shiftedState k 
   -- 01's leaps, wherever that clock is: past the last one too, where a call is refused.
   pub run-past-last : (n : ℕ) → refusalIn (r6501q halt) n w ≡ 0
       → ShiftedHanded shiftedState k (runOf (machine halt) n w)
-      (handedBackOf (leapCount (chip halt) n v) (plains (chip halt) n v))
+      (handedBackOf (leapCount (system halt) n v) (plains (system halt) n v))
   run-past-last = theory.run-past-shifted (r6501q halt) shiftedState (shift-laws halt) k (laws halt) w v r room

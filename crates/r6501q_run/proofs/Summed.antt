@@ -4,16 +4,16 @@ use mathlib.Core.List.{List, _∷_, map}
 use Prim.Native.Nat.{ℕ, _+_, _%_, _<_}
 use native.Mathlib.Omega.{arith}
 use lib.ListN.{length}
-use Rattle.memory.specs.Memory.{memorySpan}
-use Rattle.page_sums.specs.PageSums.{pageCount, sumSpan, sumAt, pageSum, sumsAfter, SixteenBits, Right}
+use Rattle.memory.specs.Memory.{memoryLength}
+use Rattle.page_sums.specs.PageSums.{pageCount, sumModulus, sumAt, pageSum, sumsAfter, SixteenBits, Right}
 use Rattle.cpu_access.specs.declared.halt.Halt.{Halt}
 use Rattle.leaps.specs.Leaps.{plains}
-use Rattle.leaps.specs.Lists.{Call, callOf, listed, calls, clocksAccepted, resultsBy}
+use Rattle.leaps.specs.CallLists.{Call, callOf, listed, calls, clocksAccepted, resultsBy}
 use Rattle.leaps.specs.Calls.{callStart, refusedWith, Room}
 use Rattle.leaps.specs.Summed.{ListedSums, listedSums, callsWithSums}
 use Rattle.leaps.proofs.Summed as theory
 use Rattle.r6501q_state.specs.declared.state.State.{State}
-use Rattle.r6501q_step.specs.R6501q.{World, r6501q, chip, machine}
+use Rattle.r6501q_step.specs.R6501q.{World, r6501q, system, machine}
 use Rattle.r6501q_leap.proofs.Laws.{laws}
 
 module _ (halt : Halt) (cs : List Call) (sums : List ℕ) (w : World) where
@@ -25,7 +25,7 @@ module _ (halt : Halt) (cs : List Call) (sums : List ℕ) (w : World) where
   abbrev pub FairWithSums : Type 0
   FairWithSums =
       end
-      ≡ (let v = plains (chip halt) (clocksAccepted (machine halt) cs w) w in
+      ≡ (let v = plains (system halt) (clocksAccepted (machine halt) cs w) w in
       listedSums (record { world = v; results = resultsBy (machine halt) cs w })
       (sumsAfter sums (w .memory) (v .memory)))
 
@@ -41,9 +41,9 @@ module _ (halt : Halt) (cs : List Call) (sums : List ℕ) (w : World) where
 
   -- "changes each sum, right or wrong before, by exactly what its page's bytes change, modulo 65,536", over the list
   pub exactly-changed : length sums ≡ pageCount → SixteenBits sums → (p : ℕ) → p < pageCount
-      → (sumAt (end .sums) p < sumSpan)
-      × ((sumAt (end .sums) p + pageSum p (w .memory)) % sumSpan
-      ≡ (sumAt sums p + pageSum p (end .list .world .memory)) % sumSpan)
+      → (sumAt (end .sums) p < sumModulus)
+      × ((sumAt (end .sums) p + pageSum p (w .memory)) % sumModulus
+      ≡ (sumAt sums p + pageSum p (end .list .world .memory)) % sumModulus)
   exactly-changed n words p h = theory.calls-exactly (r6501q halt) cs sums w n words p h
 
   -- right before, right after
@@ -52,20 +52,20 @@ module _ (halt : Halt) (cs : List Call) (sums : List ℕ) (w : World) where
   right-after n words right = theory.calls-right-after (r6501q halt) cs sums w n words right
 
   -- with another number of sums each call is refused by 13, which is no stop, and hands on
-  pub thirteen-hands-on : length (w .memory) ≡ memorySpan → (length sums ≡ pageCount → ⊥) → SixteenBits sums
+  pub thirteen-hands-on : length (w .memory) ≡ memoryLength → (length sums ≡ pageCount → ⊥) → SixteenBits sums
       → w .stop ≡ 0
       → end ≡ listedSums (record { world = w; results = map (λ (c : Call). refusedWith 13 (w .state)) cs }) sums
   thirteen-hands-on m n words on = theory.calls-refused (callOf (machine halt)) sums w m n words on cs
 
   -- one such call before any list of calls: it is refused, and the list goes on from the same world, with the same sums
-  pub thirteen-next : length (w .memory) ≡ memorySpan → (length sums ≡ pageCount → ⊥) → SixteenBits sums → w .stop ≡ 0
+  pub thirteen-next : length (w .memory) ≡ memoryLength → (length sums ≡ pageCount → ⊥) → SixteenBits sums → w .stop ≡ 0
       → (c : Call)
       → callsWithSums (callOf (machine halt)) (c ∷ cs) sums w
       ≡ listedSums (listed (refusedWith 13 (w .state)) (end .list)) (end .sums)
   thirteen-next m n words on c = theory.thirteen-next (callOf (machine halt)) sums w m n words on c cs
 
   -- with a memory of another length it is 1, whatever the page list
-  pub one-hands-on : (length (w .memory) ≡ memorySpan → ⊥) → SixteenBits sums → w .stop ≡ 0
+  pub one-hands-on : (length (w .memory) ≡ memoryLength → ⊥) → SixteenBits sums → w .stop ≡ 0
       → end ≡ listedSums (record { world = w; results = map (λ (c : Call). refusedWith 1 (w .state)) cs }) sums
   one-hands-on m words on = theory.memory-hands-on (r6501q halt) refl cs sums w m words on
 

@@ -2,13 +2,13 @@
 ghost use mathlib.Core.Path.{_≡_};
 ghost use Prim.Native.Nat.{_+_, _≤_};
 ghost use Rattle.page_sums.specs.PageSums.{sumsAfter};
-ghost use Rattle.leaps.specs.Lists.{runOf, plainRunOf};
+ghost use Rattle.leaps.specs.CallLists.{runOf, plainRunOf};
 ghost use Rattle.leaps.specs.Lent.{atEntry};
 ghost use Rattle.leaps.specs.Summed.{withSums};
-ghost use Rattle.cpu_opcodes.specs.Table.{opcodeTable};
+ghost use Rattle.cpu_opcodes.specs.TableInCode.{opcodeTable};
 ghost use Rattle.r6501q_step.specs.R6501q.{machine};
 ghost use Rattle.r6501q_step.specs.Calls.{atExit};
-ghost use Rattle.r6501q_leap.specs.Leap.{goesOn, runFrom, runEnded, beginRun, Leaping};
+ghost use Rattle.r6501q_leap.specs.RunInCode.{goesOn, runFrom, runEnded, beginRun, Leaping};
 use counters::time::Clocks;
 use cpu_access::halt::Halt;
 use page_sums::WRONG_PAGE_LIST;

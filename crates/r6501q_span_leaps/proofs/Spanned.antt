@@ -24,7 +24,7 @@ use Rattle.leaps.proofs.Laws.{by-leaps-run}
 use Rattle.r6501q_state.specs.declared.state.State.{State}
 use Rattle.r6501q_clock.specs.declared.Clocked.the-variants.{Done}
 use Rattle.r6501q_clock.specs.Commit.{putWrite, committed}
-use Rattle.r6501q_step.specs.R6501q.{chip}
+use Rattle.r6501q_step.specs.R6501q.{system}
 use Rattle.r6501q_step.specs.World.{worldOf}
 use Rattle.r6501q_spans.specs.Spans.{noneWaiting, continuedBy, committedBy, workBy, memoryBy}
 use Rattle.cpu_access.specs.Halt.{endsSpan}
@@ -35,7 +35,7 @@ use Rattle.r6501q_spans.specs.declared.Working.{Working}
 use Rattle.cpu_access.proofs.Ends.{no-writes-end}
 use Rattle.r6501q_spans.proofs.Ticked.{byteWaiting}
 use Rattle.r6501q_leap.specs.declared.Leaped.{Leaped}
-use Rattle.r6501q_leap.specs.Leap.{runFrom, Leaping}
+use Rattle.r6501q_leap.specs.RunInCode.{runFrom, Leaping}
 use Rattle.r6501q_span_leaps.specs.Spanned.{Spanned}
 use Rattle.r6501q_leap.proofs.Laws.{lawful}
 
@@ -146,9 +146,9 @@ module _ (halt : Halt) (at r : Leaped) (memory memory' clocks codes times words 
       let w = worldOf (at .progress) memory clocks codes times words in
       let v = worldOf (r .progress) memory' clocks codes times words in
       rw (
-        by-leaps-run (chip halt) (lawful halt) (z .byLeaps codes times words),
+        by-leaps-run (system halt) (lawful halt) (z .byLeaps codes times words),
         z .leaps,
-        add-assoc (at .leaps) (z .made) (run (chip halt) (r .left .0) v .leaps),
+        add-assoc (at .leaps) (z .made) (run (system halt) (r .left .0) v .leaps),
       )
 
   pub leaping-later : Leaping (at .progress) (at .left .0) clocks codes times words

@@ -9,8 +9,8 @@ use native.Mathlib.Omega.{arith}
 use lib.Dec.{ltb}
 use lib.ListN.{length, drop}
 use borrow.Author.Tests.{ltb-true, ltb-false, lt-ltb, le-ltb, eq-eqb, ne-eqb}
-use Rattle.bits.specs.Bits.{digit}
-use Rattle.bits.proofs.Cond.{cond-both, digit-le}
+use Rattle.bits.specs.Bits.{oneWhere}
+use Rattle.bits.proofs.Cond.{cond-both, one-where-le}
 use Rattle.cpu_effects.specs.declared.Writing.the-variants.{Nothing, Stored}
 use Rattle.cpu_effects.specs.Effects.{pushesOf, waitingOf}
 use Rattle.cpu_access.specs.declared.halt.Halt.{Halt}
@@ -22,14 +22,14 @@ use Rattle.cpu_access.specs.Stack.{oneWrite, noWrites}
 use Rattle.cpu_effects.specs.declared.Worked.{Worked}
 use Rattle.cpu.specs.declared.Outcome.the-variants as outcome
 use Rattle.cpu.specs.declared.work.Work.{Work}
-use Rattle.cpu.specs.Instruction.{instructionOf}
+use Rattle.cpu.specs.InstructionInCode.{instructionOf}
 use Rattle.cpu.specs.Work.{WithinSpan, nextWork}
 use Rattle.leaps.specs.Leaps.{System, leapOf, leftAfter, ByLeaps, no-leap, one-more}
 use Rattle.leaps.specs.World.{passIn, putRecord, doneIn, plainOf}
 use Rattle.r6501q_state.specs.declared.state.Peripherals.{Peripherals}
 use Rattle.r6501q_state.specs.declared.state.State.{State}
 use Rattle.r6501q_state.specs.Pins.{drivenWord}
-use Rattle.r6501q_gaps.specs.Gaps.{clocksOf, runningA, untilCpu, gapOf, passOf}
+use Rattle.r6501q_gaps.specs.Gaps.{clocksOf, countingA, untilCpu, gapOf, passOf}
 use Rattle.r6501q_clock.specs.declared.Clocked.the-variants.{Done}
 use Rattle.r6501q_clock.specs.Clock.{endedWith, clockOf}
 use Rattle.r6501q_clock.specs.Commit.{committed}
@@ -38,7 +38,7 @@ use Rattle.r6501q_unseen.specs.Unseen.{peripheralsClocks, ticksNext, ticksIn, U
 use Rattle.r6501q_unseen.proofs.TickClocks.{on-tick, peripherals-add, ticks-add}
 use Rattle.r6501q_unseen.proofs.Laws.{ticks-one, first-tick, ticks-most}
 use Rattle.r6501q_step.specs.declared.Progress.{Progress}
-use Rattle.r6501q_step.specs.R6501q.{World, r6501q, chip}
+use Rattle.r6501q_step.specs.R6501q.{World, r6501q, system}
 use Rattle.r6501q_step.specs.World.{worldOf}
 use Rattle.r6501q_spans.specs.Spans.{beginWork, noneWaiting, nextWorking, workAfter}
 use Rattle.cpu_access.specs.Halt.{endsSpan}
@@ -49,7 +49,7 @@ use Rattle.r6501q_spans.specs.Ticked.{AloneSeen, tickedState}
 use Rattle.r6501q_spans.specs.declared.Working.{Working}
 use Rattle.cpu_access.proofs.Ends.{ends-neither}
 use Rattle.r6501q_span_reads.proofs.Steady.{within-done}
-use Rattle.r6501q_spans.proofs.Ticked.{waited, byteWaiting, ticked-left-b, ticked-due, ticked-clock}
+use Rattle.r6501q_spans.proofs.Ticked.{waited, byteWaiting, ticked-left-b, ticked-no-input, ticked-clock}
 use Rattle.r6501q_spans.proofs.Ticked.{ticked-waits, tick-gap, cpu-gap, ticked-passed, ticked-none, until-start}
 use Rattle.r6501q_spans.proofs.Ticked.{instruction-there, until-put, byte-there}
 use Rattle.r6501q_leap.specs.declared.Leaped.{Leaped}
@@ -81,7 +81,7 @@ unfolding sharedIn
 shares-none t v r h = rw (le-ltb (v .work .gone .0) (r .work .gone .0) h)
 
 pub shares-one : (t : Ticking) (v r : Working) → v .work .gone .0 < r .work .gone .0
-    → sharedIn t v r ≡ digit (onTick t (r .work .gone .0))
+    → sharedIn t v r ≡ oneWhere (onTick t (r .work .gone .0))
 unfolding sharedIn
 shares-one t v r h = rw (lt-ltb (v .work .gone .0) (r .work .gone .0) h)
 
@@ -111,7 +111,7 @@ module _ (halt : Halt) (at : Leaped) (clocks : List ℕ) (span : ℕ) (on : at .
   -- `at` with the span's clocks gone so far is reached by so many whole leaps
   abbrev Reached : ℕ → List ℕ → Working → List ℕ → Type 0
   Reached made memory₀ v memory = (codes times words : List ℕ)
-      → ByLeaps (chip halt) (at .left .0) (worldOf (at .progress) memory₀ clocks codes times words)
+      → ByLeaps (system halt) (at .left .0) (worldOf (at .progress) memory₀ clocks codes times words)
       made (at .left .0 - v .work .gone .0) (worldAt v memory codes times words)
 
   -- one leap more: a gap of e clocks, and the event clock after them, which comes to `next`
@@ -136,7 +136,7 @@ module _ (halt : Halt) (at : Leaped) (clocks : List ℕ) (span : ℕ) (on : at .
           rw (
             on,
             passed,
-            ticked-due (at .left .0) s rest span a (waited v e) inside,
+            ticked-no-input (at .left .0) s rest span a (waited v e) inside,
             acts (ltb (at .progress .written) (length times)),
             add-zero (at .progress .read),
             add-zero (at .progress .written),
@@ -149,16 +149,16 @@ module _ (halt : Halt) (at : Leaped) (clocks : List ℕ) (span : ℕ) (on : at .
           rw (
             on,
             passed,
-            ticked-due (at .left .0) s rest span a (waited v e) inside,
+            ticked-no-input (at .left .0) s rest span a (waited v e) inside,
             acts (ltb (at .progress .written) (length times)),
           )
 
-      event-leap : leapOf (chip halt) n before ≡ worldAt next (committed memory writes) codes times words
+      event-leap : leapOf (system halt) n before ≡ worldAt next (committed memory writes) codes times words
       event-leap =
           sym (leap-reaches halt n before (clocksOf e) (ap clocksOf (sym gap-there)) (omega (arith, a .left)))
           ∙ event-plain
 
-      event-left : leftAfter (chip halt) n before ≡ at .left .0 - next .work .gone .0
+      event-left : leftAfter (system halt) n before ≡ at .left .0 - next .work .gone .0
       event-left = omega (arith, gap-there, gone)
 
     reached-more : (made : ℕ) (memory₀ : List ℕ) → Reached made memory₀ v memory
@@ -170,19 +170,19 @@ module _ (halt : Halt) (at : Leaped) (clocks : List ℕ) (span : ℕ) (on : at .
 
   -- a tick on a clock on which the CPU does not act: nothing is written
   reached-tick : (v : Working) (d : ℕ) → untilCpu (tickedState s v .cpu) ≡ d → v .work .gone .0 + d < span
-      → runningA (tickedState s v .peripherals .control) (s .last .ports) ≡ true
+      → countingA (tickedState s v .peripherals .control) (s .last .ports) ≡ true
       → tickedState s v .peripherals .countera .count < d
       → (made : ℕ) (memory₀ memory : List ℕ) → Reached made memory₀ v memory
       → Reached (made + 1) memory₀ (waited (waited v (tickedState s v .peripherals .countera .count)) 1) memory
   unfolding pushesOf
-  reached-tick v d until inside runs early made memory₀ memory so-far =
+  reached-tick v d until inside counts early made memory₀ memory so-far =
       let n = at .left .0 in
       let e = tickedState s v .peripherals .countera .count in
       let u = waited v e in
       let later : 0 < untilCpu (tickedState s u .cpu) = omega (arith, until-later s v e d until) in
       let waits = ticked-waits n s rest span a u (omega arith) memory later in
       rw (same-memory memory Nothing refl) at
-      (reached-more v e (omega arith) (tick-gap n s rest span a v d until inside runs early)
+      (reached-more v e (omega arith) (tick-gap n s rest span a v d until inside counts early)
       (ticked-passed n s rest span a v d until inside e (omega arith) (λ _. omega arith))
       memory (waited u 1) noWrites
       (ticked-clock n s rest span a u (omega arith) memory (waited u 1) noWrites (omega arith) waits)
@@ -206,7 +206,7 @@ module _ (halt : Halt) (at : Leaped) (clocks : List ℕ) (span : ℕ) (on : at .
 
     -- no tick comes before it
     acts-first : (v : Working) (d made : ℕ) → Acting memory next writes v d
-        → (runningA (tickedState s v .peripherals .control) (s .last .ports) ≡ true
+        → (countingA (tickedState s v .peripherals .control) (s .last .ports) ≡ true
         → d ≤ tickedState s v .peripherals .countera .count)
         → Reached made memory₀ v memory → Ends v d made
     acts-first v d made c none so-far =
@@ -218,7 +218,7 @@ module _ (halt : Halt) (at : Leaped) (clocks : List ℕ) (span : ℕ) (on : at .
 
     -- a tick comes first
     module _ (v : Working) (d : ℕ) (c : Acting memory next writes v d)
-        (runs : runningA (tickedState s v .peripherals .control) (s .last .ports) ≡ true)
+        (counts : countingA (tickedState s v .peripherals .control) (s .last .ports) ≡ true)
         (early : tickedState s v .peripherals .countera .count < d) where
       abbrev first : ℕ
       first = tickedState s v .peripherals .countera .count
@@ -246,7 +246,7 @@ module _ (halt : Halt) (at : Leaped) (clocks : List ℕ) (span : ℕ) (on : at .
           let ports = s .last .ports in
           let here = tickedState s v .peripherals in
           let b = ticked-left-b (at .left .0) s rest span a v (omega (arith, c .inside)) in
-          let tick = first-tick ports here runs (λ r. omega (arith, b r, early, c .inside)) in
+          let tick = first-tick ports here counts (λ r. omega (arith, b r, early, c .inside)) in
           let together : gone + (first + 1) ≡ gone + first + 1 = omega arith in
           let whole : d ≡ first + 1 + (d - (first + 1)) = omega arith in
           let later : peripheralsClocks (first + 1) ports here ≡ tickedState s after .peripherals =
@@ -258,16 +258,16 @@ module _ (halt : Halt) (at : Leaped) (clocks : List ℕ) (span : ℕ) (on : at .
         → Reached made memory₀ v memory → Ends v d made
     reached-acts zero v d made enough c so-far = acts-first v d made c (λ e. omega arith) so-far
     reached-acts (suc most) v d made enough c so-far =
-        tick-or-not (runningA (tickedState s v .peripherals .control) (s .last .ports))
+        tick-or-not (countingA (tickedState s v .peripherals .control) (s .last .ports))
         (ltb (tickedState s v .peripherals .countera .count) d) refl refl
-        (λ runs early. reached-acts most (waited (waited v (tickedState s v .peripherals .countera .count)) 1)
+        (λ counts early. reached-acts most (waited (waited v (tickedState s v .peripherals .countera .count)) 1)
         (d - (tickedState s v .peripherals .countera .count + 1)) (made + 1) (omega arith)
-        (still-acting v d c runs early)
-        (reached-tick v d (c .until) (c .inside) runs early made memory₀ memory so-far))
+        (still-acting v d c counts early)
+        (reached-tick v d (c .until) (c .inside) counts early made memory₀ memory so-far))
       where
-        tick-or-not : (r l : Bool) → runningA (tickedState s v .peripherals .control) (s .last .ports) ≡ r
+        tick-or-not : (r l : Bool) → countingA (tickedState s v .peripherals .control) (s .last .ports) ≡ r
             → ltb (tickedState s v .peripherals .countera .count) d ≡ l
-            → (runningA (tickedState s v .peripherals .control) (s .last .ports) ≡ true
+            → (countingA (tickedState s v .peripherals .control) (s .last .ports) ≡ true
             → tickedState s v .peripherals .countera .count < d
             → Ends (waited (waited v (tickedState s v .peripherals .countera .count)) 1)
             (d - (tickedState s v .peripherals .countera .count + 1)) (made + 1))
@@ -293,7 +293,7 @@ module _ (halt : Halt) (at : Leaped) (clocks : List ℕ) (span : ℕ) (on : at .
       → (v : Working) (d shared : ℕ)
       → Acting memory next writes v d → next .work .leaps ≡ v .work .leaps + 1 → LeaptTo memory₀ v shared memory
       → LeaptTo memory₀ next
-      (shared + digit
+      (shared + oneWhere
       (ticksNext (s .last .ports) (peripheralsClocks (v .work .gone .0 + d) (s .last .ports) (s .peripherals))))
       (committed memory writes)
   leapt-acts memory₀ memory next writes neither v d shared c leaps so-far =
@@ -302,7 +302,7 @@ module _ (halt : Halt) (at : Leaped) (clocks : List ℕ) (span : ℕ) (on : at .
       let before = ticks-add gone d ports (s .peripherals) in
       let last : ticksIn (next .work .gone .0) ports (s .peripherals)
       ≡ ticksIn (gone + d) ports (s .peripherals)
-      + digit (ticksNext ports (peripheralsClocks (gone + d) ports (s .peripherals))) =
+      + oneWhere (ticksNext ports (peripheralsClocks (gone + d) ports (s .peripherals))) =
       rw (c .gone) (ticks-one (gone + d) ports (s .peripherals)) in
       record {
         made = so-far .made + 1 + ticksIn d ports (tickedState s v .peripherals);
@@ -316,7 +316,7 @@ module _ (halt : Halt) (at : Leaped) (clocks : List ℕ) (span : ℕ) (on : at .
       → outcomeWithin s (w .registers) memory ≡ outcome.Done worked
       → endsSpan halt (pushesOf (worked .writing)) ≡ false
       → LeaptTo memory₀ (nextWorking w worked)
-      (shared + digit
+      (shared + oneWhere
       (ticksNext (s .last .ports) (peripheralsClocks (w .gone .0 + w .wait) (s .last .ports) (s .peripherals))))
       (committed memory (pushesOf (worked .writing)))
   leapt-next w shared memory₀ memory so-far worked inside e q =
@@ -340,7 +340,7 @@ module _ (halt : Halt) (at : Leaped) (clocks : List ℕ) (span : ℕ) (on : at .
       → 0 < w .wait → w .gone .0 + w .wait ≤ span → endsSpan halt (oneWrite x) ≡ false
       → LeaptTo memory₀ (putWork w)
       (shared
-      + digit (ticksNext (s .last .ports)
+      + oneWhere (ticksNext (s .last .ports)
       (peripheralsClocks (w .gone .0 + (w .wait - 1)) (s .last .ports) (s .peripherals))))
       (committed memory (oneWrite x))
   leapt-put w x shared memory₀ memory so-far some fits q =
@@ -369,7 +369,8 @@ module _ (halt : Halt) (at : Leaped) (clocks : List ℕ) (span : ℕ) (on : at .
         → (worked : Worked) → w .gone .0 + w .wait < span
         → instructionOf (w .registers) [] memory ≡ outcome.Done worked → waitingOf (worked .writing) ≡ waiting.Nothing
         → endsSpan halt (pushesOf (worked .writing)) ≡ false
-        → LeaptTo memory₀ (noneWaiting (nextWork w worked)) (shared + digit (onTick ticking (w .gone .0 + w .wait + 1)))
+        → LeaptTo memory₀ (noneWaiting (nextWork w worked))
+        (shared + oneWhere (onTick ticking (w .gone .0 + w .wait + 1)))
         (committed memory (pushesOf (worked .writing)))
     leapt-pushing w shared memory₀ memory so-far worked inside e none q =
         rw (none, ticks (w .gone .0 + w .wait) inside) at
@@ -379,7 +380,7 @@ module _ (halt : Halt) (at : Leaped) (clocks : List ℕ) (span : ℕ) (on : at .
     pub leapt-putting : (w : Work) (x : Write) (shared : ℕ) (memory₀ memory : List ℕ)
         → LeaptTo memory₀ (byteWaiting w x) shared memory
         → 0 < w .wait → w .gone .0 + w .wait ≤ span → endsSpan halt (oneWrite x) ≡ false
-        → LeaptTo memory₀ (putWork w) (shared + digit (onTick ticking (w .gone .0 + w .wait)))
+        → LeaptTo memory₀ (putWork w) (shared + oneWhere (onTick ticking (w .gone .0 + w .wait)))
         (committed memory (oneWrite x))
     leapt-putting w x shared memory₀ memory so-far some fits q =
         let last : w .gone .0 + (w .wait - 1) + 1 ≡ w .gone .0 + w .wait = omega arith in
@@ -393,8 +394,8 @@ module _ (halt : Halt) (at : Leaped) (clocks : List ℕ) (span : ℕ) (on : at .
         → instructionOf (w .registers) [] memory ≡ outcome.Done worked → worked .writing ≡ Stored x
         → endsSpan halt (oneWrite x) ≡ false
         → LeaptTo memory₀ (putWork (nextWork w worked))
-        (shared + digit (onTick ticking (w .gone .0 + w .wait + 1))
-        + digit (onTick ticking (putWork (nextWork w worked) .work .gone .0)))
+        (shared + oneWhere (onTick ticking (w .gone .0 + w .wait + 1))
+        + oneWhere (onTick ticking (putWork (nextWork w worked) .work .gone .0)))
         (committed memory (oneWrite x))
     unfolding pushesOf waitingOf
     leapt-storing w shared memory₀ memory so-far worked x inside long e z q =
@@ -404,19 +405,19 @@ module _ (halt : Halt) (at : Leaped) (clocks : List ℕ) (span : ℕ) (on : at .
         let begun =
         leapt-next w shared memory₀ memory so-far worked (omega arith) (within-done s (w .registers) memory worked e)
         (rw pushes (no-end halt Nothing refl)) in
-        leapt-putting (nextWork w worked) x (shared + digit (onTick ticking (start + 1))) memory₀ memory
+        leapt-putting (nextWork w worked) x (shared + oneWhere (onTick ticking (start + 1))) memory₀ memory
         (rw (pushes, waits, same-memory memory Nothing refl, ticks start (omega arith)) at begun) (omega arith)
         (omega arith) q
 
     -- instructions one after the other
     pushing-shared : (shared k start : ℕ)
-        → shared + (k + sharedBy ticking start start) ≡ shared + k + digit (onTick ticking start)
+        → shared + (k + sharedBy ticking start start) ≡ shared + k + oneWhere (onTick ticking start)
     unfolding sharedBy
     pushing-shared shared k start = rw (eq-eqb start start refl) (omega arith)
 
     storing-shared : (shared k start later : ℕ) → start < later
         → shared + (k + sharedBy ticking start later)
-        ≡ shared + k + digit (onTick ticking start) + digit (onTick ticking later)
+        ≡ shared + k + oneWhere (onTick ticking start) + oneWhere (onTick ticking later)
     unfolding sharedBy
     storing-shared shared k start later h = rw (ne-eqb later start (λ e. omega (arith, h, e))) (omega arith)
 
@@ -496,16 +497,16 @@ shares-most : (t : Ticking) (v r : Working) → v .work .gone .0 ≤ r .work .go
 unfolding sharedIn
 shares-most t v r h =
     cond-both (λ (k : ℕ). v .work .gone .0 + k ≤ r .work .gone .0) (ltb (v .work .gone .0) (r .work .gone .0))
-    (digit (onTick t (r .work .gone .0))) 0
-    (λ e. omega (arith, ltb-true (v .work .gone .0) (r .work .gone .0) e, digit-le (onTick t (r .work .gone .0))))
+    (oneWhere (onTick t (r .work .gone .0))) 0
+    (λ e. omega (arith, ltb-true (v .work .gone .0) (r .work .gone .0) e, one-where-le (onTick t (r .work .gone .0))))
     (λ e. omega arith)
 
 pub shares-at-most : (t : Ticking) (v r : Working) (shared : ℕ) → shared ≡ sharedIn t v r → shared ≤ 1
 unfolding sharedIn
 shares-at-most t v r shared e =
     rw e
-    (cond-both (λ (k : ℕ). k ≤ 1) (ltb (v .work .gone .0) (r .work .gone .0)) (digit (onTick t (r .work .gone .0))) 0
-    (λ _. digit-le (onTick t (r .work .gone .0))) (λ _. omega arith))
+    (cond-both (λ (k : ℕ). k ≤ 1) (ltb (v .work .gone .0) (r .work .gone .0)) (oneWhere (onTick t (r .work .gone .0))) 0
+    (λ _. one-where-le (onTick t (r .work .gone .0))) (λ _. omega arith))
 
 -- the clocks with a tick, of a span
 pub ticks-of : (span ports : ℕ) (p : Peripherals) (t : Ticking) → t ≡ tickingOf ports p → span ≤ 2147483647 → (g : ℕ)
@@ -517,7 +518,7 @@ pub some-period : (ports : ℕ) (p : Peripherals) (t : Ticking) → t ≡ tickin
 unfolding tickingOf
 some-period ports p t e =
     rw e
-    (cond-both (λ (u : Ticking). 0 < u .period) (runningA (p .control) ports)
+    (cond-both (λ (u : Ticking). 0 < u .period) (countingA (p .control) ports)
     (record { first = p .countera .count + 1; period = p .countera .latch + 1 })
     (record { first = 4294967295; period = 1 })
     (λ _. omega arith) (λ _. omega arith))
@@ -550,7 +551,7 @@ module _ (halt : Halt) (at : Leaped) (clocks : List ℕ) (span : ℕ) (memory₀
       made = 0;
       counted = refl;
       leapt = λ codes times words.
-          subst (λ (l : Leaped). ByLeaps (chip halt) (at .left .0)
+          subst (λ (l : Leaped). ByLeaps (system halt) (at .left .0)
           (worldOf (at .progress) memory₀ clocks codes times words) 0 (l .left .0)
           (worldOf (l .progress) memory₀ clocks codes times words))
           (sym (begin-same at (at .left .0) (drop (at .progress .read) clocks) span (b .alone))) no-leap;
@@ -660,7 +661,7 @@ module _ (halt : Halt) (at : Leaped) (clocks : List ℕ) (span : ℕ) (memory₀
     made-so = omega (arith, i .leapt .counted)
 
     made-most : i .leapt .made + (at .left .0 - v .work .gone .0) ≤ at .left .0
-    made-most = leaps-clocks (chip halt) (i .leapt .leapt [] [] [])
+    made-most = leaps-clocks (system halt) (i .leapt .leapt [] [] [])
 
     pub within-ends : Spanned halt at memory₀ (tickedTo at v shared) memory clocks
     within-ends =

@@ -4,7 +4,7 @@ use mathlib.Core.List.{List}
 use Prim.Native.Nat.{ℕ, _+_, _≤_}
 use Rattle.leaps.specs.Leaps.{ByLeaps}
 use Rattle.cpu_access.specs.declared.halt.Halt.{Halt}
-use Rattle.r6501q_step.specs.R6501q.{chip}
+use Rattle.r6501q_step.specs.R6501q.{system}
 use Rattle.r6501q_step.specs.World.{worldOf}
 use Rattle.r6501q_leap.specs.declared.Leaped.{Leaped}
 
@@ -15,7 +15,7 @@ pub record Spanned (halt : Halt) (at : Leaped) (memory : List ℕ) (r : Leaped) 
     Type 0 where
   pub made : ℕ
   pub byLeaps : (inputCodes outputClocks outputWords : List ℕ)
-      → ByLeaps (chip halt) (at .left .0)
+      → ByLeaps (system halt) (at .left .0)
       (worldOf (at .progress) memory inputClocks inputCodes outputClocks outputWords)
       made (r .left .0) (worldOf (r .progress) memory' inputClocks inputCodes outputClocks outputWords)
   pub leaps : r .leaps ≡ at .leaps + made

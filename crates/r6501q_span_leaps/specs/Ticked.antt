@@ -5,7 +5,7 @@ use mathlib.Core.List.{List}
 use Prim.Native.Nat.{ℕ, _+_, _-_, _≤_}
 use lib.Dec.{ltb}
 use lib.ListN.{drop, length}
-use Rattle.bits.specs.Bits.{digit}
+use Rattle.bits.specs.Bits.{oneWhere}
 use Rattle.cpu_access.specs.declared.halt.Halt.{Halt}
 use Rattle.cpu.specs.Work.{WithinSpan}
 use Rattle.r6501q_state.specs.declared.state.State.{State}
@@ -28,7 +28,7 @@ pub record SpanBegun (at : Leaped) (inputClocks : List ℕ) (span : ℕ) : Type 
 
 -- the CPU's event clock, if there was one from `v` to `r`, is a tick's too
 unfoldable pub sharedIn : Ticking → Working → Working → ℕ
-sharedIn t v r = cond (ltb (v .work .gone .0) (r .work .gone .0)) (digit (onTick t (r .work .gone .0))) 0
+sharedIn t v r = cond (ltb (v .work .gone .0) (r .work .gone .0)) (oneWhere (onTick t (r .work .gone .0))) 0
 
 -- the clocks that the CPU acted on, and the ticks
 abbrev pub leapsTo : Leaped → Working → ℕ

@@ -3,7 +3,7 @@ ghost use mathlib.Core.Path.{_≡_};
 ghost use Prim.Native.Nat.{_+_, _≤_, _<_};
 ghost use lib.ListN.{length};
 ghost use Rattle.page_sums.specs.PageSums.{sumsAfter};
-ghost use Rattle.cpu_opcodes.specs.Table.{opcodeTable};
+ghost use Rattle.cpu_opcodes.specs.TableInCode.{opcodeTable};
 ghost use Rattle.cpu.specs.Work.{WithinSpan};
 ghost use Rattle.r6501q_span_leaps.specs.Spanned.{Spanned};
 ghost use Rattle.r6501q_span_leaps.specs.Ticked.{SpanBegun, sharedIn, tickedTo, EndFits, StepsOn};

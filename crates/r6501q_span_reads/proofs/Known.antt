@@ -5,7 +5,7 @@ use mathlib.Core.Bool.{Bool, true, false, cond}
 use mathlib.Core.List.{List, [], _∷_}
 use Prim.Native.Nat.{ℕ, _+_}
 use native.Mathlib.Nat.{add-zero}
-use Rattle.bits.specs.Bits.{digit}
+use Rattle.bits.specs.Bits.{oneWhere}
 use Rattle.cpu_opcodes.specs.declared.Entry.{Entry}
 use Rattle.cpu_opcodes.specs.declared.Mode.the-variants.{ZeroPage, ZeroPageRelative}
 use Rattle.cpu_opcodes.specs.declared.operation.Operation.the-variants as operation
@@ -15,7 +15,7 @@ use Rattle.cpu_opcodes.specs.declared.operation.ReadOperation.{ReadOperation}
 use Rattle.cpu_opcodes.specs.declared.operation.StoreOperation.{StoreOperation}
 use Rattle.cpu_access.specs.declared.CpuRegisters.{CpuRegisters}
 use Rattle.cpu_modes.specs.declared.Place.{Place}
-use Rattle.cpu_access.specs.Bus.{idle, nextAddress, memoryByte, askOf, readOf, fetchOf}
+use Rattle.cpu_access.specs.Bus.{unasked, nextAddress, memoryByte, askOf, readOf, fetchOf}
 use Rattle.cpu_modes.specs.Modes.{locateOf, relativeTo}
 use Rattle.cpu_access.specs.Stack.{writeAt, noWrites}
 use Rattle.cpu_effects.specs.declared.Worked.{Worked}
@@ -28,7 +28,7 @@ use Rattle.cpu_kinds.specs.Updates.{withPc, withStatus}
 use Rattle.cpu_kinds.proofs.Bytes.{byte-stored}
 use Rattle.cpu.specs.declared.Ask.{Ask}
 use Rattle.cpu.specs.declared.Outcome.the-variants.{Asked, Done}
-use Rattle.cpu.specs.Instruction.{instructionOf, executeOf, outcomeOf, carriedOut, operandByte}
+use Rattle.cpu.specs.InstructionInCode.{instructionOf, executeOf, outcomeOf, carriedOut, operandByte}
 use Rattle.r6501q_state.specs.declared.state.State.{State}
 use Rattle.r6501q_registers.specs.Read.{registerValue}
 use Rattle.r6501q_span_reads.specs.Served.{steadyAt, steadyAsk, outcomeWithin}
@@ -46,21 +46,21 @@ module _ (r : CpuRegisters) (memory : List ℕ) (e : Entry) (a : ℕ) (i : Encod
   past = nextAddress (nextAddress (r .pc))
 
   abbrev asked : Bool → Ask
-  asked latch = record { address = a; latch = latch; writes = noWrites }
+  asked modify = record { address = a; modify = modify; writes = noWrites }
 
-  executes : (answers : List ℕ) → instructionOf r answers memory ≡ executeOf answers memory e behind idle
+  executes : (answers : List ℕ) → instructionOf r answers memory ≡ executeOf answers memory e behind unasked
   unfolding instructionOf fetchOf readOf
   executes answers = rw (i .first, i .opcode) refl
 
   -- ---- reads
 
   read-asks : (o : ReadOperation) → e .operation ≡ operation.Read o → e .mode ≡ ZeroPage
-      → executeOf [] memory e behind idle ≡ Asked (asked false)
+      → executeOf [] memory e behind unasked ≡ Asked (asked false)
   unfolding executeOf carriedOut locateOf fetchOf operandByte readOf askOf outcomeOf operateOf completed
   read-asks o k m = rw (k, m, i .second, i .operand, i .register) refl
 
   read-ends : (o : ReadOperation) → e .operation ≡ operation.Read o → e .mode ≡ ZeroPage → (v : ℕ)
-      → executeOf (v ∷ []) memory e behind idle ≡ Done (workedOut (withRead o (withPc past r) v) Nothing (e
+      → executeOf (v ∷ []) memory e behind unasked ≡ Done (workedOut (withRead o (withPc past r) v) Nothing (e
       .length + 0))
   unfolding executeOf carriedOut locateOf fetchOf operandByte readOf askOf outcomeOf operateOf completed
   read-ends o k m v = rw (k, m, i .second, i .operand, i .register) refl
@@ -68,12 +68,12 @@ module _ (r : CpuRegisters) (memory : List ℕ) (e : Entry) (a : ℕ) (i : Encod
   -- ---- operations that change a byte
 
   change-asks : (o : ModifyOperation) → e .operation ≡ operation.Modify o → e .mode ≡ ZeroPage
-      → executeOf [] memory e behind idle ≡ Asked (asked true)
+      → executeOf [] memory e behind unasked ≡ Asked (asked true)
   unfolding executeOf carriedOut locateOf fetchOf operandByte readOf askOf outcomeOf operateOf modified stored
   change-asks o k m = rw (k, m, i .second, i .operand, i .register) refl
 
   change-ends : (o : ModifyOperation) → e .operation ≡ operation.Modify o → e .mode ≡ ZeroPage → (v : ℕ)
-      → executeOf (v ∷ []) memory e behind idle
+      → executeOf (v ∷ []) memory e behind unasked
       ≡ Done (workedOut (withStatus (changedBy o v (r .status) .status) (withPc past r))
       (Stored (writeAt a (changedBy o v (r .status) .value))) (e .length))
   unfolding executeOf carriedOut locateOf fetchOf operandByte readOf askOf outcomeOf operateOf modified stored
@@ -82,7 +82,7 @@ module _ (r : CpuRegisters) (memory : List ℕ) (e : Entry) (a : ℕ) (i : Encod
   -- ---- stores
 
   store-ends : (o : StoreOperation) → e .operation ≡ operation.Store o → e .mode ≡ ZeroPage
-      → executeOf [] memory e behind idle
+      → executeOf [] memory e behind unasked
       ≡ Done (workedOut (withPc past r) (Stored (writeAt a (byteToStore o r))) (e .length))
   unfolding executeOf carriedOut locateOf fetchOf operandByte readOf outcomeOf operateOf stored
   store-ends o k m = rw (k, m, i .second, i .operand, byte-stored o past r) refl
@@ -90,26 +90,26 @@ module _ (r : CpuRegisters) (memory : List ℕ) (e : Entry) (a : ℕ) (i : Encod
   -- ---- BBR and BBS
 
   abbrev target : Place
-  target = relativeTo (fetchOf [] memory past idle)
+  target = relativeTo (fetchOf [] memory past unasked)
 
   abbrev branchedTo : Bool → Worked
   branchedTo taken =
-      cond taken (workedOut (withPc (target .address) r) Nothing (e .length + 1 + digit (target .crossed)))
+      cond taken (workedOut (withPc (target .address) r) Nothing (e .length + 1 + oneWhere (target .crossed)))
       (workedOut (withPc (target .pc) r) Nothing (e .length))
 
   branch-asks : (o : BitBranchOperation) → e .operation ≡ operation.BitBranch o → e .mode ≡ ZeroPageRelative
-      → executeOf [] memory e behind idle ≡ Asked (asked false)
+      → executeOf [] memory e behind unasked ≡ Asked (asked false)
   unfolding executeOf carriedOut locateOf fetchOf operandByte readOf askOf outcomeOf operateOf bitBranched branched
       relativeTo
   branch-asks o k m = by-taken (bitBranchTaken o 0) refl
     where
-      by-taken : (t : Bool) → bitBranchTaken o 0 ≡ t → executeOf [] memory e behind idle ≡ Asked (asked false)
+      by-taken : (t : Bool) → bitBranchTaken o 0 ≡ t → executeOf [] memory e behind unasked ≡ Asked (asked false)
       by-taken true z = rw (k, m, i .second, i .operand, i .register, i .third, z) refl
       by-taken false z = rw (k, m, i .second, i .operand, i .register, i .third, z) refl
 
   branch-ends : (o : BitBranchOperation) → e .operation ≡ operation.BitBranch o → e .mode ≡ ZeroPageRelative
       → (v : ℕ) (t : Bool) → bitBranchTaken o v ≡ t
-      → executeOf (v ∷ []) memory e behind idle ≡ Done (branchedTo t)
+      → executeOf (v ∷ []) memory e behind unasked ≡ Done (branchedTo t)
   unfolding executeOf carriedOut locateOf fetchOf operandByte readOf askOf outcomeOf operateOf bitBranched branched
       relativeTo
   branch-ends o k m v true z = rw (k, m, i .second, i .operand, i .register, i .third, z) refl
@@ -119,15 +119,15 @@ module _ (r : CpuRegisters) (memory : List ℕ) (e : Entry) (a : ℕ) (i : Encod
 
   module _ (s : State) where
     abbrev answer : Bool → ℕ
-    answer latch = registerValue (s .peripherals) (s .last .ports) latch a
+    answer modify = registerValue (s .peripherals) (s .last .ports) modify a
 
     -- a question that is answered
-    answered-within : (latch : Bool) (worked : Worked) → steadyAt a ≡ true
-        → executeOf [] memory e behind idle ≡ Asked (asked latch)
-        → executeOf (answer latch ∷ []) memory e behind idle ≡ Done worked → outcomeWithin s r memory ≡ Done worked
+    answered-within : (modify : Bool) (worked : Worked) → steadyAt a ≡ true
+        → executeOf [] memory e behind unasked ≡ Asked (asked modify)
+        → executeOf (answer modify ∷ []) memory e behind unasked ≡ Done worked → outcomeWithin s r memory ≡ Done worked
     unfolding outcomeWithin steadyAsk
-    answered-within latch worked steady asks ends =
-        rw (executes [] ∙ asks, steady) (executes (answer latch ∷ []) ∙ ends)
+    answered-within modify worked steady asks ends =
+        rw (executes [] ∙ asks, steady) (executes (answer modify ∷ []) ∙ ends)
 
     pub read-known : (o : ReadOperation) → e .operation ≡ operation.Read o → e .mode ≡ ZeroPage → steadyAt a ≡ true
         → outcomeWithin s r memory ≡ Done (workedOut (withRead o (withPc past r) (answer false)) Nothing (e .length))

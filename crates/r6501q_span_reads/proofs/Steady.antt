@@ -13,7 +13,7 @@ use Rattle.cpu_effects.specs.declared.Worked.{Worked}
 use Rattle.cpu.specs.declared.Ask.{Ask}
 use Rattle.cpu.specs.declared.Outcome.{Outcome}
 use Rattle.cpu.specs.declared.Outcome.the-variants.{Stopped, Asked, Done}
-use Rattle.cpu.specs.Instruction.{instructionOf}
+use Rattle.cpu.specs.InstructionInCode.{instructionOf}
 use Rattle.r6501q_state.specs.declared.state.Peripherals.{Peripherals}
 use Rattle.r6501q_state.specs.declared.state.State.{State}
 use Rattle.r6501q_registers.specs.Read.{registerValue, afterRead}
@@ -50,10 +50,10 @@ steady-read p a e =
       not-at a 0x17 e (omega arith) (omega arith),
     )
 
-steady-value : (p q : Peripherals) → SameSeen p q → (levels : ℕ) (latch : Bool) (a : ℕ) → steadyAt a ≡ true
-    → registerValue q levels latch a ≡ registerValue p levels latch a
+steady-value : (p q : Peripherals) → SameSeen p q → (levels : ℕ) (modify : Bool) (a : ℕ) → steadyAt a ≡ true
+    → registerValue q levels modify a ≡ registerValue p levels modify a
 unfolding registerValue
-steady-value p q same levels latch a e =
+steady-value p q same levels modify a e =
     rw (
       not-at a 0x1E e (omega arith) (omega arith),
       not-at a 0x1D e (omega arith) (omega arith),
@@ -73,13 +73,13 @@ no-writes p w e = rw (eqb-true (w .count) 0 e)
 -- the answer, and what is left, on any clock of the span
 pub steady-answer : (p q : Peripherals) → SameSeen p q → (levels : ℕ) (ask : Ask) → steadyAsk ask ≡ true
     → answerOf q levels ask
-    ≡ record { value = registerValue p levels (ask .latch) (ask .address); peripherals = q }
+    ≡ record { value = registerValue p levels (ask .modify) (ask .address); peripherals = q }
 unfolding answerOf steadyAsk
 steady-answer p q same levels ask e =
     let first = and-left (eqb (ask .writes .count) 0) (steadyAt (ask .address)) e in
     let steady = and-right (eqb (ask .writes .count) 0) (steadyAt (ask .address)) e in
     rw (
       no-writes q (ask .writes) first,
-      steady-value p q same levels (ask .latch) (ask .address) steady,
+      steady-value p q same levels (ask .modify) (ask .address) steady,
       steady-read q (ask .address) steady,
     )

@@ -17,13 +17,13 @@ use Rattle.cpu_effects.specs.declared.Writing.the-variants.{Nothing}
 use Rattle.cpu_effects.specs.Effects.{pushesOf}
 use Rattle.cpu.specs.declared.Outcome.the-variants.{Done}
 use Rattle.r6501q_state.specs.declared.state.State.{State}
-use Rattle.r6501q_span_reads.specs.declared.direct.Direct.{Direct}
+use Rattle.r6501q_span_reads.specs.declared.known.Known.{Known}
 use Rattle.r6501q_span_reads.specs.Served.{outcomeWithin}
 
-abbrev pub knownWork : CpuRegisters → Writing → ℕ → Direct
+abbrev pub knownWork : CpuRegisters → Writing → ℕ → Known
 knownWork r w n = record { known = true; worked = record { registers = r; writing = w; length = n } }
 
-abbrev pub unknownWork : CpuRegisters → Direct
+abbrev pub unknownWork : CpuRegisters → Known
 unknownWork r = record { known = false; worked = record { registers = r; writing = Nothing; length = 1 } }
 
 -- the three bytes from PC on lie in memory; the first is the opcode of the entry, which takes 7 clocks at most, the
@@ -45,6 +45,6 @@ abbrev pub OnBit : CpuRegisters → List ℕ → Entry → ℕ → Type 0
 OnBit r memory e a = Encoded r memory e a × (e .mode ≡ ZeroPageRelative)
 
 -- what is known is the outcome, and that nothing is pushed; that nothing is known may be said of any instruction
-abbrev pub Knows : State → CpuRegisters → List ℕ → Direct → Type 0
+abbrev pub Knows : State → CpuRegisters → List ℕ → Known → Type 0
 Knows s r memory d = d .known ≡ true
     → (outcomeWithin s r memory ≡ Done (d .worked)) × (pushesOf (d .worked .writing) ≡ noWrites)

@@ -7,7 +7,7 @@ use Rattle.cpu_access.specs.declared.CpuRegisters.{CpuRegisters}
 use Rattle.cpu.specs.declared.Ask.{Ask}
 use Rattle.cpu.specs.declared.Outcome.{Outcome}
 use Rattle.cpu.specs.declared.Outcome.the-variants.{Stopped, Asked, Done}
-use Rattle.cpu.specs.Instruction.{instructionOf}
+use Rattle.cpu.specs.InstructionInCode.{instructionOf}
 use Rattle.r6501q_state.specs.declared.state.State.{State}
 use Rattle.r6501q_registers.specs.Addresses.{serialDataAddress, startBAddress}
 use Rattle.r6501q_registers.specs.Read.{registerValue}
@@ -23,7 +23,7 @@ steadyAsk ask = eqb (ask .writes .count) 0 && steadyAt (ask .address)
 
 -- what it reads as since the span's start
 abbrev pub steadyAnswer : State → Ask → ℕ
-steadyAnswer s ask = registerValue (s .peripherals) (s .last .ports) (ask .latch) (ask .address)
+steadyAnswer s ask = registerValue (s .peripherals) (s .last .ports) (ask .modify) (ask .address)
 
 -- one such question is answered
 abbrev pub answeredOnce : State → CpuRegisters → List ℕ → Outcome → Outcome

@@ -30,9 +30,9 @@ use Rattle.cpu.specs.declared.Ask.{Ask}
 use Rattle.cpu.specs.declared.Outcome.{Outcome}
 use Rattle.cpu.specs.declared.Outcome.the-variants as outcome
 use Rattle.cpu.specs.declared.work.Work.{Work}
-use Rattle.cpu.specs.Instruction.{instructionOf}
+use Rattle.cpu.specs.InstructionInCode.{instructionOf}
 use Rattle.cpu.specs.Work.{nextWork}
-use Rattle.cpu.specs.Sequence.{undefinedStop}
+use Rattle.cpu.specs.InstructionAccesses.{undefinedStop}
 use Rattle.r6501q_cpu.specs.declared.Processed.{Processed}
 use Rattle.r6501q_cpu.specs.declared.Processed.the-variants as processed
 use Rattle.r6501q_cpu.specs.declared.Round.the-variants.{Over, Answered}
@@ -42,13 +42,14 @@ use Rattle.r6501q_cpu.proofs.Asks.{round-over, round-answered}
 use Rattle.r6501q_cpu.proofs.Answered.{instruction-answered}
 use Rattle.r6501q_cpu.proofs.Ranges.{never-both}
 use Rattle.r6501q_cpu.proofs.Stores.{clock-waits, waited-less, instruction-starts, byte-put}
-use Rattle.pin_lists.specs.PinLists.{dueCount}
+use Rattle.pin_lists.specs.PinLists.{inputCount}
 use Rattle.r6501q_gaps.specs.Events.{levelsChange, resetChanges}
-use Rattle.r6501q_gaps.specs.Gaps.{clocksOf, runningA, runningB, toInput, toChange, toUnderflowA, toUnderflowB, toReset}
+use Rattle.r6501q_gaps.specs.Gaps.{clocksOf, countingA, countingB, toInput, toChange, toUnderflowA, toUnderflowB}
+use Rattle.r6501q_gaps.specs.Gaps.{toReset}
 use Rattle.r6501q_gaps.specs.Gaps.{untilCpu, toCpu, gapOf, waitAfter, passCounters, passOf}
 use Rattle.r6501q_gaps.proofs.Same.{same-levels}
 use Rattle.r6501q_gaps.proofs.Quiet.{not-put, not-over, ready-peripherals}
-use Rattle.r6501q_gaps.proofs.Gaps.{no-event, not-due}
+use Rattle.r6501q_gaps.proofs.Gaps.{no-event, no-input-next}
 use Rattle.r6501q_clock.specs.declared.Clocked.the-variants.{Done}
 use Rattle.r6501q_clock.specs.Clock.{readyOf, peripheralsClock, endedWith, finished, clockOf}
 use Rattle.r6501q_unseen.specs.Unseen.{peripheralsClocks, ticksIn, SameSeen, Unseen}
@@ -131,7 +132,7 @@ module _ (n : ℕ) (s : State) (clocks : List ℕ) (span : ℕ) (a : AloneSeen n
   ticked-change = rw ticked-levels (a .change)
 
   -- counter B does not underflow in the rest of it
-  pub ticked-left-b : runningB (tickedState s v .peripherals .control) ≡ true
+  pub ticked-left-b : countingB (tickedState s v .peripherals .control) ≡ true
       → span - v .work .gone .0 ≤ tickedState s v .peripherals .counterb .count
   ticked-left-b = unseen-left-b span (s .last .ports) (s .peripherals) (a .unseen) (v .work .gone .0) within
 
@@ -150,10 +151,10 @@ input-later n span clock gone (t ∷ ts) h k = omega arith
 
 module _ (n : ℕ) (s : State) (clocks : List ℕ) (span : ℕ) (a : AloneSeen n s clocks span) (v : Working)
     (inside : v .work .gone .0 < span) where
-  -- no input is due
-  pub ticked-due : dueCount (s .clock + v .work .gone .0 + 1) clocks ≡ 0
-  ticked-due =
-      not-due (n - v .work .gone .0) (s .clock + v .work .gone .0) clocks
+  -- the next clock has no input
+  pub ticked-no-input : inputCount (s .clock + v .work .gone .0 + 1) clocks ≡ 0
+  ticked-no-input =
+      no-input-next (n - v .work .gone .0) (s .clock + v .work .gone .0) clocks
       (omega (arith, input-later n span (s .clock) (v .work .gone .0) clocks (a .left) (a .input)))
 
   levels-last : levelsOf (tickedState s v) ≡ s .last
@@ -222,8 +223,8 @@ module _ (n : ℕ) (s : State) (clocks : List ℕ) (span : ℕ) (a : AloneSeen n
   abbrev there : State
   there = tickedState s v
 
-  abbrev runs : Bool
-  runs = runningA (tickedState s v .peripherals .control) (s .last .ports)
+  abbrev counts : Bool
+  counts = countingA (tickedState s v .peripherals .control) (s .last .ports)
 
   -- the distances but counter A's
   cpu-there : toCpu left there ≡ d
@@ -247,12 +248,12 @@ module _ (n : ℕ) (s : State) (clocks : List ℕ) (span : ℕ) (a : AloneSeen n
   underflow-b-there : span - v .work .gone .0 ≤ toUnderflowB left there
   unfolding toUnderflowB
   underflow-b-there =
-      at-least (runningB (there .peripherals .control)) (there .peripherals .counterb .count) left
+      at-least (countingB (there .peripherals .control)) (there .peripherals .counterb .count) left
       (span - v .work .gone .0) rest
       (ticked-left-b n s clocks span a v (omega arith))
 
   -- a tick comes first
-  pub tick-gap : runningA (tickedState s v .peripherals .control) (s .last .ports) ≡ true
+  pub tick-gap : countingA (tickedState s v .peripherals .control) (s .last .ports) ≡ true
       → tickedState s v .peripherals .countera .count < d
       → gapOf (n - v .work .gone .0) (tickedState s v) clocks .0 ≡ tickedState s v .peripherals .countera .count
   unfolding gapOf toUnderflowA
@@ -265,13 +266,13 @@ module _ (n : ℕ) (s : State) (clocks : List ℕ) (span : ℕ) (a : AloneSeen n
       (omega (arith, underflow-b-there)) (omega (arith, reset-there, rest)) (omega (arith, cpu-there)))
 
   -- the CPU acts first, or on the clock of the tick
-  pub cpu-gap : (runningA (tickedState s v .peripherals .control) (s .last .ports) ≡ true
+  pub cpu-gap : (countingA (tickedState s v .peripherals .control) (s .last .ports) ≡ true
       → d ≤ tickedState s v .peripherals .countera .count)
       → gapOf (n - v .work .gone .0) (tickedState s v) clocks .0 ≡ d
   unfolding gapOf toUnderflowA
   cpu-gap h =
       let t = cpu-there in
-      let underflow = at-least runs (there .peripherals .countera .count) left d (omega (arith, rest)) h in
+      let underflow = at-least counts (there .peripherals .countera .count) left d (omega (arith, rest)) h in
       last-least left (toInput left (there .clock) clocks) (toChange left there) (toUnderflowA left there)
       (toUnderflowB left there) (toReset left there) (toCpu left there)
       (omega (arith, t, rest)) (omega (arith, t, input-there)) (omega (arith, t, change-there, rest))
@@ -279,9 +280,9 @@ module _ (n : ℕ) (s : State) (clocks : List ℕ) (span : ℕ) (a : AloneSeen n
       ∙ t
 
   -- e clocks before the next event clock
-  module _ (e : ℕ) (before : e ≤ d) (none : runningA (tickedState s v .peripherals .control) (s .last .ports)
+  module _ (e : ℕ) (before : e ≤ d) (none : countingA (tickedState s v .peripherals .control) (s .last .ports)
       ≡ true → e ≤ tickedState s v .peripherals .countera .count) where
-    none-b : runningB (there .peripherals .control) ≡ true → e ≤ there .peripherals .counterb .count
+    none-b : countingB (there .peripherals .control) ≡ true → e ≤ there .peripherals .counterb .count
     none-b r = omega (arith, ticked-left-b n s clocks span a v (omega arith) r)
 
     pub ticked-passed : passOf (tickedState s v) (clocksOf e) ≡ tickedState s (waited v e)

@@ -3,7 +3,7 @@
 ghost use mathlib.Core.Path.{_≡_};
 ghost use Prim.Native.Nat.{_+_, _≤_, _<_};
 ghost use Rattle.page_sums.specs.PageSums.{sumsAfter};
-ghost use Rattle.cpu_opcodes.specs.Table.{opcodeTable};
+ghost use Rattle.cpu_opcodes.specs.TableInCode.{opcodeTable};
 ghost use Rattle.cpu.specs.Work.{WithinSpan};
 ghost use Rattle.r6501q_unseen.specs.Unseen.{Unseen};
 ghost use Rattle.r6501q_spans.specs.Spans.{onlyCpu, beginWork, noneWaiting};
@@ -29,8 +29,8 @@ use r6501q_cpu::registers_of;
 use r6501q_gaps::distances::to_change;
 use r6501q_gaps::distances::to_input;
 use r6501q_gaps::nearer;
-use r6501q_span_reads::direct::known_outcome;
-use r6501q_span_reads::served::outcome_within;
+use r6501q_span_reads::known::known_outcome;
+use r6501q_span_reads::steady::outcome_within;
 use r6501q_state::state::State;
 use r6501q_unseen::pass_unseen;
 use r6501q_unseen::unseen_clocks;
@@ -189,9 +189,9 @@ fn work_instruction(
     if span.0 - w.gone.0 <= w.wait as u32 {
         return none_waiting(w);
     }
-    let direct = known_outcome(s, w.registers, memory, entries);
-    if direct.known {
-        return begin_next(w, direct.worked);
+    let known = known_outcome(s, w.registers, memory, entries);
+    if known.known {
+        return begin_next(w, known.worked);
     }
     work_outcome(s, w, memory, sums, entries, halt)
 }

@@ -42,7 +42,7 @@ freshPeripherals = record {
   receiver = idleReceiver;
 }
 
--- all levels 1, as a running chip has them without inputs
+-- all levels 1, as a chip has them that was given RES high and no other input
 abbrev pub highLevels : Levels
 highLevels = record { ports = 0xFFFFFFFF; nmi = true; res = true }
 

@@ -11,7 +11,7 @@ use Rattle.cpu_access.specs.declared.halt.Halt.{Halt}
 use Rattle.refusals.specs.Refusals.{lastClock, refusalOf}
 use Rattle.refusals.proofs.Accepted.{accepted}
 use Rattle.leaps.specs.Leaps.{movedOf}
-use Rattle.leaps.specs.Lists.{stepOf}
+use Rattle.leaps.specs.CallLists.{stepOf}
 use Rattle.leaps.specs.Calls.{callStart, handedBackOf}
 use Rattle.r6501q_state.specs.declared.state.State.{State}
 use Rattle.r6501q_state.specs.State.{wellFormed}

@@ -9,7 +9,7 @@ use lib.Dec.{ltb, eqb}
 use lib.ListN.{length, take, set}
 use borrow.Author.Tests.{eq-eqb, ne-eqb, eqb-true, eqb-false, lt-ltb, le-ltb, ltb-true, ltb-false}
 use Rattle.bits.proofs.Cond.{cond-yes, cond-no}
-use Rattle.pin_lists.specs.PinLists.{pinsRight, dueCount}
+use Rattle.pin_lists.specs.PinLists.{pinsRight, inputCount}
 use Rattle.cpu_access.specs.declared.stack.Write.{Write}
 use Rattle.cpu_access.specs.declared.stack.Writes.{Writes}
 use Rattle.cpu_access.specs.declared.halt.Halt.{Halt}
@@ -18,7 +18,7 @@ use Rattle.cpu_access.specs.Stack.{noWrites}
 use Rattle.cpu_access.specs.Halt.{halts}
 use Rattle.cpu_access.proofs.Told.{told, inTurn, each-told, unwritten}
 use Rattle.leaps.specs.Leaps.{plains}
-use Rattle.leaps.specs.World.{stoppedAt, movedTo, after, dueIn, runningIn, plainOf}
+use Rattle.leaps.specs.World.{stoppedAt, movedTo, after, inputCountIn, runningIn, plainOf}
 use Rattle.r6501q_state.specs.declared.state.State.{State}
 use Rattle.r6501q_state.specs.Inputs.{lastPin}
 use Rattle.r6501q_state.specs.Pins.{drivenWord}
@@ -32,7 +32,7 @@ use Rattle.r6501q_gaps.specs.Events.{hasInput, eventOf}
 use Rattle.r6501q_gaps.specs.Gaps.{gapOf}
 use Rattle.r6501q_gaps.proofs.Gaps.{gap-clock, gap-event}
 use Rattle.r6501q_gaps.proofs.Passing.{pass-driven}
-use Rattle.r6501q_step.specs.R6501q.{World, endOf, clockOutcome, r6501q, plain, chip}
+use Rattle.r6501q_step.specs.R6501q.{World, endOf, clockOutcome, r6501q, plain, system}
 
 -- ---- what a clock tells
 
@@ -44,7 +44,7 @@ toldBy (Done e) = e .writes
 -- what the next clock comes to: no halt address has a part in it
 abbrev pub clockIn : World → Clocked
 clockIn w =
-    clockOf (w .state) (take (dueCount (w .state .clock + 1) (w .inputClocks)) (w .inputCodes)) (w .memory)
+    clockOf (w .state) (take (inputCount (w .state .clock + 1) (w .inputClocks)) (w .inputCodes)) (w .memory)
     (ltb (w .written) (length (w .outputClocks)))
 
 -- the next clock is done and writes the halt address
@@ -64,7 +64,7 @@ unfolding plainOf
 stop-twelve halt w on = rw (eq-eqb (w .stop) 0 on) (by-clock (clockIn w) refl)
   where
     by-clock : (x : Clocked) → clockIn w ≡ x
-        → eqb (after (r6501q halt) w (dueIn (r6501q halt) w) (clockOutcome halt (w .memory) x) .stop) 12
+        → eqb (after (r6501q halt) w (inputCountIn (r6501q halt) w) (clockOutcome halt (w .memory) x) .stop) 12
         ≡ halts halt (toldBy x)
     by-clock (Stopped number) e =
         stop-either (λ (k : ℕ). eqb k 12 ≡ false) refl refl (w .state) _ (w .memory) _ number e
@@ -86,22 +86,24 @@ plain-halts halt w = by-running (runningIn w) refl
     none : World
     none = plain Nowhere w
 
-    by-clock : (x : Clocked) → let due = dueIn (r6501q halt) w in
-        after (r6501q halt) w due (clockOutcome halt (w .memory) x)
+    by-clock : (x : Clocked) → let inputs = inputCountIn (r6501q halt) w in
+        after (r6501q halt) w inputs (clockOutcome halt (w .memory) x)
         ≡ cond (halts halt (toldBy x))
-        (stoppedAt haltStop (after (r6501q Nowhere) w due (clockOutcome Nowhere (w .memory) x)))
-        (after (r6501q Nowhere) w due (clockOutcome Nowhere (w .memory) x))
+        (stoppedAt haltStop (after (r6501q Nowhere) w inputs (clockOutcome Nowhere (w .memory) x)))
+        (after (r6501q Nowhere) w inputs (clockOutcome Nowhere (w .memory) x))
     by-clock (Stopped number) = sym (cond-no (halts halt noWrites) _ _ (unwritten halt noWrites refl))
     by-clock (Done e) =
         stop-chosen (halts halt (e .writes))
-        (after (r6501q Nowhere) w (dueIn (r6501q halt) w) (clockOutcome Nowhere (w .memory) (Done e)))
+        (after (r6501q Nowhere) w (inputCountIn (r6501q halt) w) (clockOutcome Nowhere (w .memory) (Done e)))
 
     by-running : (t : Bool) → runningIn w ≡ t
-        → cond t (after (r6501q halt) w (dueIn (r6501q halt) w) (clockOutcome halt (w .memory) (clockIn w))) w
+        → cond t (after (r6501q halt) w (inputCountIn (r6501q halt) w) (clockOutcome halt (w .memory) (clockIn w))) w
         ≡ cond (t && halts halt (toldBy (clockIn w)))
         (stoppedAt haltStop
-        (cond t (after (r6501q Nowhere) w (dueIn (r6501q Nowhere) w) (clockOutcome Nowhere (w .memory) (clockIn w))) w))
-        (cond t (after (r6501q Nowhere) w (dueIn (r6501q Nowhere) w) (clockOutcome Nowhere (w .memory) (clockIn w))) w)
+        (cond t (after (r6501q Nowhere) w (inputCountIn (r6501q Nowhere) w)
+        (clockOutcome Nowhere (w .memory) (clockIn w))) w))
+        (cond t (after (r6501q Nowhere) w (inputCountIn (r6501q Nowhere) w)
+        (clockOutcome Nowhere (w .memory) (clockIn w))) w)
     by-running true e = by-clock (clockIn w)
     by-running false e = refl
 
@@ -110,7 +112,7 @@ stopped-plain : (halt : Halt) (w : World) → runningIn w ≡ false → plain ha
 unfolding plainOf
 stopped-plain halt w e = rw e
 
-stopped-plains : (halt : Halt) (n : ℕ) (w : World) → runningIn w ≡ false → plains (chip halt) n w ≡ w
+stopped-plains : (halt : Halt) (n : ℕ) (w : World) → runningIn w ≡ false → plains (system halt) n w ≡ w
 unfolding plains
 stopped-plains halt zero w e = refl
 stopped-plains halt (suc n) w e = rw (stopped-plain halt w e) (stopped-plains halt n w e)
@@ -130,9 +132,10 @@ clocksBefore halt (suc n) w = cond (writesHalt halt w) 0 (suc (clocksBefore halt
 -- n plain clocks with a halt address: those with none up to the first that writes it, that one included, and the stop
 -- 12; where none of the n writes it, those with none
 pub plains-halt : (halt : Halt) (n : ℕ) (w : World)
-    → plains (chip halt) n w
-    ≡ cond (ltb (clocksBefore halt n w) n) (stoppedAt haltStop (plains (chip Nowhere) (suc (clocksBefore halt n w)) w))
-    (plains (chip Nowhere) n w)
+    → plains (system halt) n w
+    ≡ cond (ltb (clocksBefore halt n w) n)
+    (stoppedAt haltStop (plains (system Nowhere) (suc (clocksBefore halt n w)) w))
+    (plains (system Nowhere) n w)
 unfolding plains
 plains-halt halt zero w = refl
 plains-halt halt (suc n) w = by-test (writesHalt halt w) refl (plains-halt halt n (plain Nowhere w))
@@ -144,19 +147,19 @@ plains-halt halt (suc n) w = by-test (writesHalt halt w) refl (plains-halt halt 
     k = clocksBefore halt n v
 
     by-test : (t : Bool) → writesHalt halt w ≡ t
-        → plains (chip halt) n v
-        ≡ cond (ltb k n) (stoppedAt haltStop (plains (chip Nowhere) (suc k) v)) (plains (chip Nowhere) n v)
-        → plains (chip halt) n (plain halt w)
+        → plains (system halt) n v
+        ≡ cond (ltb k n) (stoppedAt haltStop (plains (system Nowhere) (suc k) v)) (plains (system Nowhere) n v)
+        → plains (system halt) n (plain halt w)
         ≡ cond (ltb (cond (writesHalt halt w) 0 (suc k)) (suc n))
-        (stoppedAt haltStop (plains (chip Nowhere) (cond (writesHalt halt w) 0 (suc k)) v))
-        (plains (chip Nowhere) n v)
+        (stoppedAt haltStop (plains (system Nowhere) (cond (writesHalt halt w) 0 (suc k)) v))
+        (plains (system Nowhere) n v)
     by-test true e later =
         rw (plain-halts halt w, e, lt-ltb 0 (suc n) (omega arith)) (stopped-plains halt n (stoppedAt haltStop v) refl)
     by-test false e later = rw (plain-halts halt w, e, ltb-suc k n) later
 
 -- no clock before it writes it, and it does
 pub before-unwritten : (halt : Halt) (n : ℕ) (w : World) (j : ℕ) → j < clocksBefore halt n w
-    → writesHalt halt (plains (chip Nowhere) j w) ≡ false
+    → writesHalt halt (plains (system Nowhere) j w) ≡ false
 unfolding plains
 before-unwritten halt zero w j h = absurd (omega arith)
 before-unwritten halt (suc n) w j h = by-test (writesHalt halt w) refl j h (before-unwritten halt n (plain Nowhere w))
@@ -165,14 +168,14 @@ before-unwritten halt (suc n) w j h = by-test (writesHalt halt w) refl j h (befo
     v = plain Nowhere w
 
     by-test : (t : Bool) → writesHalt halt w ≡ t → (j : ℕ) → j < cond t 0 (suc (clocksBefore halt n v))
-        → ((i : ℕ) → i < clocksBefore halt n v → writesHalt halt (plains (chip Nowhere) i v) ≡ false)
-        → writesHalt halt (plains (chip Nowhere) j w) ≡ false
+        → ((i : ℕ) → i < clocksBefore halt n v → writesHalt halt (plains (system Nowhere) i v) ≡ false)
+        → writesHalt halt (plains (system Nowhere) j w) ≡ false
     by-test true e j h later = absurd (omega arith)
     by-test false e zero h later = e
     by-test false e (suc j) h later = later j (omega arith)
 
 pub first-written : (halt : Halt) (n : ℕ) (w : World) → clocksBefore halt n w < n
-    → writesHalt halt (plains (chip Nowhere) (clocksBefore halt n w) w) ≡ true
+    → writesHalt halt (plains (system Nowhere) (clocksBefore halt n w) w) ≡ true
 unfolding plains
 first-written halt zero w h = absurd (omega arith)
 first-written halt (suc n) w h = by-test (writesHalt halt w) refl h (first-written halt n (plain Nowhere w))
@@ -181,8 +184,8 @@ first-written halt (suc n) w h = by-test (writesHalt halt w) refl h (first-writt
     k = clocksBefore halt n (plain Nowhere w)
 
     by-test : (t : Bool) → writesHalt halt w ≡ t → cond t 0 (suc k) < suc n
-        → (k < n → writesHalt halt (plains (chip Nowhere) k (plain Nowhere w)) ≡ true)
-        → writesHalt halt (plains (chip Nowhere) (cond t 0 (suc k)) w) ≡ true
+        → (k < n → writesHalt halt (plains (system Nowhere) k (plain Nowhere w)) ≡ true)
+        → writesHalt halt (plains (system Nowhere) (cond t 0 (suc k)) w) ≡ true
     by-test true e h later = e
     by-test false e h later = later (omega arith)
 
@@ -199,19 +202,19 @@ plain-none w other = by-running (runningIn w) refl
     by-running true e = stop-twelve Nowhere w (eqb-true (w .stop) 0 e) ∙ never (runningIn w)
     by-running false e = rw (stopped-plain Nowhere w e) other
 
-pub none-twelve : (n : ℕ) (w : World) → eqb (w .stop) 12 ≡ false → eqb (plains (chip Nowhere) n w .stop) 12 ≡ false
+pub none-twelve : (n : ℕ) (w : World) → eqb (w .stop) 12 ≡ false → eqb (plains (system Nowhere) n w .stop) 12 ≡ false
 unfolding plains
 none-twelve zero w other = other
 none-twelve (suc n) w other = none-twelve n (plain Nowhere w) (plain-none w other)
 
 -- n plain clocks stop with 12 just where one of them writes the halt address: the last that is done, and no earlier one
 pub plains-twelve : (halt : Halt) (n : ℕ) (w : World) → w .stop ≡ 0
-    → eqb (plains (chip halt) n w .stop) 12 ≡ ltb (clocksBefore halt n w) n
+    → eqb (plains (system halt) n w .stop) 12 ≡ ltb (clocksBefore halt n w) n
 plains-twelve halt n w on = rw (plains-halt halt n w) (by-test (ltb (clocksBefore halt n w) n))
   where
     by-test : (t : Bool)
-        → eqb (cond t (stoppedAt haltStop (plains (chip Nowhere) (suc (clocksBefore halt n w)) w))
-        (plains (chip Nowhere) n w) .stop) 12 ≡ t
+        → eqb (cond t (stoppedAt haltStop (plains (system Nowhere) (suc (clocksBefore halt n w)) w))
+        (plains (system Nowhere) n w) .stop) 12 ≡ t
     by-test true = refl
     by-test false = none-twelve n w (rw on refl)
 
@@ -251,7 +254,7 @@ unfolding plainOf
 memory-told halt w e = rw e (by-clock (clockIn w))
   where
     by-clock : (x : Clocked)
-        → after (r6501q halt) w (dueIn (r6501q halt) w) (clockOutcome halt (w .memory) x) .memory
+        → after (r6501q halt) w (inputCountIn (r6501q halt) w) (clockOutcome halt (w .memory) x) .memory
         ≡ inTurn storedIn (told (toldBy x)) (w .memory)
     by-clock (Stopped number) = refl
     by-clock (Done ended) = committed-told (w .memory) (ended .writes)
@@ -275,7 +278,7 @@ gap-untold s memory free inside =
 -- "a leap never passes it": a clock that is no event clock tells no write
 pub quiet-untold : (s : State) (codes memory : List ℕ) (free : Bool) → eventOf s codes ≡ false
     → toldBy (clockOf s codes memory free) ≡ noWrites
-unfolding eventOf hasInput dueCount
+unfolding eventOf hasInput inputCount
 quiet-untold s (code ∷ codes) memory free e = absurd (false≢true (sym e))
 quiet-untold s [] memory free e = by-gap (eqb (gapOf 1 s [] .0) 0) refl
   where

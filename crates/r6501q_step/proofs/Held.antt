@@ -7,9 +7,10 @@ use Prim.Native.Nat.{ℕ, zero, suc, _+_, _-_, _/_, _%_, _<_}
 use native.Mathlib.Omega.{arith}
 use lib.Dec.{ltb, eqb}
 use borrow.Author.Tests.{ltb-true, ltb-false, lt-ltb, le-ltb, eqb-true, eqb-false, eq-eqb, ne-eqb}
-use Rattle.bits.specs.Bits.{digit, withBit, setWhere, flipWhere}
-use Rattle.pin_lists.specs.PinLists.{dueCount}
-use Rattle.counters.specs.Counters.{ticksOf, inForce, downA, countsA, clockA, runsA, reloadB, downB, clockB, runsB}
+use Rattle.bits.specs.Bits.{oneWhere, withBit, setWhere, flipWhere}
+use Rattle.pin_lists.specs.PinLists.{inputCount}
+use Rattle.counters.specs.Counters.{ticksOf, inForce, downA, countsA, clockA, countsThroughA, reloadB, downB, clockB}
+use Rattle.counters.specs.Counters.{countsThroughB}
 use Rattle.serial_format.specs.Format.{transmitterAsynchronous, receiverAsynchronous, receiverShifting, holdsA}
 use Rattle.serial.specs.Receiver.{receiverClock}
 use Rattle.serial.specs.Transmitter.{transmitterClock}
@@ -31,13 +32,13 @@ use Rattle.r6501q_clock.specs.Commit.{putWrite, committed}
 use Rattle.r6501q_gaps.specs.Events.{hasInput, sameLevels, levelsChange, underflowsA, underflowsB, portsFresh}
 use Rattle.r6501q_gaps.specs.Events.{controlFresh, transmitterIdle, receiverIdle, isReset, resetChanges, cpuStarts}
 use Rattle.r6501q_gaps.specs.Events.{putsByte, eventOf}
-use Rattle.r6501q_gaps.specs.Gaps.{runningA, runningB, toInput, toChange, toUnderflowA, toUnderflowB, toReset, toCpu}
+use Rattle.r6501q_gaps.specs.Gaps.{countingA, countingB, toInput, toChange, toUnderflowA, toUnderflowB, toReset, toCpu}
 use Rattle.r6501q_gaps.specs.Gaps.{gapOf}
 use Rattle.r6501q_gaps.proofs.Gaps.{gap-no-event}
 use Rattle.leaps.specs.Leaps.{eventsIn, quietEnd, plains, trace, leapCount}
 use Rattle.leaps.specs.World.{putRecord, plainOf, doneIn, eventIn}
 use Rattle.leaps.specs.Calls.{callStart}
-use Rattle.r6501q_step.specs.R6501q.{World, r6501q, plain, chip}
+use Rattle.r6501q_step.specs.R6501q.{World, r6501q, plain, system}
 
 -- fresh but for the count of both counters, IFR and the clock
 abbrev heldWith : ℕ → ℕ → ℕ → State
@@ -74,14 +75,14 @@ heldEvents n = n / 0x10000 + (n - 1) / 0x10000
 -- the leaps of n clocks: 01, "event clocks done, plus 1 if the last clock done isn't an event clock; 0 if no clock is
 -- done"
 abbrev pub heldLeaps : ℕ → ℕ
-heldLeaps n = cond (eqb n 0) 0 (heldEvents n + digit (not (heldEvent n)))
+heldLeaps n = cond (eqb n 0) 0 (heldEvents n + oneWhere (not (heldEvent n)))
 
 -- clock n + 1 is counted among the event clocks just where it is one
-event-counted : (n : ℕ) → digit (heldEvent (n + 1)) + heldEvents n ≡ heldEvents (n + 1)
+event-counted : (n : ℕ) → oneWhere (heldEvent (n + 1)) + heldEvents n ≡ heldEvents (n + 1)
 event-counted n = by-tests (ltb 1 (n + 1)) (eqb ((n + 1) % 0x10000) 0) (eqb ((n + 1) % 0x10000) 1) refl refl refl
   where
     by-tests : (a b c : Bool) → ltb 1 (n + 1) ≡ a → eqb ((n + 1) % 0x10000) 0 ≡ b → eqb ((n + 1) % 0x10000) 1 ≡ c
-        → digit (a && (b || c)) + heldEvents n ≡ heldEvents (n + 1)
+        → oneWhere (a && (b || c)) + heldEvents n ≡ heldEvents (n + 1)
     by-tests false b c e f g = omega (arith, ltb-false 1 (n + 1) e)
     by-tests true true c e f g = omega (arith, ltb-true 1 (n + 1) e, eqb-true ((n + 1) % 0x10000) 0 f)
     by-tests true false true e f g = omega (arith, ltb-true 1 (n + 1) e, eqb-true ((n + 1) % 0x10000) 1 g)
@@ -100,7 +101,7 @@ module _ (halt : Halt) (memory times words : List ℕ) where
 
   at-underflow : (ifr clock : ℕ)
       → plain halt (heldIn (heldWith 0 ifr clock)) ≡ heldIn (heldWith 0xFFFF 0x30 (clock + 1))
-  unfolding withBit setWhere flipWhere dueCount ticksOf inForce downA countsA clockA reloadB downB clockB
+  unfolding withBit setWhere flipWhere inputCount ticksOf inForce downA countsA clockA reloadB downB clockB
       transmitterAsynchronous receiverAsynchronous receiverShifting holdsA receiverClock transmitterClock modeA modeB
       driveA driveD drivenWord levelsOf rose fell edges withEdges resetOf sensedAt sensed withInputs countA countB
       sentBy heardBy peripheralsClock readyOf finished clockOf putWrite committed processorOf plainOf putRecord
@@ -109,7 +110,7 @@ module _ (halt : Halt) (memory times words : List ℕ) where
 
   counted-down : (count ifr clock : ℕ) → eqb count 0 ≡ false
       → plain halt (heldIn (heldWith count ifr clock)) ≡ heldIn (heldWith (count - 1) 0 (clock + 1))
-  unfolding withBit setWhere flipWhere dueCount ticksOf inForce downA countsA clockA reloadB downB clockB
+  unfolding withBit setWhere flipWhere inputCount ticksOf inForce downA countsA clockA reloadB downB clockB
       transmitterAsynchronous receiverAsynchronous receiverShifting holdsA receiverClock transmitterClock modeA modeB
       driveA driveD drivenWord levelsOf rose fell edges withEdges resetOf sensedAt sensed withInputs countA countB
       sentBy heardBy peripheralsClock readyOf finished clockOf putWrite committed processorOf plainOf putRecord
@@ -145,20 +146,20 @@ module _ (halt : Halt) (memory times words : List ℕ) where
 
   -- ---- any number of clocks
 
-  held-on : (n k : ℕ) → plains (chip halt) n (heldIn (heldState k)) ≡ heldIn (heldState (k + n))
+  held-on : (n k : ℕ) → plains (system halt) n (heldIn (heldState k)) ≡ heldIn (heldState (k + n))
   unfolding plains
   held-on zero k = let e : k + 0 ≡ k = omega arith in rw e
   held-on (suc n) k = let e : k + suc n ≡ k + 1 + n = omega arith in rw (held-next k, e) (held-on n (k + 1))
 
   -- "a fresh chip with no inputs" after n plain clocks: memory, lists and every field as they were, but the clock, both
   -- counters and IFR; nothing read, recorded or stopped
-  pub held-clocks : (n : ℕ) → plains (chip halt) n (heldIn fresh) ≡ heldIn (heldState n)
+  pub held-clocks : (n : ℕ) → plains (system halt) n (heldIn fresh) ≡ heldIn (heldState n)
   held-clocks n =
-      ap (λ (s : State). plains (chip halt) n (heldIn s)) (sym held-fresh) ∙ held-on n 0
+      ap (λ (s : State). plains (system halt) n (heldIn s)) (sym held-fresh) ∙ held-on n 0
       ∙ ap (λ (m : ℕ). heldIn (heldState m)) (omega arith)
 
   -- "stays without a CPU start"
-  pub held-no-start : (n : ℕ) → cpuStarts (sensed (inputsSet (plains (chip halt) n (heldIn fresh) .state) [])) ≡ false
+  pub held-no-start : (n : ℕ) → cpuStarts (sensed (inputsSet (plains (system halt) n (heldIn fresh) .state) [])) ≡ false
   unfolding cpuStarts putsByte sensed sensedAt levelsOf resetOf withEdges withInputs byteWaits
   held-no-start n = rw (held-clocks n)
 
@@ -166,7 +167,7 @@ module _ (halt : Halt) (memory times words : List ℕ) where
 
   event-at : (ifr clock : ℕ) → eventIn (r6501q halt) (heldIn (heldWith 0 ifr clock)) ≡ true
   unfolding eventIn hasInput sameLevels levelsChange underflowsA underflowsB portsFresh controlFresh transmitterIdle
-      receiverIdle isReset resetChanges cpuStarts putsByte eventOf withBit setWhere flipWhere dueCount ticksOf inForce
+      receiverIdle isReset resetChanges cpuStarts putsByte eventOf withBit setWhere flipWhere inputCount ticksOf inForce
       downA countsA clockA reloadB downB clockB transmitterAsynchronous receiverAsynchronous receiverShifting holdsA
       receiverClock transmitterClock modeA modeB driveA driveD drivenWord levelsOf rose fell edges withEdges resetOf
       sensedAt sensed withInputs countA countB sentBy heardBy peripheralsClock readyOf finished clockOf putWrite
@@ -175,7 +176,7 @@ module _ (halt : Halt) (memory times words : List ℕ) where
 
   event-after : (clock : ℕ) → eventIn (r6501q halt) (heldIn (heldWith 0xFFFF 0x30 clock)) ≡ true
   unfolding eventIn hasInput sameLevels levelsChange underflowsA underflowsB portsFresh controlFresh transmitterIdle
-      receiverIdle isReset resetChanges cpuStarts putsByte eventOf withBit setWhere flipWhere dueCount ticksOf inForce
+      receiverIdle isReset resetChanges cpuStarts putsByte eventOf withBit setWhere flipWhere inputCount ticksOf inForce
       downA countsA clockA reloadB downB clockB transmitterAsynchronous receiverAsynchronous receiverShifting holdsA
       receiverClock transmitterClock modeA modeB driveA driveD drivenWord levelsOf rose fell edges withEdges resetOf
       sensedAt sensed withInputs countA countB sentBy heardBy peripheralsClock readyOf finished clockOf putWrite
@@ -183,9 +184,11 @@ module _ (halt : Halt) (memory times words : List ℕ) where
   event-after clock = refl
 
   in-gap : (count clock : ℕ) → 0 < count → 0 < gapOf 1 (heldWith count 0 clock) [] .0
-  unfolding gapOf toInput toChange toUnderflowA toUnderflowB toReset toCpu runningA runningB runsA runsB eventIn
+  unfolding gapOf toInput toChange toUnderflowA toUnderflowB toReset toCpu countingA countingB countsThroughA
+      countsThroughB eventIn
       hasInput sameLevels levelsChange underflowsA underflowsB portsFresh controlFresh transmitterIdle receiverIdle
-      isReset resetChanges cpuStarts putsByte eventOf withBit setWhere flipWhere dueCount ticksOf inForce downA countsA
+      isReset resetChanges cpuStarts putsByte eventOf withBit setWhere flipWhere inputCount ticksOf inForce downA
+      countsA
       clockA reloadB downB clockB transmitterAsynchronous receiverAsynchronous receiverShifting holdsA receiverClock
       transmitterClock modeA modeB driveA driveD drivenWord levelsOf rose fell edges withEdges resetOf sensedAt sensed
       withInputs countA countB sentBy heardBy peripheralsClock readyOf finished clockOf putWrite committed processorOf
@@ -193,11 +196,11 @@ module _ (halt : Halt) (memory times words : List ℕ) where
   in-gap count clock some = omega (arith, some)
 
   no-event : (count clock : ℕ) → 0 < count → eventIn (r6501q halt) (heldIn (heldWith count 0 clock)) ≡ false
-  unfolding eventIn dueCount
+  unfolding eventIn inputCount
   no-event count clock some = gap-no-event 1 (heldWith count 0 clock) [] (in-gap count clock some)
 
   done-at : (count ifr clock : ℕ) → doneIn (r6501q halt) (heldIn (heldWith count ifr clock)) ≡ true
-  unfolding doneIn withBit setWhere flipWhere dueCount ticksOf inForce downA countsA clockA reloadB downB clockB
+  unfolding doneIn withBit setWhere flipWhere inputCount ticksOf inForce downA countsA clockA reloadB downB clockB
       transmitterAsynchronous receiverAsynchronous receiverShifting holdsA receiverClock transmitterClock modeA modeB
       driveA driveD drivenWord levelsOf rose fell edges withEdges resetOf sensedAt sensed withInputs countA countB
       sentBy heardBy peripheralsClock readyOf finished clockOf putWrite committed processorOf plainOf putRecord
@@ -252,31 +255,32 @@ module _ (halt : Halt) (memory times words : List ℕ) where
   abbrev held : ℕ → World
   held k = heldIn (heldState k)
 
-  trace-next : (n k : ℕ) → trace (chip halt) (suc n) (held k) ≡ heldEvent (k + 1) ∷ trace (chip halt) n (held (k + 1))
+  trace-next : (n k : ℕ)
+      → trace (system halt) (suc n) (held k) ≡ heldEvent (k + 1) ∷ trace (system halt) n (held (k + 1))
   unfolding trace
   trace-next n k =
       rw (done-at (heldCount k) (heldFlags k) k, trace)
-      (ap {B = List Bool} (λ (w : World). eventIn (r6501q halt) (held k) ∷ trace (chip halt) n w) (held-next k)
-      ∙ ap {B = List Bool} (λ (e : Bool). e ∷ trace (chip halt) n (held (k + 1))) (held-event k))
+      (ap {B = List Bool} (λ (w : World). eventIn (r6501q halt) (held k) ∷ trace (system halt) n w) (held-next k)
+      ∙ ap {B = List Bool} (λ (e : Bool). e ∷ trace (system halt) n (held (k + 1))) (held-event k))
 
-  events-held : (n k : ℕ) → eventsIn (trace (chip halt) n (held k)) + heldEvents k ≡ heldEvents (k + n)
+  events-held : (n k : ℕ) → eventsIn (trace (system halt) n (held k)) + heldEvents k ≡ heldEvents (k + n)
   unfolding eventsIn trace
   events-held zero k = let e : k + 0 ≡ k = omega arith in rw e (omega arith)
   events-held (suc n) k =
       let e : k + suc n ≡ k + 1 + n = omega arith in
       rw (trace-next n k, e) (omega (arith, events-held n (k + 1), event-counted k))
 
-  end-held : (n k : ℕ) → quietEnd (trace (chip halt) (suc n) (held k)) ≡ digit (not (heldEvent (k + suc n)))
+  end-held : (n k : ℕ) → quietEnd (trace (system halt) (suc n) (held k)) ≡ oneWhere (not (heldEvent (k + suc n)))
   unfolding quietEnd trace
   end-held zero k = rw (trace-next 0 k)
   end-held (suc n) k =
       let e : k + suc (suc n) ≡ k + 1 + suc n = omega arith in
       rw (trace-next (suc n) k, trace-next n (k + 1), e) (ap quietEnd (sym (trace-next n (k + 1))) ∙ end-held n (k + 1))
 
-  pub held-leaps : (n : ℕ) → leapCount (chip halt) n (heldIn fresh) ≡ heldLeaps n
+  pub held-leaps : (n : ℕ) → leapCount (system halt) n (heldIn fresh) ≡ heldLeaps n
   unfolding leapCount trace eventsIn quietEnd
   held-leaps zero = refl
   held-leaps (suc n) =
       let e : 0 + suc n ≡ suc n = omega arith in
-      ap (λ (s : State). leapCount (chip halt) (suc n) (heldIn s)) (sym held-fresh)
+      ap (λ (s : State). leapCount (system halt) (suc n) (heldIn s)) (sym held-fresh)
       ∙ rw (end-held n 0, e, ne-eqb (suc n) 0 (λ z. omega (arith, z))) (omega (arith, events-held (suc n) 0))

@@ -1,6 +1,6 @@
 pub mod Worlds
 pub mod Calls
-pub mod LowMemory
+pub mod Untouched
 pub mod Stops
 pub mod Halted
 pub mod Held

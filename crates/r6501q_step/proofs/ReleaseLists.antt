@@ -11,7 +11,7 @@ use lib.ListN.{length, take, drop}
 use borrow.Author.Tests.{ltb-true, ltb-false, lt-ltb, le-ltb, eqb-true, eqb-false, eq-eqb, ne-eqb}
 use Rattle.bits.specs.Lists.{allOf}
 use Rattle.bits.proofs.Cond.{and-left, and-right}
-use Rattle.pin_lists.specs.PinLists.{pinOf, codeRight, entryRight, restRight, pinsRight, dueCount}
+use Rattle.pin_lists.specs.PinLists.{pinOf, codeRight, entryRight, restRight, pinsRight, inputCount}
 use Rattle.r6501q_state.specs.Inputs.{lastPin, resHigh}
 
 -- a list with one entry more, behind the first `count`
@@ -20,10 +20,10 @@ inserted count x l = take count l ++ (x ∷ drop count l)
 
 -- the lists with RES high on clock 1 too, last of that clock's inputs
 abbrev pub releaseClocks : List ℕ → List ℕ
-releaseClocks clocks = inserted (dueCount 1 clocks) 1 clocks
+releaseClocks clocks = inserted (inputCount 1 clocks) 1 clocks
 
 abbrev pub releaseCodes : List ℕ → List ℕ → List ℕ
-releaseCodes clocks codes = inserted (dueCount 1 clocks) resHigh codes
+releaseCodes clocks codes = inserted (inputCount 1 clocks) resHigh codes
 
 -- inputs of pins below RES, the last pin
 abbrev pub belowRes : List ℕ → Bool
@@ -40,14 +40,14 @@ inserted-drop (suc k) x [] h = absurd (omega arith)
 inserted-drop (suc k) x (y ∷ l) h = inserted-drop k x l (le-of-suc-le-suc h)
 
 -- it is one of clock 1's inputs
-pub due-inserted : (clocks : List ℕ) → dueCount 1 (releaseClocks clocks) ≡ suc (dueCount 1 clocks)
-unfolding dueCount
-due-inserted [] = refl
-due-inserted (t ∷ clocks) = by-test (eqb t 1) refl (due-inserted clocks)
+pub input-count-inserted : (clocks : List ℕ) → inputCount 1 (releaseClocks clocks) ≡ suc (inputCount 1 clocks)
+unfolding inputCount
+input-count-inserted [] = refl
+input-count-inserted (t ∷ clocks) = by-test (eqb t 1) refl (input-count-inserted clocks)
   where
-    by-test : (first : Bool) → eqb t 1 ≡ first → dueCount 1 (releaseClocks clocks) ≡ suc (dueCount 1 clocks)
-        → dueCount 1 (inserted (cond first (suc (dueCount 1 clocks)) 0) 1 (t ∷ clocks))
-        ≡ suc (cond first (suc (dueCount 1 clocks)) 0)
+    by-test : (first : Bool) → eqb t 1 ≡ first → inputCount 1 (releaseClocks clocks) ≡ suc (inputCount 1 clocks)
+        → inputCount 1 (inserted (cond first (suc (inputCount 1 clocks)) 0) 1 (t ∷ clocks))
+        ≡ suc (cond first (suc (inputCount 1 clocks)) 0)
     by-test true e later = rw e (ap suc later)
     by-test false e later = rw e
 
@@ -85,58 +85,58 @@ unfolding entryRight
 entry-behind pin t code e = rw (ne-eqb 1 t (λ z. eqb-false t 1 e (sym z)))
 
 -- so the lists are right just where they were
-rest-same : (pin : ℕ) (ts cs : List ℕ) → pin < lastPin → belowRes (take (dueCount 1 ts) cs) ≡ true
+rest-same : (pin : ℕ) (ts cs : List ℕ) → pin < lastPin → belowRes (take (inputCount 1 ts) cs) ≡ true
     → restRight lastPin 1 pin (releaseClocks ts) (releaseCodes ts cs) ≡ restRight lastPin 1 pin ts cs
-unfolding restRight dueCount
+unfolding restRight inputCount
 rest-same pin [] [] h b = rw (entry-res pin h)
 rest-same pin [] (c ∷ cs) h b = rw (entry-res pin h)
 rest-same pin (t ∷ ts) [] h b = by-test (eqb t 1) refl
   where
     by-test : (first : Bool) → eqb t 1 ≡ first
-        → restRight lastPin 1 pin (inserted (cond first (suc (dueCount 1 ts)) 0) 1 (t ∷ ts))
-        (inserted (cond first (suc (dueCount 1 ts)) 0) resHigh []) ≡ false
-    by-test true e = rw (no-codes t lastPin (dueCount 1 ts) 1 ts) (and-none (entryRight lastPin 1 pin t resHigh))
+        → restRight lastPin 1 pin (inserted (cond first (suc (inputCount 1 ts)) 0) 1 (t ∷ ts))
+        (inserted (cond first (suc (inputCount 1 ts)) 0) resHigh []) ≡ false
+    by-test true e = rw (no-codes t lastPin (inputCount 1 ts) 1 ts) (and-none (entryRight lastPin 1 pin t resHigh))
     by-test false e = and-none (entryRight lastPin 1 pin 1 resHigh)
 rest-same pin (t ∷ ts) (c ∷ cs) h b = by-test (eqb t 1) refl b (rest-same (pinOf c) ts cs)
   where
-    by-test : (first : Bool) → eqb t 1 ≡ first → belowRes (take (cond first (suc (dueCount 1 ts)) 0) (c ∷ cs)) ≡ true
-        → (pinOf c < lastPin → belowRes (take (dueCount 1 ts) cs) ≡ true
+    by-test : (first : Bool) → eqb t 1 ≡ first → belowRes (take (cond first (suc (inputCount 1 ts)) 0) (c ∷ cs)) ≡ true
+        → (pinOf c < lastPin → belowRes (take (inputCount 1 ts) cs) ≡ true
         → restRight lastPin 1 (pinOf c) (releaseClocks ts) (releaseCodes ts cs) ≡ restRight lastPin 1 (pinOf c) ts cs)
-        → restRight lastPin 1 pin (inserted (cond first (suc (dueCount 1 ts)) 0) 1 (t ∷ ts))
-        (inserted (cond first (suc (dueCount 1 ts)) 0) resHigh (c ∷ cs))
+        → restRight lastPin 1 pin (inserted (cond first (suc (inputCount 1 ts)) 0) 1 (t ∷ ts))
+        (inserted (cond first (suc (inputCount 1 ts)) 0) resHigh (c ∷ cs))
         ≡ (entryRight lastPin 1 pin t c && restRight lastPin t (pinOf c) ts cs)
     by-test true e below later =
         let is = eqb-true t 1 e in
         let lower =
-        ltb-true (pinOf c) lastPin (and-left (ltb (pinOf c) lastPin) (belowRes (take (dueCount 1 ts) cs)) below) in
+        ltb-true (pinOf c) lastPin (and-left (ltb (pinOf c) lastPin) (belowRes (take (inputCount 1 ts) cs)) below) in
         rw is (ap (λ (r : Bool). entryRight lastPin 1 pin 1 c && r)
-        (later lower (and-right (ltb (pinOf c) lastPin) (belowRes (take (dueCount 1 ts) cs)) below)))
+        (later lower (and-right (ltb (pinOf c) lastPin) (belowRes (take (inputCount 1 ts) cs)) below)))
     by-test false e below later = rw (entry-res pin h, entry-behind pin t c e)
 
-pub pins-same : (ts cs : List ℕ) → belowRes (take (dueCount 1 ts) cs) ≡ true
+pub pins-same : (ts cs : List ℕ) → belowRes (take (inputCount 1 ts) cs) ≡ true
     → pinsRight lastPin 0 (releaseClocks ts) (releaseCodes ts cs) ≡ pinsRight lastPin 0 ts cs
-unfolding pinsRight restRight dueCount codeRight entryRight
+unfolding pinsRight restRight inputCount codeRight entryRight
 pins-same [] [] b = refl
 pins-same [] (c ∷ cs) b = refl
 pins-same (t ∷ ts) [] b = by-test (eqb t 1) refl
   where
     by-test : (first : Bool) → eqb t 1 ≡ first
-        → pinsRight lastPin 0 (inserted (cond first (suc (dueCount 1 ts)) 0) 1 (t ∷ ts))
-        (inserted (cond first (suc (dueCount 1 ts)) 0) resHigh []) ≡ false
-    by-test true e = rw (no-codes t lastPin (dueCount 1 ts) 1 ts) (and-none (ltb 0 t))
+        → pinsRight lastPin 0 (inserted (cond first (suc (inputCount 1 ts)) 0) 1 (t ∷ ts))
+        (inserted (cond first (suc (inputCount 1 ts)) 0) resHigh []) ≡ false
+    by-test true e = rw (no-codes t lastPin (inputCount 1 ts) 1 ts) (and-none (ltb 0 t))
     by-test false e = refl
 pins-same (t ∷ ts) (c ∷ cs) b = by-test (eqb t 1) refl b
   where
-    by-test : (first : Bool) → eqb t 1 ≡ first → belowRes (take (cond first (suc (dueCount 1 ts)) 0) (c ∷ cs)) ≡ true
-        → pinsRight lastPin 0 (inserted (cond first (suc (dueCount 1 ts)) 0) 1 (t ∷ ts))
-        (inserted (cond first (suc (dueCount 1 ts)) 0) resHigh (c ∷ cs))
+    by-test : (first : Bool) → eqb t 1 ≡ first → belowRes (take (cond first (suc (inputCount 1 ts)) 0) (c ∷ cs)) ≡ true
+        → pinsRight lastPin 0 (inserted (cond first (suc (inputCount 1 ts)) 0) 1 (t ∷ ts))
+        (inserted (cond first (suc (inputCount 1 ts)) 0) resHigh (c ∷ cs))
         ≡ (codeRight lastPin c && ltb 0 t && restRight lastPin t (pinOf c) ts cs)
     by-test true e below =
         let is = eqb-true t 1 e in
         let lower =
-        ltb-true (pinOf c) lastPin (and-left (ltb (pinOf c) lastPin) (belowRes (take (dueCount 1 ts) cs)) below) in
+        ltb-true (pinOf c) lastPin (and-left (ltb (pinOf c) lastPin) (belowRes (take (inputCount 1 ts) cs)) below) in
         rw is (ap (λ (r : Bool). codeRight lastPin c && ltb 0 1 && r) (rest-same (pinOf c) ts cs lower
-        (and-right (ltb (pinOf c) lastPin) (belowRes (take (dueCount 1 ts) cs)) below)))
+        (and-right (ltb (pinOf c) lastPin) (belowRes (take (inputCount 1 ts) cs)) below)))
     by-test false e below = by-zero (ltb 0 t) refl
       where
         other : t ≡ 1 → ⊥

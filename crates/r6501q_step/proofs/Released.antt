@@ -10,8 +10,8 @@ use lib.ListN.{length, take, drop}
 use borrow.Author.Tests.{ltb-true, ltb-false, eq-eqb}
 use Rattle.bits.specs.Bits.{withBit, setWhere, flipWhere}
 use Rattle.bits.proofs.Cond.{and-left, and-right}
-use Rattle.pin_lists.specs.PinLists.{pinOf, highOf, dueCount}
-use Rattle.pin_lists.proofs.PinLists.{due-within}
+use Rattle.pin_lists.specs.PinLists.{pinOf, highOf, inputCount}
+use Rattle.pin_lists.proofs.PinLists.{input-count-within}
 use Rattle.refusals.specs.Refusals.{refusalOf}
 use Rattle.cpu_access.specs.Waiting.{byteWaits}
 use Rattle.r6501q_state.specs.declared.state.Levels.{Levels}
@@ -24,7 +24,7 @@ use Rattle.serial.specs.Receiver.{receiverClock}
 use Rattle.serial.specs.Transmitter.{transmitterClock}
 use Rattle.cpu_access.specs.declared.halt.Halt.{Halt}
 use Rattle.cpu_access.specs.Accesses.{peripheralsRead, performed}
-use Rattle.cpu.specs.Sequence.{resetAccesses}
+use Rattle.cpu.specs.InstructionAccesses.{resetAccesses}
 use Rattle.r6501q_cpu.specs.Processor.{resetStart, startOf, processorOf}
 use Rattle.r6501q_state.specs.Control.{modeA, modeB}
 use Rattle.r6501q_state.specs.Pins.{driveA, driveD, drivenWord, levelsOf, rose, fell, edges, withEdges, resetOf}
@@ -41,7 +41,7 @@ use Rattle.leaps.specs.World.{after, outcomeIn, plainOf, isDone, doneIn, eventI
 use Rattle.leaps.specs.Calls.{callStart, refusalIn}
 use Rattle.r6501q_step.specs.R6501q.{World, clockOutcome, r6501q, plain}
 use Rattle.r6501q_step.proofs.ReleaseLists.{releaseClocks, releaseCodes, belowRes, inserted-take, inserted-drop}
-use Rattle.r6501q_step.proofs.ReleaseLists.{inserted-length, due-inserted, suc-same, pins-same}
+use Rattle.r6501q_step.proofs.ReleaseLists.{inserted-length, input-count-inserted, suc-same, pins-same}
 
 -- the old start: fresh with RES high in both its levels
 abbrev pub released : State
@@ -195,51 +195,52 @@ pub old-done : (halt : Halt) (memory clocks codes times words : List ℕ)
     → doneIn (r6501q halt) (oldStart memory clocks codes times words) ≡ true
 unfolding doneIn
 old-done halt memory clocks codes times words =
-    first-done halt (take (dueCount 1 clocks) codes) memory (ltb 0 (length times))
+    first-done halt (take (inputCount 1 clocks) codes) memory (ltb 0 (length times))
 
 module _ (halt : Halt) (memory clocks codes times words : List ℕ)
-    (below : belowRes (take (dueCount 1 clocks) codes) ≡ true)
-    (within : dueCount 1 clocks ≤ length codes) where
+    (below : belowRes (take (inputCount 1 clocks) codes) ≡ true)
+    (within : inputCount 1 clocks ≤ length codes) where
   abbrev start : World
   start = releasedStart memory clocks codes times words
 
   abbrev old : World
   old = oldStart memory clocks codes times words
 
-  abbrev due : ℕ
-  due = dueCount 1 clocks
+  abbrev inputs : ℕ
+  inputs = inputCount 1 clocks
 
-  codes-due : take (dueCount 1 (releaseClocks clocks)) (releaseCodes clocks codes) ≡ take due codes ++ (resHigh ∷ [])
-  codes-due = rw (due-inserted clocks) (inserted-take due resHigh codes within)
+  codes-taken : take (inputCount 1 (releaseClocks clocks)) (releaseCodes clocks codes)
+      ≡ take inputs codes ++ (resHigh ∷ [])
+  codes-taken = rw (input-count-inserted clocks) (inserted-take inputs resHigh codes within)
 
   abbrev outcome : ClockOutcome State
-  outcome = outcomeIn (r6501q halt) old due
+  outcome = outcomeIn (r6501q halt) old inputs
 
-  outcome-same : outcomeIn (r6501q halt) start (dueCount 1 (releaseClocks clocks)) ≡ outcome
+  outcome-same : outcomeIn (r6501q halt) start (inputCount 1 (releaseClocks clocks)) ≡ outcome
   outcome-same =
       rw (
-        codes-due,
-        clock-same (take due codes ++ (resHigh ∷ [])) (take due codes) memory (ltb 0 (length times))
-            (released-levels (take due codes) below),
+        codes-taken,
+        clock-same (take inputs codes ++ (resHigh ∷ [])) (take inputs codes) memory (ltb 0 (length times))
+            (released-levels (take inputs codes) below),
       )
 
   outcome-done : isDone outcome ≡ true
-  outcome-done = first-done halt (take due codes) memory (ltb 0 (length times))
+  outcome-done = first-done halt (take inputs codes) memory (ltb 0 (length times))
 
   after-same : (o : ClockOutcome State) → isDone o ≡ true
-      → after (r6501q halt) start (suc due) o ≡ oneMoreRead (after (r6501q halt) old due o)
+      → after (r6501q halt) start (suc inputs) o ≡ oneMoreRead (after (r6501q halt) old inputs o)
   after-same (stopped number) e = absurd (false≢true e)
   after-same (ended end) e =
-      let read : 0 + suc due ≡ 0 + due + 1 = omega arith in
-      rw (inserted-drop due 1 clocks (due-within 1 clocks), inserted-drop due resHigh codes within, read)
+      let read : 0 + suc inputs ≡ 0 + inputs + 1 = omega arith in
+      rw (inserted-drop inputs 1 clocks (input-count-within 1 clocks), inserted-drop inputs resHigh codes within, read)
 
   pub first-plain : plain halt start ≡ oneMoreRead (plain halt old)
   unfolding plainOf fresh
-  first-plain = rw (outcome-same, due-inserted clocks) (after-same outcome outcome-done)
+  first-plain = rw (outcome-same, input-count-inserted clocks) (after-same outcome outcome-done)
 
   pub first-event : eventIn (r6501q halt) start ≡ eventIn (r6501q halt) old
   unfolding eventIn fresh
-  first-event = rw (codes-due) (event-new (take due codes) resHigh) ∙ sym (event-old (take due codes))
+  first-event = rw (codes-taken) (event-new (take inputs codes) resHigh) ∙ sym (event-old (take inputs codes))
 
   pub start-done : doneIn (r6501q halt) start ≡ true
   unfolding doneIn fresh
@@ -248,10 +249,10 @@ module _ (halt : Halt) (memory clocks codes times words : List ℕ)
 -- A list that sets RES on clock 1 itself, the last of that clock's pins, needs no other input: the first clock is the
 -- old start's in all
 module _ (halt : Halt) (memory clocks codes times words front : List ℕ) (code : ℕ)
-    (given : take (dueCount 1 clocks) codes ≡ front ++ (code ∷ []))
+    (given : take (inputCount 1 clocks) codes ≡ front ++ (code ∷ []))
     (below : belowRes front ≡ true) (res : pinOf code ≡ lastPin) where
-  given-outcome : outcomeIn (r6501q halt) (callStart fresh memory clocks codes times words) (dueCount 1 clocks)
-      ≡ outcomeIn (r6501q halt) (oldStart memory clocks codes times words) (dueCount 1 clocks)
+  given-outcome : outcomeIn (r6501q halt) (callStart fresh memory clocks codes times words) (inputCount 1 clocks)
+      ≡ outcomeIn (r6501q halt) (oldStart memory clocks codes times words) (inputCount 1 clocks)
   given-outcome =
       rw (
         given,
@@ -260,8 +261,8 @@ module _ (halt : Halt) (memory clocks codes times words front : List ℕ) (code 
       )
 
   given-after : (o : ClockOutcome State) → isDone o ≡ true
-      → after (r6501q halt) (callStart fresh memory clocks codes times words) (dueCount 1 clocks) o
-      ≡ after (r6501q halt) (oldStart memory clocks codes times words) (dueCount 1 clocks) o
+      → after (r6501q halt) (callStart fresh memory clocks codes times words) (inputCount 1 clocks) o
+      ≡ after (r6501q halt) (oldStart memory clocks codes times words) (inputCount 1 clocks) o
   given-after (stopped number) e = absurd (false≢true e)
   given-after (ended end) e = refl
 
@@ -270,8 +271,8 @@ module _ (halt : Halt) (memory clocks codes times words front : List ℕ) (code 
   unfolding plainOf fresh
   given-plain =
       rw given-outcome
-      (given-after (outcomeIn (r6501q halt) (oldStart memory clocks codes times words) (dueCount 1 clocks))
-      (first-done halt (take (dueCount 1 clocks) codes) memory (ltb 0 (length times))))
+      (given-after (outcomeIn (r6501q halt) (oldStart memory clocks codes times words) (inputCount 1 clocks))
+      (first-done halt (take (inputCount 1 clocks) codes) memory (ltb 0 (length times))))
 
   pub given-event : eventIn (r6501q halt) (callStart fresh memory clocks codes times words)
       ≡ eventIn (r6501q halt) (oldStart memory clocks codes times words)
@@ -280,18 +281,18 @@ module _ (halt : Halt) (memory clocks codes times words front : List ℕ) (code 
 
   pub given-done : doneIn (r6501q halt) (callStart fresh memory clocks codes times words) ≡ true
   unfolding doneIn fresh
-  given-done = rw given-outcome (first-done halt (take (dueCount 1 clocks) codes) memory (ltb 0 (length times)))
+  given-done = rw given-outcome (first-done halt (take (inputCount 1 clocks) codes) memory (ltb 0 (length times)))
 
 -- a call for any number of clocks is refused just where it was, with the same number
 pub refusal-same : (halt : Halt) (n : ℕ) (memory clocks codes times words : List ℕ)
-    → belowRes (take (dueCount 1 clocks) codes) ≡ true
+    → belowRes (take (inputCount 1 clocks) codes) ≡ true
     → refusalIn (r6501q halt) n (releasedStart memory clocks codes times words)
     ≡ refusalIn (r6501q halt) n (oldStart memory clocks codes times words)
 unfolding refusalOf fresh wellFormed
 refusal-same halt n memory clocks codes times words below =
     rw (
-      inserted-length (dueCount 1 clocks) 1 clocks,
-      inserted-length (dueCount 1 clocks) resHigh codes,
+      inserted-length (inputCount 1 clocks) 1 clocks,
+      inserted-length (inputCount 1 clocks) resHigh codes,
       suc-same (length clocks) (length codes),
       pins-same clocks codes below,
     )

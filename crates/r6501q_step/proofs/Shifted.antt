@@ -14,12 +14,12 @@ use Rattle.cpu_access.specs.declared.waiting.Waiting.{Waiting}
 use Rattle.cpu_access.specs.declared.waiting.Waiting.the-variants.{Nothing, Byte}
 use Rattle.cpu_access.specs.declared.stack.Write.{Write}
 use Rattle.cpu_access.specs.Waiting.{byteWaits}
-use Rattle.cpu.specs.Sequence.{Ending, undefined, leaves, instructionAccesses}
-use Rattle.memory.specs.Memory.{memorySpan}
+use Rattle.cpu.specs.InstructionAccesses.{Ending, undefined, leaves, instructionAccesses}
+use Rattle.memory.specs.Memory.{memoryLength}
 use Rattle.pin_lists.specs.PinLists.{pinsRight}
 use Rattle.refusals.specs.Refusals.{lastClock, refusalOf}
 use Rattle.leaps.specs.Leaps.{plains, leapCount}
-use Rattle.leaps.specs.Lists.{stepOf, runOf}
+use Rattle.leaps.specs.CallLists.{stepOf, runOf}
 use Rattle.leaps.specs.Calls.{callStart, refusalIn}
 use Rattle.leaps.specs.Shifted.{shiftedClocks, shiftedOutcome, ShiftedWorld, ShiftedHanded, clockRefusal, RefusedAlike}
 use Rattle.leaps.proofs.Shifted as theory
@@ -40,7 +40,7 @@ use Rattle.r6501q_clock.specs.Clock.{inputsSet, readyOf, fullStop, endedWith, f
 use Rattle.r6501q_gaps.specs.Events.{levelsChange, underflowsA, underflowsB, resetChanges, cpuStarts, putsByte, isReset}
 use Rattle.r6501q_gaps.specs.Events.{eventOf}
 use Rattle.r6501q_gaps.specs.Gaps.{toInput, toChange, toUnderflowA, toUnderflowB, toReset, toCpu, gapOf, passOf}
-use Rattle.r6501q_step.specs.R6501q.{World, clockOutcome, r6501q, chip, machine}
+use Rattle.r6501q_step.specs.R6501q.{World, clockOutcome, r6501q, system, machine}
 use Rattle.r6501q_step.specs.Shifted.{shiftedState}
 
 module _ (k : ℕ) where
@@ -166,10 +166,10 @@ shift-laws halt = record {
 
 module _ (halt : Halt) (k : ℕ) (w v : World) (r : ShiftedWorld shiftedState k w v) where
   -- any number of plain clocks leaves two such worlds, in as many leaps by document 01's count;
-  pub plains-shifted : (n : ℕ) → ShiftedWorld shiftedState k (plains (chip halt) n w) (plains (chip halt) n v)
+  pub plains-shifted : (n : ℕ) → ShiftedWorld shiftedState k (plains (system halt) n w) (plains (system halt) n v)
   plains-shifted n = theory.plains-shifted (r6501q halt) shiftedState (shift-laws halt) k n w v r
 
-  pub count-shifted : (n : ℕ) → leapCount (chip halt) n v ≡ leapCount (chip halt) n w
+  pub count-shifted : (n : ℕ) → leapCount (system halt) n v ≡ leapCount (system halt) n w
   count-shifted n = theory.count-shifted (r6501q halt) shiftedState (shift-laws halt) k n w v r
 
   -- the single-clock call and the run hand back the same but for the clock, leaps too, refused or not, where 4 is told
@@ -213,9 +213,9 @@ module _ (halt : Halt) (k : ℕ) (s : State) (memory clocks codes times words ti
       (fit-alike halt k earlierStart laterStart start-alike n fits)
 
 -- 4 does differ: a fresh chip may do a clock, and at the last clock none
-pub four-differs : (halt : Halt) (memory : List ℕ) → length memory ≡ memorySpan
+pub four-differs : (halt : Halt) (memory : List ℕ) → length memory ≡ memoryLength
     → (refusalIn (r6501q halt) 1 (callStart fresh memory [] [] [] []) ≡ 0)
     × (refusalIn (r6501q halt) 1 (callStart (shiftedState lastClock fresh) memory [] [] [] []) ≡ clockRefusal)
 unfolding refusalOf wellFormed fresh pinsRight byteWaits
 four-differs halt memory whole =
-    (rw (eq-eqb (length memory) memorySpan whole), rw (eq-eqb (length memory) memorySpan whole))
+    (rw (eq-eqb (length memory) memoryLength whole), rw (eq-eqb (length memory) memoryLength whole))

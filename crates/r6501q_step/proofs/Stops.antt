@@ -13,7 +13,7 @@ use Rattle.cpu_opcodes.specs.declared.Decoded.{Decoded}
 use Rattle.cpu_opcodes.specs.declared.Decoded.the-variants as decoded
 use Rattle.cpu_opcodes.specs.declared.Entry.{Entry}
 use Rattle.cpu_opcodes.specs.Decode.{decodeOf}
-use Rattle.leaps.specs.World.{after, dueIn, runningIn, plainOf}
+use Rattle.leaps.specs.World.{after, inputCountIn, runningIn, plainOf}
 use Rattle.r6501q_state.specs.declared.state.State.{State}
 use Rattle.r6501q_state.specs.Pins.{drivenWord}
 use Rattle.r6501q_cpu.specs.declared.Next.{Next}
@@ -86,29 +86,29 @@ halt-not-six : (t : Bool) → eqb (cond t haltStop 0) 6 ≡ false
 halt-not-six true = refl
 halt-not-six false = refl
 
-by-record : (halt : Halt) (w : World) (due : ℕ) (n : Next) (word : ℕ) (differs free : Bool)
-    → eqb (after (r6501q halt) w due (clockOutcome halt (w .memory) (finished n word differs free)) .stop) 6 ≡ false
+by-record : (halt : Halt) (w : World) (inputs : ℕ) (n : Next) (word : ℕ) (differs free : Bool)
+    → eqb (after (r6501q halt) w inputs (clockOutcome halt (w .memory) (finished n word differs free)) .stop) 6 ≡ false
 unfolding finished
-by-record halt w due n word true true = halt-not-six (halts halt (n .writes))
-by-record halt w due n word true false = refl
-by-record halt w due n word false free = halt-not-six (halts halt (n .writes))
+by-record halt w inputs n word true true = halt-not-six (halts halt (n .writes))
+by-record halt w inputs n word true false = refl
+by-record halt w inputs n word false free = halt-not-six (halts halt (n .writes))
 
-by-end : (halt : Halt) (w : World) (due : ℕ) (free : Bool) (p : Processed)
-    → eqb (after (r6501q halt) w due
+by-end : (halt : Halt) (w : World) (inputs : ℕ) (free : Bool) (p : Processed)
+    → eqb (after (r6501q halt) w inputs
     (clockOutcome halt (w .memory) (recorded (drivenWord (w .state .peripherals)) free p)) .stop) 6 ≡ stopsWithSix p
-by-end halt w due free (processed.Stopped number) = refl
-by-end halt w due free (processed.Done n) = by-record halt w due n _ _ free
+by-end halt w inputs free (processed.Stopped number) = refl
+by-end halt w inputs free (processed.Done n) = by-record halt w inputs n _ _ free
 
 -- A plain clock stops with 6 just where its steps 1 to 3 leave such a state.
 pub stop-six : (halt : Halt) (w : World) → w .stop ≡ 0
     → eqb (plain halt w .stop) 6
-    ≡ startsUndefined (readyOf (w .state) (take (dueIn (r6501q halt) w) (w .inputCodes))) (w .memory)
+    ≡ startsUndefined (readyOf (w .state) (take (inputCountIn (r6501q halt) w) (w .inputCodes))) (w .memory)
 unfolding plainOf clockOf
 stop-six halt w running =
-    let due = dueIn (r6501q halt) w in
+    let inputs = inputCountIn (r6501q halt) w in
     let free = ltb (w .written) (length (w .outputClocks)) in
-    let s = readyOf (w .state) (take due (w .inputCodes)) in
-    let clocked = clockOf (w .state) (take due (w .inputCodes)) (w .memory) free in
+    let s = readyOf (w .state) (take inputs (w .inputCodes)) in
+    let clocked = clockOf (w .state) (take inputs (w .inputCodes)) (w .memory) free in
     ap (λ (v : World). eqb (v .stop) 6) (cond-yes (runningIn w)
-    (after (r6501q halt) w due (clockOutcome halt (w .memory) clocked)) w (eq-eqb (w .stop) 0 running))
-    ∙ by-end halt w due free (processorOf s (w .memory)) ∙ processor-undefined s (w .memory)
+    (after (r6501q halt) w inputs (clockOutcome halt (w .memory) clocked)) w (eq-eqb (w .stop) 0 running))
+    ∙ by-end halt w inputs free (processorOf s (w .memory)) ∙ processor-undefined s (w .memory)

@@ -3,7 +3,7 @@ use mathlib.Core.List.{List}
 use Prim.Native.Nat.{ℕ}
 use lib.Dec.{ltb}
 use denote.Ref.{now}
-use Rattle.bits.specs.Bits.{digit}
+use Rattle.bits.specs.Bits.{oneWhere}
 use Rattle.leaps.specs.Lent.{Lent}
 use Rattle.r6501q_state.specs.declared.state.State.{State}
 use Rattle.r6501q_step.specs.declared.Progress.{Progress}
@@ -49,4 +49,4 @@ progressResult leaps p = record {
 -- 01, Run and leaps, for one clock: "Leaps = event clocks done, plus 1 if the last clock done isn't an event clock; 0
 -- if no clock is done", so 1 where the clock moved (`single-run` of r6501q_run/proofs/Fair.antt)
 abbrev pub leapsFrom : ℕ → ℕ → ℕ
-leapsFrom before now = digit (ltb before now)
+leapsFrom before now = oneWhere (ltb before now)

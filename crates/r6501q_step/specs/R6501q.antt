@@ -2,7 +2,7 @@
 use mathlib.Core.Bool.{Bool, true, false, cond}
 use mathlib.Core.List.{List}
 use Prim.Native.Nat.{ℕ}
-use Rattle.memory.specs.Memory.{memorySpan}
+use Rattle.memory.specs.Memory.{memoryLength}
 use Rattle.refusals.specs.declared.Limits.{Limits}
 use Rattle.leaps.specs.Leaps.{System}
 use Rattle.cpu_access.specs.declared.stack.Writes.{Writes}
@@ -10,7 +10,7 @@ use Rattle.cpu_access.specs.declared.halt.Halt.{Halt}
 use Rattle.cpu_access.specs.Halt.{halts}
 use Rattle.leaps.specs.Chip.{ChipRules, ClockEnd, ClockOutcome, stopped, ended}
 use Rattle.leaps.specs.World as leaps
-use Rattle.leaps.specs.Lists.{Machine}
+use Rattle.leaps.specs.CallLists.{Machine}
 use Rattle.leaps.specs.Calls as calls
 use Rattle.r6501q_state.specs.declared.state.State.{State}
 use Rattle.r6501q_state.specs.State.{wellFormed}
@@ -25,7 +25,7 @@ use Rattle.r6501q_gaps.specs.Gaps.{clocksOf, gapOf, passOf}
 
 -- 01, What is handed back: "1 | memory not 65,536 bytes"; 01, Pin lists: "33 RES"
 abbrev pub r6501qLimits : Limits
-r6501qLimits = record { memory = memorySpan; pin = lastPin }
+r6501qLimits = record { memory = memoryLength; pin = lastPin }
 
 -- 02, U4: "a plain clock with such a write is done, then stops with 12"
 abbrev pub stopAfter : Halt → Writes → ℕ
@@ -73,8 +73,8 @@ abbrev pub plain : Halt → World → World
 plain halt = leaps.plainOf (r6501q halt)
 
 -- as a machine that leaps, and as one that calls move
-abbrev pub chip : Halt → System World
-chip halt = leaps.systemOf (r6501q halt)
+abbrev pub system : Halt → System World
+system halt = leaps.systemOf (r6501q halt)
 
 abbrev pub machine : Halt → Machine World Handed Result
 machine halt = calls.machineOf (r6501q halt)

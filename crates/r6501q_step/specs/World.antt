@@ -4,7 +4,7 @@ use mathlib.Core.List.{List}
 use Prim.Native.Nat.{ℕ, _+_, _≤_, _<_}
 use lib.ListN.{length, drop}
 use denote.Ref.{now}
-use Rattle.bits.specs.Bits.{digit}
+use Rattle.bits.specs.Bits.{oneWhere}
 use Rattle.refusals.specs.Refusals.{lastClock}
 use Rattle.leaps.specs.Lent.{Lent}
 use Rattle.cpu_access.specs.declared.halt.Halt.{Halt}
@@ -37,16 +37,16 @@ worldAtExit p memory inputClocks inputCodes outputClocks outputWords =
     worldOf p (now (memory .exit)) (now (inputClocks .entry)) (now (inputCodes .entry)) (now (outputClocks .exit))
     (now (outputWords .exit))
 
--- the two ends of a clock, of what the code carries: a stop, and nothing else changes; or the clock done, of which
--- `due` inputs were due
+-- the two ends of a clock, of what the code carries: a stop, and nothing else changes; or the clock done, which has
+-- `inputs` inputs
 abbrev pub stoppedWith : ℕ → Progress → Progress
 stoppedWith number p = record { state = p .state; read = p .read; written = p .written; stop = number }
 
 abbrev pub progressTo : Halt → Ended → ℕ → Progress → Progress
-progressTo halt e due p = record {
+progressTo halt e inputs p = record {
   state = e .state;
-  read = p .read + due;
-  written = p .written + digit (e .differs);
+  read = p .read + inputs;
+  written = p .written + oneWhere (e .differs);
   stop = stopAfter halt (e .writes);
 }
 

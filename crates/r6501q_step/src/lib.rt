@@ -2,15 +2,15 @@
 ghost use mathlib.Core.Path.{_≡_};
 ghost use Prim.Native.Nat.{_+_, _≤_, _<_, _^_};
 ghost use lib.ListN.{length, take, drop};
-ghost use Rattle.bits.specs.Bits.{digit};
+ghost use Rattle.bits.specs.Bits.{oneWhere};
 ghost use Rattle.page_sums.specs.PageSums.{sumsAfter};
-ghost use Rattle.pin_lists.specs.PinLists.{dueCount};
+ghost use Rattle.pin_lists.specs.PinLists.{inputCount};
 ghost use Rattle.refusals.specs.Refusals.{lastClock, refusalOf};
 ghost use Rattle.leaps.specs.World.{putRecord};
-ghost use Rattle.leaps.specs.Lists.{stepOf};
+ghost use Rattle.leaps.specs.CallLists.{stepOf};
 ghost use Rattle.leaps.specs.Lent.{atEntry};
 ghost use Rattle.leaps.specs.Summed.{withSums};
-ghost use Rattle.cpu_opcodes.specs.Table.{opcodeTable};
+ghost use Rattle.cpu_opcodes.specs.TableInCode.{opcodeTable};
 ghost use Rattle.r6501q_state.specs.State.{wellFormed};
 ghost use Rattle.r6501q_clock.specs.Clock.{clockOf};
 ghost use Rattle.r6501q_clock.specs.Commit.{committed};
@@ -20,10 +20,10 @@ ghost use Rattle.r6501q_step.specs.Calls.{begin, refusalResult, progress
 use cpu_access::halt::Halt;
 use cpu_access::halt::halts;
 use cpu_access::stack::Writes;
-use memory::MEMORY_SPAN;
+use memory::MEMORY_LENGTH;
 use page_sums::WRONG_PAGE_LIST;
 use page_sums::page_list_refused;
-use pin_lists::inputs_due;
+use pin_lists::input_count;
 use r6501q_clock::Clocked;
 use r6501q_clock::Ended;
 use r6501q_clock::HALTED;
@@ -67,35 +67,35 @@ fn put_record(list: &mut [u32], differs: bool, at: usize, value: u32)
 // The records written once one more is, where the word differs.
 fn written_after(written: usize, differs: bool) -> usize
     requires { ⌜ written + 1 < 2 ^ 64 ⌝ }
-    ensures { λ r. ⌜ r ≡ written + digit differs ⌝ }
+    ensures { λ r. ⌜ r ≡ written + oneWhere differs ⌝ }
 {
     if differs { written + 1 } else { written }
 }
 
 // How many inputs of a clock stand at the front of the part of the list that begins at its first unread entry.
-fn due_from(inputclocks: &[u32], from: usize, clock: u32) -> usize
+fn input_count_from(inputclocks: &[u32], from: usize, clock: u32) -> usize
     requires { ⌜ from ≤ length (now inputclocks) ⌝ }
-    ensures { λ r. ⌜ r ≡ dueCount clock (drop from (now (inputclocks .entry))) ⌝ }
+    ensures { λ r. ⌜ r ≡ inputCount clock (drop from (now (inputclocks .entry))) ⌝ }
 {
-    inputs_due(clock, &inputclocks[from..])
+    input_count(clock, &inputclocks[from..])
 }
 
-// What the next clock comes to, of which `due` inputs are due.
+// What the next clock comes to, which has `inputs` inputs.
 fn outcome_from(
     p: Progress,
-    due: usize,
+    inputs: usize,
     memory: &[u8],
     inputcodes: &[u8],
     free: bool,
     entries: &[u16],
 ) -> Clocked
-    requires { ⌜ (p .state .clock < lastClock) × (p .read + due ≤ length (now inputcodes)) ⌝ }
+    requires { ⌜ (p .state .clock < lastClock) × (p .read + inputs ≤ length (now inputcodes)) ⌝ }
     requires { ⌜ now entries ≡ opcodeTable ⌝ }
-    ensures { λ r. ⌜ r ≡ clockOf (p .state) (take due (drop (p .read) (now (inputcodes .entry))))
+    ensures { λ r. ⌜ r ≡ clockOf (p .state) (take inputs (drop (p .read) (now (inputcodes .entry))))
         (now (memory .entry)) free ⌝ }
 {
     let from = p.read;
-    let upto = from + due;
+    let upto = from + inputs;
     r6501q_clock::clock(p.state, &inputcodes[from..upto], memory, free, entries)
 }
 
@@ -112,7 +112,7 @@ fn stop_after(writes: Writes, halt: Halt) -> u8
 // A clock that is done: its writes, its record, its inputs, and the stop where it wrote the halt address.
 fn complete(
     p: Progress,
-    due: usize,
+    inputs: usize,
     ended: Ended,
     memory: &mut [u8],
     sums: &mut [u16],
@@ -120,8 +120,8 @@ fn complete(
     outputwords: &mut [u32],
     halt: Halt,
 ) -> Progress
-    requires { ⌜ (p .read + due < 2 ^ 64) × (p .written + 1 < 2 ^ 64) ⌝ }
-    ensures { λ r. ⌜ r ≡ progressTo halt ended due p ⌝ }
+    requires { ⌜ (p .read + inputs < 2 ^ 64) × (p .written + 1 < 2 ^ 64) ⌝ }
+    ensures { λ r. ⌜ r ≡ progressTo halt ended inputs p ⌝ }
     ensures { λ _. ⌜ now (memory .exit) ≡ committed (now (memory .entry)) (ended .writes) ⌝ }
     ensures { λ _. ⌜ now (outputclocks .exit)
         ≡ putRecord (ended .differs) (p .written) (ended .state .clock) (now (outputclocks .entry)) ⌝ }
@@ -137,7 +137,7 @@ fn complete(
     put_record(outputwords, differs, written, ended.word);
     Progress {
         state: state,
-        read: p.read + due,
+        read: p.read + inputs,
         written: written_after(written, differs),
         stop: stop_after(ended.writes, halt),
     }
@@ -174,14 +174,14 @@ pub fn advance(
         ≡ plain halt (worldAtEntry p memory inputclocks inputcodes outputclocks outputwords) ⌝ }
     ensures { λ _. ⌜ now (sums .exit) ≡ sumsAfter (now (sums .entry)) (now (memory .entry)) (now (memory .exit)) ⌝ }
 {
-    let due = due_from(inputclocks, p.read, p.state.clock + 1);
+    let inputs = input_count_from(inputclocks, p.read, p.state.clock + 1);
     let free = p.written < outputclocks.len();
-    let clocked = outcome_from(p, due, memory, inputcodes, free, entries);
+    let clocked = outcome_from(p, inputs, memory, inputcodes, free, entries);
     match clocked {
         Clocked::Stopped(number) => stop_at(number, p),
         Clocked::Done(ended) => complete(
             p,
-            due,
+            inputs,
             ended,
             memory,
             sums,
@@ -197,7 +197,7 @@ pub fn limits() -> Limits
     ensures { λ r. ⌜ r ≡ r6501qLimits ⌝ }
 {
     Limits {
-        memory: MEMORY_SPAN,
+        memory: MEMORY_LENGTH,
         pin: LAST_PIN,
     }
 }
@@ -205,14 +205,14 @@ pub fn limits() -> Limits
 // The number of the first check that fails of a call for n clocks, or 0.
 pub fn call_refusal(
     state: State,
-    span: usize,
+    bytes: usize,
     inputclocks: &[u32],
     inputcodes: &[u8],
     outputclocks: usize,
     outputwords: usize,
     n: u32,
 ) -> u8
-    ensures { λ r. ⌜ r ≡ refusalOf r6501qLimits (wellFormed state) (state .clock) span (now (inputclocks .entry))
+    ensures { λ r. ⌜ r ≡ refusalOf r6501qLimits (wellFormed state) (state .clock) bytes (now (inputclocks .entry))
         (now (inputcodes .entry)) outputclocks outputwords n ⌝ }
 {
     let formed = well_formed(state);
@@ -220,7 +220,7 @@ pub fn call_refusal(
         limits(),
         formed,
         state.clock,
-        span,
+        bytes,
         inputclocks,
         inputcodes,
         outputclocks,

@@ -6,18 +6,18 @@ use native.Mathlib.Nat.{zero-add, sub-zero}
 use native.Mathlib.Omega.{arith}
 use lib.Dec.{leb, eqb}
 use borrow.Author.Tests.{eqb-true, not-true}
-use Rattle.bits.specs.Bits.{bit, digit, withBit, setWhere, flipWhere}
+use Rattle.bits.specs.Bits.{bit, oneWhere, withBit, setWhere, flipWhere}
 use Rattle.bits.proofs.Cond.{and-left, and-right}
 use Rattle.counters.specs.declared.a.CounterA.{CounterA}
 use Rattle.counters.specs.declared.b.CounterB.{CounterB}
-use Rattle.counters.specs.Counters.{clockA, countsA, downA, runsA, passA, passB, ticksOf}
+use Rattle.counters.specs.Counters.{clockA, countsA, downA, countsThroughA, passA, passB, ticksOf}
 use Rattle.counters.proofs.Gaps.{pass-add-b}
 use Rattle.r6501q_state.specs.declared.state.Peripherals.{Peripherals}
 use Rattle.r6501q_state.specs.Copies.{withCounterA, withCounterB}
 use Rattle.r6501q_state.specs.Control.{modeA}
 use Rattle.r6501q_state.specs.Pins.{rose, driveA, driveD, drivenWord}
 use Rattle.r6501q_clock.specs.Clock.{countA, countB, sentBy, heardBy, peripheralsClock}
-use Rattle.r6501q_gaps.specs.Gaps.{clocksOf, runningA, runningB}
+use Rattle.r6501q_gaps.specs.Gaps.{clocksOf, countingA, countingB}
 use Rattle.r6501q_gaps.proofs.Quiet.{no-rise, above-zero, counted-b-quiet, peripherals-quiet}
 use Rattle.r6501q_unseen.specs.Ticks.{underflowsIn, counterAfter, unseenSends, sentAfter, unseenListens}
 use Rattle.r6501q_unseen.specs.Ticks.{heardAfter, underflowUnseen, unseenTicks}
@@ -54,29 +54,29 @@ hidden ticks ports p = by-test (underflowUnseen (p .control)) refl
 -- without a tick
 abbrev quietStep : ℕ → Peripherals → Peripherals
 quietStep ports p =
-    withCounterB (withCounterA p (stepA (runningA (p .control) ports) (p .countera)))
-    (passB (p .counterb) (runningB (p .control)) (clocksOf 1))
+    withCounterB (withCounterA p (stepA (countingA (p .control) ports) (p .countera)))
+    (passB (p .counterb) (countingB (p .control)) (clocksOf 1))
 
-stepped-quiet : (running : Bool) (c : CounterA) → (running && eqb (c .count) 0) ≡ false
-    → passA c running (clocksOf 1) ≡ stepA running c
+stepped-quiet : (counting : Bool) (c : CounterA) → (counting && eqb (c .count) 0) ≡ false
+    → passA c counting (clocksOf 1) ≡ stepA counting c
 unfolding passA downA
 stepped-quiet true c e = rw e
 stepped-quiet false c e = refl
 
 quiet-clock : (ports : ℕ) (p : Peripherals) → ticksNext ports p ≡ false
-    → (runningB (p .control) ≡ true → 0 < p .counterb .count)
+    → (countingB (p .control) ≡ true → 0 < p .counterb .count)
     → peripheralsClock p ports ports ≡ quietStep ports p
 unfolding ticksNext
 quiet-clock ports p e b =
-    peripherals-quiet p ports (above-zero (runningA (p .control) ports) (p .countera .count) e) b
-    ∙ rw (stepped-quiet (runningA (p .control) ports) (p .countera) e)
+    peripherals-quiet p ports (above-zero (countingA (p .control) ports) (p .countera .count) e) b
+    ∙ rw (stepped-quiet (countingA (p .control) ports) (p .countera) e)
 
 -- with a tick that cannot be seen
 abbrev tickStep : ℕ → Peripherals → Peripherals
 tickStep ports p = record {
   ports = p .ports;
-  countera = stepA (runningA (p .control) ports) (p .countera);
-  counterb = passB (p .counterb) (runningB (p .control)) (clocksOf 1);
+  countera = stepA (countingA (p .control) ports) (p .countera);
+  counterb = passB (p .counterb) (countingB (p .control)) (clocksOf 1);
   control = p .control;
   serial = p .serial;
   transmitter = sentAfter 1 (p .transmitter) (p .control .sccr);
@@ -89,17 +89,17 @@ set-already x e = let k = eqb-true (x / 2 ^ 4 % 2) 1 e in omega arith
 
 counted-a-tick : (ports : ℕ) (p : Peripherals) → ticksNext ports p ≡ true → underflowUnseen (p .control) ≡ true
     → countA p ports ports
-    ≡ record { peripherals = withCounterA p (stepA (runningA (p .control) ports) (p .countera)); ticks = ticksOf true }
-unfolding ticksNext underflowUnseen countA runningA runsA clockA downA setWhere flipWhere
+    ≡ record { peripherals = withCounterA p (stepA (countingA (p .control) ports) (p .countera)); ticks = ticksOf true }
+unfolding ticksNext underflowUnseen countA countingA countsThroughA clockA downA setWhere flipWhere
 counted-a-tick ports p e u =
-    let running : countsA (modeA (p .control .mcr) (p .control .sccr)) false (not (bit 4 ports)) ≡ true =
+    let counting : countsA (modeA (p .control .mcr) (p .control .sccr)) false (not (bit 4 ports)) ≡ true =
     and-left _ (eqb (p .countera .count) 0) e in
-    let zero-count : eqb (p .countera .count) 0 ≡ true = and-right (runningA (p .control) ports) _ e in
+    let zero-count : eqb (p .countera .count) 0 ≡ true = and-right (countingA (p .control) ports) _ e in
     let flag : bit 4 (p .control .ifr) ≡ true =
     and-left _ (not (eqb (modeA (p .control .mcr) (p .control .sccr)) 1)) u in
     let mode : eqb (modeA (p .control .mcr) (p .control .sccr)) 1 ≡ false =
     not-true _ (and-right (bit 4 (p .control .ifr)) _ u) in
-    rw (no-rise 4 ports, running, zero-count, mode, set-already (p .control .ifr) flag)
+    rw (no-rise 4 ports, counting, zero-count, mode, set-already (p .control .ifr) flag)
 
 sent-tick : (p : Peripherals) → 0 < unseenSends (p .transmitter) (p .control .sccr) (p .control .scsr)
     → sentBy p (ticksOf true)
@@ -134,11 +134,11 @@ heard-tick ports p h =
     )
 
 tick-clock : (ticks ports : ℕ) (p : Peripherals) → ticksNext ports p ≡ true → Hidden (suc ticks) ports p
-    → (runningB (p .control) ≡ true → 0 < p .counterb .count) → peripheralsClock p ports ports ≡ tickStep ports p
+    → (countingB (p .control) ≡ true → 0 < p .counterb .count) → peripheralsClock p ports ports ≡ tickStep ports p
 unfolding peripheralsClock
 tick-clock ticks ports p e h b =
-    let a = withCounterA p (stepA (runningA (p .control) ports) (p .countera)) in
-    let c = withCounterB a (passB (p .counterb) (runningB (p .control)) (clocksOf 1)) in
+    let a = withCounterA p (stepA (countingA (p .control) ports) (p .countera)) in
+    let c = withCounterB a (passB (p .counterb) (countingB (p .control)) (clocksOf 1)) in
     let sends : 0 < unseenSends (p .transmitter) (p .control .sccr) (p .control .scsr) = let k = h .sends in
     omega arith in
     let listens : 0 < unseenListens (p .receiver) (p .control .sccr) (bit 7 ports) = let k = h .listens in
@@ -151,15 +151,15 @@ tick-clock ticks ports p e h b =
 abbrev pub afterClocks : ℕ → ℕ → ℕ → Peripherals → Peripherals
 afterClocks n ticks ports p = record {
   ports = p .ports;
-  countera = counterAfter n (runningA (p .control) ports) (p .countera);
-  counterb = passB (p .counterb) (runningB (p .control)) (clocksOf n);
+  countera = counterAfter n (countingA (p .control) ports) (p .countera);
+  counterb = passB (p .counterb) (countingB (p .control)) (clocksOf n);
   control = p .control;
   serial = p .serial;
   transmitter = sentAfter ticks (p .transmitter) (p .control .sccr);
   receiver = heardAfter ticks (p .receiver) (p .control .sccr) (bit 7 ports);
 }
 
-pass-none : (c : CounterB) (running : Bool) → passB c running (clocksOf 0) ≡ c
+pass-none : (c : CounterB) (counting : Bool) → passB c counting (clocksOf 0) ≡ c
 unfolding passB
 pass-none c true = rw (sub-zero (c .count))
 pass-none c false = refl
@@ -167,37 +167,37 @@ pass-none c false = refl
 after-none : (ports : ℕ) (p : Peripherals) → afterClocks 0 0 ports p ≡ p
 after-none ports p =
     rw (
-      counter-same (runningA (p .control) ports) (p .countera),
-      pass-none (p .counterb) (runningB (p .control)),
+      counter-same (countingA (p .control) ports) (p .countera),
+      pass-none (p .counterb) (countingB (p .control)),
       send-none (p .transmitter) (p .control .sccr),
       hear-none (p .receiver) (p .control .sccr) (bit 7 ports),
     )
 
-pass-more : (n : ℕ) (c : CounterB) (running : Bool)
-    → passB (passB c running (clocksOf 1)) running (clocksOf n) ≡ passB c running (clocksOf (suc n))
-pass-more n c running =
+pass-more : (n : ℕ) (c : CounterB) (counting : Bool)
+    → passB (passB c counting (clocksOf 1)) counting (clocksOf n) ≡ passB c counting (clocksOf (suc n))
+pass-more n c counting =
     let e : 1 + n ≡ suc n = omega arith in
-    pass-add-b c running 1 n ∙ ap (λ (k : ℕ). passB c running (clocksOf k)) e
+    pass-add-b c counting 1 n ∙ ap (λ (k : ℕ). passB c counting (clocksOf k)) e
 
 after-quiet : (n ticks ports : ℕ) (p : Peripherals)
     → afterClocks n ticks ports (quietStep ports p) ≡ afterClocks (suc n) ticks ports p
 after-quiet n ticks ports p =
-    rw (counter-more n (runningA (p .control) ports) (p .countera), pass-more n (p .counterb) (runningB (p .control)))
+    rw (counter-more n (countingA (p .control) ports) (p .countera), pass-more n (p .counterb) (countingB (p .control)))
 
 after-tick : (n ticks ports : ℕ) (p : Peripherals) → 0 < unseenListens (p .receiver) (p .control .sccr) (bit 7 ports)
     → afterClocks n ticks ports (tickStep ports p) ≡ afterClocks (suc n) (suc ticks) ports p
 after-tick n ticks ports p h =
     rw (
-      counter-more n (runningA (p .control) ports) (p .countera),
-      pass-more n (p .counterb) (runningB (p .control)),
+      counter-more n (countingA (p .control) ports) (p .countera),
+      pass-more n (p .counterb) (countingB (p .control)),
       send-more ticks (p .transmitter) (p .control .sccr),
       hear-more ticks (p .receiver) (p .control .sccr) (bit 7 ports) h,
     )
 
-passed-left : (n : ℕ) (c : CounterB) (running : Bool) → running ≡ true → suc n ≤ c .count
-    → n ≤ passB c running (clocksOf 1) .count
+passed-left : (n : ℕ) (c : CounterB) (counting : Bool) → counting ≡ true → suc n ≤ c .count
+    → n ≤ passB c counting (clocksOf 1) .count
 unfolding passB
-passed-left n c running e h = rw e (omega arith)
+passed-left n c counting e h = rw e (omega arith)
 
 hidden-less : (ticks ports : ℕ) (p : Peripherals) → Hidden (suc ticks) ports p → Hidden ticks ports (tickStep ports p)
 hidden-less ticks ports p h = record {
@@ -214,7 +214,7 @@ hidden-less ticks ports p h = record {
 
 -- the closed form of n clocks whose ticks cannot be seen, and in which B does not underflow
 pub peripherals-closed : (n ports : ℕ) (p : Peripherals) → Hidden (ticksIn n ports p) ports p
-    → (runningB (p .control) ≡ true → n ≤ p .counterb .count)
+    → (countingB (p .control) ≡ true → n ≤ p .counterb .count)
     → peripheralsClocks n ports p ≡ afterClocks n (ticksIn n ports p) ports p
 unfolding peripheralsClocks ticksIn
 peripherals-closed zero ports p = λ h b. sym (after-none ports p)
@@ -223,19 +223,19 @@ peripherals-closed (suc n) ports p = by-test (λ q. peripherals-closed n ports q
     Closed : Type 0
     Closed = peripheralsClocks (suc n) ports p ≡ afterClocks (suc n) (ticksIn (suc n) ports p) ports p
 
-    above-b : (runningB (p .control) ≡ true → suc n ≤ p .counterb .count) → runningB (p .control) ≡ true
+    above-b : (countingB (p .control) ≡ true → suc n ≤ p .counterb .count) → countingB (p .control) ≡ true
         → 0 < p .counterb .count
     above-b b r = let k = b r in omega arith
 
-    left-b : (runningB (p .control) ≡ true → suc n ≤ p .counterb .count) → runningB (p .control) ≡ true
-        → n ≤ passB (p .counterb) (runningB (p .control)) (clocksOf 1) .count
-    left-b b r = passed-left n (p .counterb) (runningB (p .control)) r (b r)
+    left-b : (countingB (p .control) ≡ true → suc n ≤ p .counterb .count) → countingB (p .control) ≡ true
+        → n ≤ passB (p .counterb) (countingB (p .control)) (clocksOf 1) .count
+    left-b b r = passed-left n (p .counterb) (countingB (p .control)) r (b r)
 
     by-test : ((q : Peripherals) → Hidden (ticksIn n ports q) ports q
-        → (runningB (q .control) ≡ true → n ≤ q .counterb .count)
+        → (countingB (q .control) ≡ true → n ≤ q .counterb .count)
         → peripheralsClocks n ports q ≡ afterClocks n (ticksIn n ports q) ports q)
         → (t : Bool) → ticksNext ports p ≡ t → Hidden (ticksIn (suc n) ports p) ports p
-        → (runningB (p .control) ≡ true → suc n ≤ p .counterb .count) → Closed
+        → (countingB (p .control) ≡ true → suc n ≤ p .counterb .count) → Closed
     by-test step false e h b =
         let w : peripheralsClock p ports ports ≡ quietStep ports p = quiet-clock ports p e (above-b b) in
         let ticks : ticksIn (suc n) ports p ≡ ticksIn n ports (quietStep ports p) = rw (e, w) (zero-add _) in
@@ -271,8 +271,8 @@ seen-same n ticks ports p h = record {
 }
 
 pub unseen : (n ports : ℕ) (p : Peripherals) → ticksIn n ports p ≤ unseenTicks ports p
-    → (runningB (p .control) ≡ true → n ≤ p .counterb .count) → Unseen n ports p
-unseen n ports p t b = record { same = same; countB = b; ticks = t }
+    → (countingB (p .control) ≡ true → n ≤ p .counterb .count) → Unseen n ports p
+unseen n ports p t b = record { same = same; counterB = b; ticks = t }
   where
     same : (k : ℕ) → k ≤ n → SameSeen p (peripheralsClocks k ports p)
     same k h =
@@ -285,7 +285,7 @@ unseen n ports p t b = record { same = same; countB = b; ticks = t }
 pub unseen-fewer : (k n ports : ℕ) (p : Peripherals) → k ≤ n → Unseen n ports p → Unseen k ports p
 unseen-fewer k n ports p h u = record {
   same = λ j l. u .same j (omega arith);
-  countB = λ r. let m = u .countB r in omega arith;
+  counterB = λ r. let m = u .counterB r in omega arith;
   ticks = let f = ticks-fewer k n ports p h in let t = u .ticks in omega arith;
 }
 
@@ -295,16 +295,16 @@ hidden-in n ports p u = hidden (ticksIn n ports p) ports p (u .ticks)
 
 pub unseen-closed : (n ports : ℕ) (p : Peripherals) → Unseen n ports p
     → peripheralsClocks n ports p ≡ afterClocks n (ticksIn n ports p) ports p
-unseen-closed n ports p u = peripherals-closed n ports p (hidden-in n ports p u) (u .countB)
+unseen-closed n ports p u = peripherals-closed n ports p (hidden-in n ports p u) (u .counterB)
 
 -- the clocks before the tick that follows those which cannot be seen, and before B's underflow
 pub unseen-before : (n ports : ℕ) (p : Peripherals)
-    → (runningA (p .control) ports ≡ true → n ≤ p .countera .count + unseenTicks ports p * (p .countera .latch + 1))
-    → (runningB (p .control) ≡ true → n ≤ p .counterb .count) → Unseen n ports p
+    → (countingA (p .control) ports ≡ true → n ≤ p .countera .count + unseenTicks ports p * (p .countera .latch + 1))
+    → (countingB (p .control) ≡ true → n ≤ p .counterb .count) → Unseen n ports p
 unseen-before n ports p a b =
-    unseen n ports p (rw (ticks-closed n ports p) (by-test (runningA (p .control) ports) refl)) b
+    unseen n ports p (rw (ticks-closed n ports p) (by-test (countingA (p .control) ports) refl)) b
   where
-    by-test : (t : Bool) → runningA (p .control) ports ≡ t
+    by-test : (t : Bool) → countingA (p .control) ports ≡ t
         → cond t (underflowsIn n (p .countera)) 0 ≤ unseenTicks ports p
     by-test true e = ticks-within n (unseenTicks ports p) (p .countera) (a e)
     by-test false e = omega arith

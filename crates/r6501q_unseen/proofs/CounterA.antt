@@ -7,13 +7,13 @@ use native.Mathlib.Nat.{div-lt-iff-lt-mul}
 use native.Mathlib.Omega.{arith}
 use lib.Dec.{leb, eqb}
 use borrow.Author.Tests.{leb-true, leb-false, le-leb, lt-leb, eqb-true, eqb-false}
-use Rattle.bits.specs.Bits.{bit, digit}
+use Rattle.bits.specs.Bits.{bit, oneWhere}
 use Rattle.counters.specs.declared.a.CounterA.{CounterA}
 use Rattle.counters.specs.declared.a.CountedA.{CountedA}
-use Rattle.counters.specs.Counters.{clockA, countsA, downA, runsA, atA, countedA}
+use Rattle.counters.specs.Counters.{clockA, countsA, downA, countsThroughA, atA, countedA}
 use Rattle.r6501q_state.specs.declared.state.Peripherals.{Peripherals}
 use Rattle.r6501q_clock.specs.Clock.{countA, countB, sentBy, heardBy, peripheralsClock}
-use Rattle.r6501q_gaps.specs.Gaps.{runningA}
+use Rattle.r6501q_gaps.specs.Gaps.{countingA}
 use Rattle.r6501q_gaps.proofs.Quiet.{no-rise}
 use Rattle.r6501q_unseen.specs.Ticks.{underflowsIn, countAfter, counterAfter}
 use Rattle.r6501q_unseen.specs.Unseen.{peripheralsClocks, ticksNext, ticksIn}
@@ -64,12 +64,12 @@ one-and : (n c : ℕ) → c - 1 - n ≡ c - suc n
 one-and n c = omega arith
 
 pub next-underflows : (n : ℕ) (c : CounterA)
-    → digit (eqb (c .count) 0) + underflowsIn n (downA c .counter) ≡ underflowsIn (suc n) c
+    → oneWhere (eqb (c .count) 0) + underflowsIn n (downA c .counter) ≡ underflowsIn (suc n) c
 unfolding underflowsIn downA
 next-underflows n c = by-test (eqb (c .count) 0) refl
   where
     by-test : (t : Bool) → eqb (c .count) 0 ≡ t
-        → digit (eqb (c .count) 0) + underflowsIn n (downA c .counter) ≡ underflowsIn (suc n) c
+        → oneWhere (eqb (c .count) 0) + underflowsIn n (downA c .counter) ≡ underflowsIn (suc n) c
     by-test true e =
         let z : c .count ≡ 0 = eqb-true (c .count) 0 e in
         let l : leb (suc n) 0 ≡ false = lt-leb (suc n) 0 (omega arith) in
@@ -96,21 +96,22 @@ next-count n c = by-test (eqb (c .count) 0) refl
 -- ---- what one clock of steps 2 and 3 leaves: the modes in force, and counter A after its own step
 
 abbrev pub stepA : Bool → CounterA → CounterA
-stepA running c = cond running (downA c .counter) c
+stepA counting c = cond counting (downA c .counter) c
 
 pub stepped-a : (p : Peripherals) (x : ℕ) → peripheralsClock p x x .countera
-    ≡ stepA (runningA (p .control) x) (p .countera)
-unfolding peripheralsClock countA countB sentBy heardBy clockA runningA runsA
-stepped-a p x = rw (no-rise 4 x) (cond-counter (runningA (p .control) x) (p .countera) (downA (p .countera)))
+    ≡ stepA (countingA (p .control) x) (p .countera)
+unfolding peripheralsClock countA countB sentBy heardBy clockA countingA countsThroughA
+stepped-a p x = rw (no-rise 4 x) (cond-counter (countingA (p .control) x) (p .countera) (downA (p .countera)))
   where
     cond-counter : (t : Bool) (c : CounterA) (d : CountedA)
         → cond t d (record { counter = c; underflow = false }) .counter ≡ cond t (d .counter) c
     cond-counter true c d = refl
     cond-counter false c d = refl
 
-pub stepped-running : (p : Peripherals) (x : ℕ) → runningA (peripheralsClock p x x .control) x ≡ runningA (p .control) x
-unfolding peripheralsClock countA countB sentBy heardBy runningA
-stepped-running p x = refl
+pub stepped-counting : (p : Peripherals) (x : ℕ)
+    → countingA (peripheralsClock p x x .control) x ≡ countingA (p .control) x
+unfolding peripheralsClock countA countB sentBy heardBy countingA
+stepped-counting p x = refl
 
 down-latch : (c : CounterA) → downA c .counter .latch ≡ c .latch
 unfolding downA
@@ -121,8 +122,8 @@ down-latch c = by-test (eqb (c .count) 0)
     by-test true = refl
     by-test false = refl
 
-pub counter-more : (n : ℕ) (running : Bool) (c : CounterA)
-    → counterAfter n running (stepA running c) ≡ counterAfter (suc n) running c
+pub counter-more : (n : ℕ) (counting : Bool) (c : CounterA)
+    → counterAfter n counting (stepA counting c) ≡ counterAfter (suc n) counting c
 counter-more n true c = rw (down-latch c, next-count n c)
 counter-more n false c = refl
 
@@ -133,7 +134,7 @@ unfolding underflowsIn
 none-in-none c true = rw (le-leb 0 (c .count) (omega arith))
 none-in-none c false = refl
 
-pub counter-same : (running : Bool) (c : CounterA) → counterAfter 0 running c ≡ c
+pub counter-same : (counting : Bool) (c : CounterA) → counterAfter 0 counting c ≡ c
 unfolding countAfter
 counter-same true c = rw (le-leb 0 (c .count) (omega arith), sub-zero (c .count))
 counter-same false c = refl
@@ -142,15 +143,15 @@ counter-same false c = refl
 
 -- the underflows are the ticks
 pub ticks-closed : (n ports : ℕ) (p : Peripherals)
-    → ticksIn n ports p ≡ cond (runningA (p .control) ports) (underflowsIn n (p .countera)) 0
+    → ticksIn n ports p ≡ cond (countingA (p .control) ports) (underflowsIn n (p .countera)) 0
 unfolding ticksIn ticksNext
-ticks-closed zero ports p = sym (none-in-none (p .countera) (runningA (p .control) ports))
+ticks-closed zero ports p = sym (none-in-none (p .countera) (countingA (p .control) ports))
 ticks-closed (suc n) ports p =
-    rw (ticks-closed n ports (peripheralsClock p ports ports), stepped-running p ports, stepped-a p ports)
-    (by-test (runningA (p .control) ports))
+    rw (ticks-closed n ports (peripheralsClock p ports ports), stepped-counting p ports, stepped-a p ports)
+    (by-test (countingA (p .control) ports))
   where
     by-test : (t : Bool)
-        → digit (t && eqb (p .countera .count) 0) + cond t (underflowsIn n (stepA t (p .countera))) 0
+        → oneWhere (t && eqb (p .countera .count) 0) + cond t (underflowsIn n (stepA t (p .countera))) 0
         ≡ cond t (underflowsIn (suc n) (p .countera)) 0
     by-test true = next-underflows n (p .countera)
     by-test false = refl
@@ -163,20 +164,20 @@ ticks-fewer (suc k) zero ports p h = absurd (omega arith)
 ticks-fewer (suc k) (suc n) ports p h =
     let less = ticks-fewer k n ports (peripheralsClock p ports ports) (omega arith) in omega arith
 
--- the counter and whether it runs
+-- the counter and whether it counts
 pub counter-closed : (n ports : ℕ) (p : Peripherals)
-    → peripheralsClocks n ports p .countera ≡ counterAfter n (runningA (p .control) ports) (p .countera)
+    → peripheralsClocks n ports p .countera ≡ counterAfter n (countingA (p .control) ports) (p .countera)
 unfolding peripheralsClocks
-counter-closed zero ports p = sym (counter-same (runningA (p .control) ports) (p .countera))
+counter-closed zero ports p = sym (counter-same (countingA (p .control) ports) (p .countera))
 counter-closed (suc n) ports p =
     counter-closed n ports (peripheralsClock p ports ports)
-    ∙ rw (stepped-running p ports, stepped-a p ports) (counter-more n (runningA (p .control) ports) (p .countera))
+    ∙ rw (stepped-counting p ports, stepped-a p ports) (counter-more n (countingA (p .control) ports) (p .countera))
 
-pub running-closed : (n ports : ℕ) (p : Peripherals)
-    → runningA (peripheralsClocks n ports p .control) ports ≡ runningA (p .control) ports
+pub counting-closed : (n ports : ℕ) (p : Peripherals)
+    → countingA (peripheralsClocks n ports p .control) ports ≡ countingA (p .control) ports
 unfolding peripheralsClocks
-running-closed zero ports p = refl
-running-closed (suc n) ports p = running-closed n ports (peripheralsClock p ports ports) ∙ stepped-running p ports
+counting-closed zero ports p = refl
+counting-closed (suc n) ports p = counting-closed n ports (peripheralsClock p ports ports) ∙ stepped-counting p ports
 
 -- clocks that end before an underflow have only those before it
 pub ticks-within : (n ticks : ℕ) (c : CounterA) → n ≤ c .count + ticks * (c .latch + 1) → underflowsIn n c ≤ ticks

@@ -6,8 +6,8 @@ use native.Mathlib.Nat.{add-zero, sub-zero}
 use native.Mathlib.Omega.{arith}
 use lib.Dec.{leb, ltb, eqb}
 use borrow.Author.Tests.{ltb-true, ltb-false, lt-ltb, leb-true, le-leb, eq-eqb, ne-eqb}
-use Rattle.bits.specs.Bits.{bit, digit}
-use Rattle.bits.proofs.Cond.{digit-le, and-left, and-right}
+use Rattle.bits.specs.Bits.{bit, oneWhere}
+use Rattle.bits.proofs.Cond.{one-where-le, and-left, and-right}
 use Rattle.counters.specs.Counters.{ticksOf}
 use Rattle.serial.specs.declared.receiver.Receiver.{Receiver}
 use Rattle.serial_format.specs.Format.{receiverAsynchronous}
@@ -191,7 +191,8 @@ pub hear-none : (r : Receiver) (sccr : ℕ) (high : Bool) → heardAfter 0 r scc
 unfolding heardAfter
 hear-none r sccr high = by-tests (receiverAsynchronous sccr) (leb (r .subinterval) 7) refl refl
   where
-    since-look : (h : Bool) → lookedFor ((0 + digit h) / 2) (eqb ((0 + digit h) % 2) 1) r high ≡ lookedFor 0 h r high
+    since-look : (h : Bool)
+        → lookedFor ((0 + oneWhere h) / 2) (eqb ((0 + oneWhere h) % 2) 1) r high ≡ lookedFor 0 h r high
     since-look true = refl
     since-look false = refl
 
@@ -220,12 +221,12 @@ listens r sccr = receiverAsynchronous sccr && leb (r .subinterval) 7
 
 looks-within : (ticks : ℕ) (r : Receiver) (sccr : ℕ) (high : Bool) → listens r sccr ≡ true
     → ticks ≤ unseenListens r sccr high
-    → (ticks + digit (r .half)) / 2 ≤ unseenLooks r high
+    → (ticks + oneWhere (r .half)) / 2 ≤ unseenLooks r high
 unfolding unseenListens
 looks-within ticks r sccr high on h =
     let e = and-left (receiverAsynchronous sccr) (leb (r .subinterval) 7) on in
     let f = and-right (receiverAsynchronous sccr) (leb (r .subinterval) 7) on in
-    by-half (digit (r .half)) (unseenLooks r high) (digit-le (r .half)) (rw (e, f) at h)
+    by-half (oneWhere (r .half)) (unseenLooks r high) (one-where-le (r .half)) (rw (e, f) at h)
   where
     by-half : (one looks : ℕ) → one ≤ 1 → ticks ≤ 2 * looks + 1 - one → (ticks + one) / 2 ≤ looks
     by-half one looks s k = omega arith
@@ -233,13 +234,13 @@ looks-within ticks r sccr high on h =
 -- with no bits left and the line low the sub-interval stays in range
 pub waits-within : (ticks : ℕ) (r : Receiver) (sccr : ℕ) (high : Bool) → listens r sccr ≡ true
     → ticks ≤ unseenListens r sccr high
-    → r .left ≡ 0 → high ≡ false → r .subinterval + (ticks + digit (r .half)) / 2 ≤ 7
+    → r .left ≡ 0 → high ≡ false → r .subinterval + (ticks + oneWhere (r .half)) / 2 ≤ 7
 unfolding unseenLooks
 waits-within ticks r sccr high on h z l =
     let range = leb-true (r .subinterval) 7 (and-right (receiverAsynchronous sccr) (leb (r .subinterval) 7) on) in
-    let looks : (ticks + digit (r .half)) / 2 ≤ 3 - r .subinterval =
+    let looks : (ticks + oneWhere (r .half)) / 2 ≤ 3 - r .subinterval =
     rw (eq-eqb (r .left) 0 z, l) at (looks-within ticks r sccr high on h) in
-    in-range (r .subinterval) ((ticks + digit (r .half)) / 2) range looks
+    in-range (r .subinterval) ((ticks + oneWhere (r .half)) / 2) range looks
   where
     in-range : (s n : ℕ) → s ≤ 7 → n ≤ 3 - s → s + n ≤ 7
     in-range s n a b = omega arith
@@ -247,13 +248,13 @@ waits-within ticks r sccr high on h z l =
 -- with bits left the last one does not end
 pub takes-within : (ticks : ℕ) (r : Receiver) (sccr : ℕ) (high : Bool) → listens r sccr ≡ true
     → ticks ≤ unseenListens r sccr high
-    → (r .left ≡ 0 → ⊥) → r .subinterval + (ticks + digit (r .half)) / 2 < r .left * 8
+    → (r .left ≡ 0 → ⊥) → r .subinterval + (ticks + oneWhere (r .half)) / 2 < r .left * 8
 unfolding unseenLooks
 takes-within ticks r sccr high on h z =
     let range = leb-true (r .subinterval) 7 (and-right (receiverAsynchronous sccr) (leb (r .subinterval) 7) on) in
-    let looks : (ticks + digit (r .half)) / 2 ≤ r .left * 8 - r .subinterval - 1 =
+    let looks : (ticks + oneWhere (r .half)) / 2 ≤ r .left * 8 - r .subinterval - 1 =
     rw (ne-eqb (r .left) 0 z) at (looks-within ticks r sccr high on h) in
-    before-last (r .subinterval) (r .left) ((ticks + digit (r .half)) / 2) range z looks
+    before-last (r .subinterval) (r .left) ((ticks + oneWhere (r .half)) / 2) range z looks
   where
     before-last : (s l n : ℕ) → s ≤ 7 → (l ≡ 0 → ⊥) → n ≤ l * 8 - s - 1 → s + n < l * 8
     before-last s l n a b c = omega arith

@@ -6,15 +6,15 @@ use native.Mathlib.Nat.{mod-eq-of-lt, mod-eq-sub-mod, zero-mod, zero-add, add-as
 use native.Mathlib.Omega.{arith}
 use lib.Dec.{leb, eqb}
 use borrow.Author.Tests.{leb-true, leb-false, le-leb, lt-leb, eqb-true, eqb-false, ne-eqb}
-use Rattle.bits.specs.Bits.{digit}
+use Rattle.bits.specs.Bits.{oneWhere}
 use Rattle.counters.specs.declared.a.CounterA.{CounterA}
 use Rattle.counters.specs.Counters.{downA}
 use Rattle.r6501q_state.specs.declared.state.Peripherals.{Peripherals}
 use Rattle.r6501q_clock.specs.Clock.{peripheralsClock}
-use Rattle.r6501q_gaps.specs.Gaps.{runningA}
+use Rattle.r6501q_gaps.specs.Gaps.{countingA}
 use Rattle.r6501q_unseen.specs.declared.Ticking.{Ticking}
 use Rattle.r6501q_unseen.specs.Unseen.{peripheralsClocks, ticksNext, ticksIn, onTick, tickingOf}
-use Rattle.r6501q_unseen.proofs.CounterA.{stepped-a, stepped-running, running-closed}
+use Rattle.r6501q_unseen.proofs.CounterA.{stepped-a, stepped-counting, counting-closed}
 
 abbrev tickingA : CounterA → Ticking
 tickingA c = record { first = c .count + 1; period = c .latch + 1 }
@@ -72,36 +72,36 @@ on-first c = by-test (eqb (c .count) 0) refl
         let z = eqb-false (c .count) 0 e in
         rw (e, lt-leb (c .count + 1) (0 + 1) (omega arith))
 
-ticking-a : (ports : ℕ) (p : Peripherals) → runningA (p .control) ports ≡ true
+ticking-a : (ports : ℕ) (p : Peripherals) → countingA (p .control) ports ≡ true
     → tickingOf ports p ≡ tickingA (p .countera)
 unfolding tickingOf
 ticking-a ports p e = rw e
 
--- where counter A runs, `ticking_of` has every tick
-pub on-tick-runs : (g ports : ℕ) (p : Peripherals) → runningA (p .control) ports ≡ true
+-- where counter A counts, `ticking_of` has every tick
+pub on-tick-counting : (g ports : ℕ) (p : Peripherals) → countingA (p .control) ports ≡ true
     → ticksNext ports (peripheralsClocks g ports p) ≡ onTick (tickingOf ports p) (g + 1)
 unfolding peripheralsClocks ticksNext
-on-tick-runs zero ports p e = rw (e, ticking-a ports p e) (on-first (p .countera))
-on-tick-runs (suc g) ports p e =
-    let runs : runningA (peripheralsClock p ports ports .control) ports ≡ true = stepped-running p ports ∙ e in
-    on-tick-runs g ports (peripheralsClock p ports ports) runs
-    ∙ rw (ticking-a ports (peripheralsClock p ports ports) runs, ticking-a ports p e, stepped-a p ports, e)
+on-tick-counting zero ports p e = rw (e, ticking-a ports p e) (on-first (p .countera))
+on-tick-counting (suc g) ports p e =
+    let counts : countingA (peripheralsClock p ports ports .control) ports ≡ true = stepped-counting p ports ∙ e in
+    on-tick-counting g ports (peripheralsClock p ports ports) counts
+    ∙ rw (ticking-a ports (peripheralsClock p ports ports) counts, ticking-a ports p e, stepped-a p ports, e)
     (on-next g (p .countera))
 
 -- and where it does not, none
-pub on-tick-none : (g ports : ℕ) (p : Peripherals) → runningA (p .control) ports ≡ false → g + 1 < 4294967295
+pub on-tick-none : (g ports : ℕ) (p : Peripherals) → countingA (p .control) ports ≡ false → g + 1 < 4294967295
     → ticksNext ports (peripheralsClocks g ports p) ≡ onTick (tickingOf ports p) (g + 1)
 unfolding ticksNext onTick tickingOf
-on-tick-none g ports p e h = rw (running-closed g ports p, e, lt-leb 4294967295 (g + 1) h)
+on-tick-none g ports p e h = rw (counting-closed g ports p, e, lt-leb 4294967295 (g + 1) h)
 
 -- the clocks with a tick, of clocks passed together
 pub on-tick : (g ports : ℕ) (p : Peripherals) → g + 1 < 4294967295
     → ticksNext ports (peripheralsClocks g ports p) ≡ onTick (tickingOf ports p) (g + 1)
-on-tick g ports p h = by-test (runningA (p .control) ports) refl
+on-tick g ports p h = by-test (countingA (p .control) ports) refl
   where
-    by-test : (t : Bool) → runningA (p .control) ports ≡ t
+    by-test : (t : Bool) → countingA (p .control) ports ≡ t
         → ticksNext ports (peripheralsClocks g ports p) ≡ onTick (tickingOf ports p) (g + 1)
-    by-test true e = on-tick-runs g ports p e
+    by-test true e = on-tick-counting g ports p e
     by-test false e = on-tick-none g ports p e h
 
 -- ---- sums

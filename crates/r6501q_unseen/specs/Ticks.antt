@@ -3,7 +3,7 @@
 use mathlib.Core.Bool.{Bool, true, false, _&&_, not, cond}
 use Prim.Native.Nat.{ℕ, zero, suc, _+_, _-_, _*_, _/_, _%_, min}
 use lib.Dec.{leb, ltb, eqb}
-use Rattle.bits.specs.Bits.{bit, digit}
+use Rattle.bits.specs.Bits.{bit, oneWhere}
 use Rattle.counters.specs.declared.a.CounterA.{CounterA}
 use Rattle.counters.specs.Counters.{atA}
 use Rattle.serial.specs.declared.transmitter.Transmitter.{Transmitter}
@@ -24,7 +24,7 @@ unfoldable pub countAfter : ℕ → CounterA → ℕ
 countAfter n c = cond (leb n (c .count)) (c .count - n) (c .latch - (n - c .count - 1) % (c .latch + 1))
 
 abbrev pub counterAfter : ℕ → Bool → CounterA → CounterA
-counterAfter n running c = atA c (cond running (countAfter n c) (c .count))
+counterAfter n counting c = atA c (cond counting (countAfter n c) (c .count))
 
 -- the most ticks that are passed together: their clocks, each latch + 1 at most 65,536, stay below 2,147,483,648
 abbrev pub mostTicks : ℕ
@@ -63,7 +63,7 @@ unseenLooks r high =
 unfoldable pub unseenListens : Receiver → ℕ → Bool → ℕ
 unseenListens r sccr high =
     cond (receiverAsynchronous sccr)
-    (cond (leb (r .subinterval) 7) (2 * unseenLooks r high + 1 - digit (r .half)) 0)
+    (cond (leb (r .subinterval) 7) (2 * unseenLooks r high + 1 - oneWhere (r .half)) 0)
     mostTicks
 
 -- a level shifted in as often as bits end
@@ -101,7 +101,7 @@ listenedFor ticks r high = lookedFor (ticks / 2) (eqb (ticks % 2) 1) r high
 
 unfoldable pub heardAfter : ℕ → Receiver → ℕ → Bool → Receiver
 heardAfter ticks r sccr high =
-    cond (receiverAsynchronous sccr && leb (r .subinterval) 7) (listenedFor (ticks + digit (r .half)) r high) r
+    cond (receiverAsynchronous sccr && leb (r .subinterval) 7) (listenedFor (ticks + oneWhere (r .half)) r high) r
 
 -- an underflow of counter A changes neither a flag nor a latch: IFR4 is set, and A is not in mode 01
 unfoldable pub underflowUnseen : Control → Bool

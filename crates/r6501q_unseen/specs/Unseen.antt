@@ -4,11 +4,11 @@ use mathlib.Core.Path.{_≡_}
 use mathlib.Core.Bool.{Bool, true, false, _&&_, cond}
 use Prim.Native.Nat.{ℕ, zero, suc, _+_, _-_, _*_, _%_, _≤_, _<_}
 use lib.Dec.{leb, eqb}
-use Rattle.bits.specs.Bits.{digit}
+use Rattle.bits.specs.Bits.{oneWhere}
 use Rattle.r6501q_state.specs.declared.state.Peripherals.{Peripherals}
 use Rattle.r6501q_state.specs.Pins.{drivenWord}
 use Rattle.r6501q_clock.specs.Clock.{peripheralsClock}
-use Rattle.r6501q_gaps.specs.Gaps.{runningA, runningB}
+use Rattle.r6501q_gaps.specs.Gaps.{countingA, countingB}
 use Rattle.r6501q_unseen.specs.declared.Ticking.{Ticking}
 use Rattle.r6501q_unseen.specs.Ticks.{unseenTicks}
 
@@ -19,12 +19,12 @@ peripheralsClocks (suc n) ports p = peripheralsClocks n ports (peripheralsClock 
 
 -- the next clock has a tick: counter A counts, down from 0000h
 unfoldable pub ticksNext : ℕ → Peripherals → Bool
-ticksNext ports p = runningA (p .control) ports && eqb (p .countera .count) 0
+ticksNext ports p = countingA (p .control) ports && eqb (p .countera .count) 0
 
 -- how many of the next n clocks have one
 unfoldable pub ticksIn : ℕ → ℕ → Peripherals → ℕ
 ticksIn zero ports p = 0
-ticksIn (suc n) ports p = digit (ticksNext ports p) + ticksIn n ports (peripheralsClock p ports ports)
+ticksIn (suc n) ports p = oneWhere (ticksNext ports p) + ticksIn n ports (peripheralsClock p ports ports)
 
 -- all that the CPU, the pins and the records can see, but for the two counters' counts
 pub record SameSeen (p q : Peripherals) : Type 0 where
@@ -37,15 +37,15 @@ pub record SameSeen (p q : Peripherals) : Type 0 where
 -- form
 pub record Unseen (n ports : ℕ) (p : Peripherals) : Type 0 where
   pub same : (k : ℕ) → k ≤ n → SameSeen p (peripheralsClocks k ports p)
-  pub countB : runningB (p .control) ≡ true → n ≤ p .counterb .count
+  pub counterB : countingB (p .control) ≡ true → n ≤ p .counterb .count
   pub ticks : ticksIn n ports p ≤ unseenTicks ports p
 
 -- the clocks with a tick, the next one being clock 1: the first, and then one in each period
 unfoldable pub onTick : Ticking → ℕ → Bool
 onTick t g = leb (t .first) g && eqb ((g - t .first) % t .period) 0
 
--- those of counter A; where it does not run, none that clocks passed together reach
+-- those of counter A; where it does not count, none that clocks passed together reach
 unfoldable pub tickingOf : ℕ → Peripherals → Ticking
 tickingOf ports p =
-    cond (runningA (p .control) ports) (record { first = p .countera .count + 1; period = p .countera .latch + 1 })
+    cond (countingA (p .control) ports) (record { first = p .countera .count + 1; period = p .countera .latch + 1 })
     (record { first = 4294967295; period = 1 })

@@ -27,10 +27,10 @@ pub fn underflows_in(c: CounterA, n: Clocks) -> u32
 }
 
 // The counter after some clocks, in all of which it counts or in none.
-pub fn counter_after(mut c: CounterA, running: bool, n: Clocks) -> CounterA
-    ensures { λ r. ⌜ r ≡ counterAfter (n .0) running c ⌝ }
+pub fn counter_after(mut c: CounterA, counting: bool, n: Clocks) -> CounterA
+    ensures { λ r. ⌜ r ≡ counterAfter (n .0) counting c ⌝ }
 {
-    if !running {
+    if !counting {
         return c;
     }
     let count = c.count as u32;

@@ -7,15 +7,15 @@ mod transmitter; // transmitter.rt: the transmitter over ticks
 ghost use mathlib.Core.Path.{_≡_};
 ghost use mathlib.Core.Bool.{true};
 ghost use Prim.Native.Nat.{_≤_, _<_};
-ghost use Rattle.r6501q_gaps.specs.Gaps.{runningB};
+ghost use Rattle.r6501q_gaps.specs.Gaps.{countingB};
 ghost use Rattle.r6501q_unseen.specs.Ticks.{mostTicks, underflowUnseen, unseenTicks};
 ghost use Rattle.r6501q_unseen.specs.Unseen.{peripheralsClocks, ticksIn, Unseen, tickingOf, onTick};
 use counter::clocks_before;
 use counter::counter_after;
 use counter::underflows_in;
 use counters::time::Clocks;
-use r6501q_gaps::distances::running_a;
-use r6501q_gaps::distances::running_b;
+use r6501q_gaps::distances::counting_a;
+use r6501q_gaps::distances::counting_b;
 use r6501q_gaps::nearer;
 use r6501q_state::state::Control;
 use r6501q_state::state::Peripherals;
@@ -63,9 +63,9 @@ fn unseen_ticks(p: Peripherals, ports: u32) -> u32
 
 // The clocks before an underflow of counter B, at most some.
 fn before_b(p: Peripherals, room: Clocks) -> Clocks
-    ensures { λ r. ⌜ (r .0 ≤ room .0) × (runningB (p .control) ≡ true → r .0 ≤ p .counterb .count) ⌝ }
+    ensures { λ r. ⌜ (r .0 ≤ room .0) × (countingB (p .control) ≡ true → r .0 ≤ p .counterb .count) ⌝ }
 {
-    if running_b(p.control) {
+    if counting_b(p.control) {
         return nearer(room, Clocks(p.counterb.count as u32));
     }
     room
@@ -78,7 +78,7 @@ pub fn unseen_clocks(p: Peripherals, ports: u32, room: Clocks) -> Clocks
     ensures { λ r. ⌜ (r .0 ≤ room .0) × (r .0 ≤ 2147483647) × Unseen (r .0) ports p ⌝ }
 {
     let b = before_b(p, nearer(room, Clocks(MOST_CLOCKS)));
-    if !running_a(p.control, ports) {
+    if !counting_a(p.control, ports) {
         return b;
     }
     nearer(b, clocks_before(p.countera, unseen_ticks(p, ports)))
@@ -88,7 +88,7 @@ pub fn unseen_clocks(p: Peripherals, ports: u32, room: Clocks) -> Clocks
 pub fn ticks_in(p: Peripherals, ports: u32, n: Clocks) -> u32
     ensures { λ r. ⌜ r ≡ ticksIn (n .0) ports p ⌝ }
 {
-    if running_a(p.control, ports) {
+    if counting_a(p.control, ports) {
         return underflows_in(p.countera, n);
     }
     0
@@ -101,8 +101,8 @@ pub fn pass_unseen(mut p: Peripherals, ports: u32, n: Clocks) -> Peripherals
 {
     let sccr = p.control.sccr;
     let ticks = ticks_in(p, ports, n);
-    let counter_a = counter_after(p.countera, running_a(p.control, ports), n);
-    let counter_b = p.counterb.pass(running_b(p.control), n);
+    let counter_a = counter_after(p.countera, counting_a(p.control, ports), n);
+    let counter_b = p.counterb.pass(counting_b(p.control), n);
     let transmitter = sent_after(p.transmitter, sccr, ticks);
     let receiver = heard_after(p.receiver, sccr, bits::bit32(ports, 7), ticks);
     p.countera = counter_a;
@@ -116,7 +116,7 @@ pub fn pass_unseen(mut p: Peripherals, ports: u32, n: Clocks) -> Peripherals
 pub fn ticking_of(p: Peripherals, ports: u32) -> Ticking
     ensures { λ r. ⌜ r ≡ tickingOf ports p ⌝ }
 {
-    if running_a(p.control, ports) {
+    if counting_a(p.control, ports) {
         return Ticking {
             first: p.countera.count as u32 + 1,
             period: p.countera.latch as u32 + 1,

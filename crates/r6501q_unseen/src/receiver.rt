@@ -104,7 +104,7 @@ pub fn heard_after(r: Receiver, sccr: u8, high: bool, ticks: u32) -> Receiver
     if !listens {
         return r;
     }
-    let since = ticks + bits::digit8(r.half) as u32;
+    let since = ticks + bits::one_where(r.half) as u32;
     let looks = since / 2;
     let half = since % 2 == 1;
     if r.left == 0 {

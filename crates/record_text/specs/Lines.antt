@@ -29,20 +29,20 @@ decimalOf n = digitsOf 10 (digitCount 9 n) n
 unfoldable pub hexWord : ℕ → List ℕ
 hexWord word = digitsOf 16 8 word
 
-abbrev pub space : ℕ
-space = 32
+abbrev pub blank : ℕ
+blank = 32
 
 abbrev pub lineEnd : ℕ
 lineEnd = 10
 
 -- `10 FFFFFF55`: "clock, driven word in hex"
 unfoldable pub recordLine : ℕ → ℕ → List ℕ
-recordLine clock word = decimalOf clock ++ ((space ∷ []) ++ (hexWord word ++ (lineEnd ∷ [])))
+recordLine clock word = decimalOf clock ++ ((blank ∷ []) ++ (hexWord word ++ (lineEnd ∷ [])))
 
 -- `end 100 0`: "clocks done, number or 0"
 unfoldable pub endLine : ℕ → ℕ → List ℕ
 endLine done number =
-    (101 ∷ 110 ∷ 100 ∷ space ∷ []) ++ (decimalOf done ++ ((space ∷ []) ++ (decimalOf number ++ (lineEnd ∷ []))))
+    (101 ∷ 110 ∷ 100 ∷ blank ∷ []) ++ (decimalOf done ++ ((blank ∷ []) ++ (decimalOf number ++ (lineEnd ∷ []))))
 
 -- a line for each record
 unfoldable pub recordLines : List ℕ → List ℕ → List ℕ

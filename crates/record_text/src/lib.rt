@@ -88,7 +88,7 @@ fn put_word(word: u32, text: &mut [u8], at: usize) -> usize
 }
 
 // The line of a record.
-fn put_record(clock: u32, word: u32, text: &mut [u8], at: usize) -> usize
+fn put_line(clock: u32, word: u32, text: &mut [u8], at: usize) -> usize
     requires { ⌜ at + 20 ≤ length (now text) ⌝ }
     ensures { λ r. ⌜ filled r (now (text .exit)) ≡ putOf (recordLine clock word) (filled at (now (text .entry))) ⌝ }
 {
@@ -108,7 +108,7 @@ fn put_records(times: &[u32], words: &[u32], text: &mut [u8], at: usize) -> usiz
     let mut place = at;
     let mut i = 0;
     while i < times.len() {
-        place = put_record(times[i], words[i], text, place);
+        place = put_line(times[i], words[i], text, place);
         i += 1;
     }
     place

@@ -25,10 +25,10 @@ neither-right : (a b : Bool) → (a || b) ≡ false → b ≡ false
 neither-right true b e = absurd (false≢true (sym e))
 neither-right false b e = e
 
-module _ (limits : Limits) (formed : Bool) (clock span : ℕ) (clocks codes : List ℕ) (times words n : ℕ) where
+module _ (limits : Limits) (formed : Bool) (clock bytes : ℕ) (clocks codes : List ℕ) (times words n : ℕ) where
   -- none of the table's rows 1 to 5 is so
   pub record Accepted : Type 0 where
-    pub memory : span ≡ limits .memory
+    pub memory : bytes ≡ limits .memory
     pub state : formed ≡ true
     pub inputs : length clocks ≡ length codes
     pub outputs : times ≡ words
@@ -36,10 +36,10 @@ module _ (limits : Limits) (formed : Bool) (clock span : ℕ) (clocks codes : Li
     pub pins : pinsRight (limits .pin) clock clocks codes ≡ true
 
   -- number 0 is handed on just where they are as they should be
-  pub accepted : refusalOf limits formed clock span clocks codes times words n ≡ 0 → Accepted
+  pub accepted : refusalOf limits formed clock bytes clocks codes times words n ≡ 0 → Accepted
   unfolding refusalOf
   accepted e =
-      let one = passed 1 (not (eqb span (limits .memory))) _ (lit< tt) e in
+      let one = passed 1 (not (eqb bytes (limits .memory))) _ (lit< tt) e in
       let two = passed 2 (not formed) _ (lit< tt) (one .1) in
       let three = passed 3 (not (eqb (length clocks) (length codes)) || not (eqb times words)) _ (lit< tt) (two .1) in
       let four = passed 4 (ltb lastClock (clock + n)) _ (lit< tt) (three .1) in
@@ -57,11 +57,11 @@ module _ (limits : Limits) (formed : Bool) (clock span : ℕ) (clocks codes : Li
         pins = not-false _ (five .0);
       }
 
-  pub accepts : Accepted → refusalOf limits formed clock span clocks codes times words n ≡ 0
+  pub accepts : Accepted → refusalOf limits formed clock bytes clocks codes times words n ≡ 0
   unfolding refusalOf
   accepts a =
       rw (
-        eq-eqb span (limits .memory) (a .memory),
+        eq-eqb bytes (limits .memory) (a .memory),
         a .state,
         eq-eqb (length clocks) (length codes) (a .inputs),
         eq-eqb times words (a .outputs),

@@ -21,10 +21,10 @@ firstOf [] = 0
 firstOf ((number, so) ∷ later) = cond so number (firstOf later)
 
 -- the table's rows 1 to 5 in the order of the checks, for a state that is well-formed or not and is at this clock, a
--- memory of `span` bytes, and output lists of `times` and `words` entries
+-- memory of `bytes` bytes, and output lists of `times` and `words` entries
 abbrev pub refusals : Limits → Bool → ℕ → ℕ → List ℕ → List ℕ → ℕ → ℕ → ℕ → List Refusal
-refusals limits formed clock span clocks codes times words n =
-    (1, not (eqb span (limits .memory)))
+refusals limits formed clock bytes clocks codes times words n =
+    (1, not (eqb bytes (limits .memory)))
     ∷ (2, not formed)
     ∷ (3, not (eqb (length clocks) (length codes)) || not (eqb times words))
     ∷ (4, ltb lastClock (clock + n))
@@ -33,5 +33,5 @@ refusals limits formed clock span clocks codes times words n =
 
 -- "Lowest number first for 1 to 5": the number of a refusal, or 0
 unfoldable pub refusalOf : Limits → Bool → ℕ → ℕ → List ℕ → List ℕ → ℕ → ℕ → ℕ → ℕ
-refusalOf limits formed clock span clocks codes times words n =
-    firstOf (refusals limits formed clock span clocks codes times words n)
+refusalOf limits formed clock bytes clocks codes times words n =
+    firstOf (refusals limits formed clock bytes clocks codes times words n)

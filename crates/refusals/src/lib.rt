@@ -22,22 +22,23 @@ fn passes_last(clock: u32, n: u32) -> bool
 }
 
 // The number of the first check that fails, or 0: of a state that is well-formed or not and is at this clock, a memory
-// of `span` bytes, the input lists, output lists of `times` and `words` entries, and n clocks.
+// of `bytes` bytes, the input lists, output lists of `times` and `words` entries, and n clocks.
 pub fn refusal(
     limits: Limits,
     formed: bool,
     clock: u32,
-    span: usize,
+    bytes: usize,
     clocks: &[u32],
     codes: &[u8],
     times: usize,
     words: usize,
     n: u32,
 ) -> u8
-    ensures { λ r. ⌜ r ≡ refusalOf limits formed clock span (now (clocks .entry)) (now (codes .entry)) times words n ⌝ }
+    ensures { λ r. ⌜ r ≡ refusalOf limits formed clock bytes (now (clocks .entry)) (now (codes .entry))
+        times words n ⌝ }
 {
     let unpaired = (clocks.len() != codes.len()) | (times != words);
-    if span != limits.memory {
+    if bytes != limits.memory {
         return 1;
     }
     if !formed {

@@ -7,11 +7,11 @@ use native.Mathlib.Omega.{arith}
 use lib.ListN.{length, take, replicate}
 use borrow.Author.Tests.{eq-eqb, ne-eqb}
 use Rattle.cpu_access.specs.declared.halt.Halt.the-variants.{Nowhere}
-use Rattle.memory.specs.Memory.{memorySpan}
-use Rattle.pin_lists.specs.PinLists.{codeRight, restRight, pinsRight, dueCount}
+use Rattle.memory.specs.Memory.{memoryLength}
+use Rattle.pin_lists.specs.PinLists.{codeRight, restRight, pinsRight, inputCount}
 use Rattle.refusals.proofs.Accepted.{accepts}
 use Rattle.leaps.specs.Leaps.{plains, leapCount}
-use Rattle.leaps.specs.Lists.{plainRunOf}
+use Rattle.leaps.specs.CallLists.{plainRunOf}
 use Rattle.leaps.specs.Calls.{callStart, handedBackOf, refusalIn, Fit}
 use Rattle.leaps.proofs.Laws.{plains-kept}
 use Rattle.leaps.proofs.Chips.{plain-fits, no-gap-event}
@@ -20,7 +20,7 @@ use Rattle.r6501q_state.specs.State.{fresh, wellFormed}
 use Rattle.r6501q_state.specs.Inputs.{lastPin, resHigh}
 use Rattle.r6501q_state.proofs.Ranges.{fresh-formed}
 use Rattle.r6501q_step.specs.declared.CallResult.{CallResult}
-use Rattle.r6501q_step.specs.R6501q.{World, Handed, r6501qLimits, r6501q, chip, machine}
+use Rattle.r6501q_step.specs.R6501q.{World, Handed, r6501qLimits, r6501q, system, machine}
 use Rattle.r6501q_step.specs.Calls.{handed}
 use Rattle.r6501q_step.proofs.Released.{oldStart}
 use Rattle.r6501q_leap.proofs.Laws.{laws, lawful}
@@ -39,10 +39,10 @@ release-right : pinsRight lastPin (fresh .clock) (1 ∷ []) (resHigh ∷ []) ≡
 unfolding fresh pinsRight restRight codeRight
 release-right = refl
 
-module _ (memory : List ℕ) (whole : length memory ≡ memorySpan) where
+module _ (memory : List ℕ) (whole : length memory ≡ memoryLength) where
   -- where the clocks lead to
   abbrev ended : World
-  ended = plains (chip Nowhere) 100 (replayStart memory)
+  ended = plains (system Nowhere) 100 (replayStart memory)
 
   not-refused : refusalIn (r6501q Nowhere) 100 (replayStart memory) ≡ 0
   not-refused =
@@ -64,7 +64,7 @@ module _ (memory : List ℕ) (whole : length memory ≡ memorySpan) where
   -- every plain clock keeps it so
   ended-fits : Fit (r6501q Nowhere) ended
   ended-fits =
-      plains-kept (chip Nowhere) (lawful Nowhere) (Fit (r6501q Nowhere)) (plain-fits (r6501q Nowhere) (laws Nowhere))
+      plains-kept (system Nowhere) (lawful Nowhere) (Fit (r6501q Nowhere)) (plain-fits (r6501q Nowhere) (laws Nowhere))
       (no-gap-event (r6501q Nowhere) (laws Nowhere)) 100 (replayStart memory) start-fits
 
   module _ (s : State) (result : CallResult) (memory' times words : List ℕ) (new : s ≡ fresh) {clocks codes : List ℕ}
@@ -72,7 +72,7 @@ module _ (memory : List ℕ) (whole : length memory ≡ memorySpan) where
       ≡ plainRunOf (machine Nowhere) 100 (callStart s memory clocks codes (replicate 100 0) (replicate 100 0)))
       (at : clocks ≡ 1 ∷ []) (high : codes ≡ resHigh ∷ []) where
     -- what the call hands back
-    back : handed result memory' times words ≡ handedBackOf (leapCount (chip Nowhere) 100 (replayStart memory)) ended
+    back : handed result memory' times words ≡ handedBackOf (leapCount (system Nowhere) 100 (replayStart memory)) ended
     unfolding plainRunOf freeRecords
     back = (rw (new, at, high) at e) ∙ rw (eq-eqb (refusalIn (r6501q Nowhere) 100 (replayStart memory)) 0 not-refused)
 
@@ -97,8 +97,8 @@ module _ (memory : List ℕ) (whole : length memory ≡ memorySpan) where
 
 -- 02, U8: what is printed is "what it was" from the old start with no inputs; inputs read are not printed
 pub printed-before : (memory : List ℕ)
-    → ranOf memory ≡ linesOf (plains (chip Nowhere) 100 (oldStart memory [] [] freeRecords freeRecords))
-unfolding ranOf dueCount
+    → ranOf memory ≡ linesOf (plains (system Nowhere) 100 (oldStart memory [] [] freeRecords freeRecords))
+unfolding ranOf inputCount
 printed-before memory = ap linesOf (released-plains Nowhere memory [] [] freeRecords freeRecords refl 99 (omega arith))
 
 module _ (tape memory : List ℕ) (result : LoadResult) (e : loaded result memory ≡ loadOf tape zeroMemory) where

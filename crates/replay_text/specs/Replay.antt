@@ -6,13 +6,13 @@ use mathlib.Core.List.{List, [], _∷_}
 use Prim.Native.Nat.{ℕ}
 use lib.Dec.{eqb}
 use lib.ListN.{take, replicate}
-use Rattle.memory.specs.Memory.{memorySpan}
+use Rattle.memory.specs.Memory.{memoryLength}
 use Rattle.cpu_access.specs.declared.halt.Halt.the-variants.{Nowhere}
 use Rattle.r6501q_state.specs.State.{fresh}
 use Rattle.r6501q_state.specs.Inputs.{resHigh}
 use Rattle.leaps.specs.Leaps.{plains}
 use Rattle.leaps.specs.Calls.{callStart}
-use Rattle.r6501q_step.specs.R6501q.{World, chip}
+use Rattle.r6501q_step.specs.R6501q.{World, system}
 use Rattle.tape.specs.Tapes.{loadOf}
 use Rattle.record_text.specs.Lines.{endLine, outcomeLines}
 
@@ -22,7 +22,7 @@ tapeLength = 16384
 
 -- "a memory of zeros"
 unfoldable pub zeroMemory : List ℕ
-zeroMemory = replicate memorySpan 0
+zeroMemory = replicate memoryLength 0
 
 -- "100 free records", a list of clocks or of words
 unfoldable pub freeRecords : List ℕ
@@ -40,7 +40,7 @@ linesOf w =
 
 -- "runs 100 clocks", stated by plain clocks, with no halt address
 unfoldable pub ranOf : List ℕ → List ℕ
-ranOf memory = linesOf (plains (chip Nowhere) 100 (replayStart memory))
+ranOf memory = linesOf (plains (system Nowhere) 100 (replayStart memory))
 
 -- the text for a tape
 unfoldable pub replayOf : List ℕ → List ℕ

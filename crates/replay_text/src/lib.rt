@@ -1,6 +1,6 @@
 // A tape replayed: loaded into a memory of zeros, then 100 clocks from fresh, with RES high on clock 1.
 use cpu_access::halt::Halt;
-use memory::MEMORY_SPAN;
+use memory::MEMORY_LENGTH;
 use r6501q_state::inputs::RES_HIGH;
 use r6501q_state::state::fresh_state;
 use record_text::LINE_LENGTH;
@@ -9,7 +9,7 @@ use record_text::put_outcome;
 ghost use mathlib.Core.Path.{_≡_};
 ghost use Prim.Native.Nat.{_≤_};
 ghost use lib.ListN.{length, take};
-ghost use Rattle.memory.specs.Memory.{memorySpan};
+ghost use Rattle.memory.specs.Memory.{memoryLength};
 ghost use Rattle.record_text.specs.Lines.{filled, putOf};
 ghost use Rattle.replay_text.specs.Replay.{tapeLength, ranOf, replayOf};
 
@@ -27,7 +27,7 @@ pub const TEXT_LENGTH: usize = LINE_LENGTH * (RECORDS + 1);
 // Runs the clocks on a loaded memory, and puts the lines of what they come to into `text`. A fresh chip's clock is 0,
 // so that its clock afterwards is the number of clocks done.
 fn run_loaded(memory: &mut [u8], text: &mut [u8]) -> usize
-    requires { ⌜ length (now memory) ≡ memorySpan ⌝ }
+    requires { ⌜ length (now memory) ≡ memoryLength ⌝ }
     requires { ⌜ 2020 ≤ length (now text) ⌝ }
     ensures { λ r. ⌜ filled r (now (text .exit))
         ≡ putOf (ranOf (now (memory .entry))) (filled 0 (now (text .entry))) ⌝ }
@@ -64,7 +64,7 @@ pub fn replay(tape: &[u8], text: &mut [u8]) -> usize
         ≡ putOf (replayOf (now (tape .entry))) (filled 0 (now (text .entry))) ⌝ }
     ensures { λ r. ⌜ r ≤ length (now (text .exit)) ⌝ }
 {
-    let mut memory = [0u8; MEMORY_SPAN];
+    let mut memory = [0u8; MEMORY_LENGTH];
     let loaded = tape::load(tape, &mut memory);
     if loaded.number != 0 {
         return put_end(0, loaded.number, text, 0);

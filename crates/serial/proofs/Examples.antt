@@ -15,7 +15,7 @@ use Rattle.serial.specs.Transmitter.{sentBits}
 use Rattle.serial.specs.Transmitter.{sending, transmitterClock, sendTick, idleTick, nextPhase, ticked, bitTick}
 use Rattle.serial.specs.Transmitter.{frameEnd, taken, framed, line, shiftClock, idleTransmitter}
 use Rattle.serial.specs.Receiver.{receiverClock, receiveTick, looked, startDetected, receiving, idleReceiver}
-use Rattle.serial.specs.Receiver.{withLevel, shiftedAtRise, receiveRise, byteEnded, keptWith, statusAfter}
+use Rattle.serial.specs.Receiver.{withLevel, shiftedAtRise, receiveRise, byteEnded, keptWith, scsrAfter}
 
 -- counter A with its latch, and the transmitter that it drives
 pub record Driven : Type 0 where
@@ -134,5 +134,5 @@ pub shift-received : (received : ℕ)
     → risenFor (true ∷ false ∷ false ∷ false ∷ false ∷ false ∷ true ∷ false ∷ []) (receiving idleReceiver 0x40 received)
     ≡ receiving (record { subinterval = 0; half = false; left = 0; register = 0x208 }) 0x41 0x41
 unfolding ticksOf receiverClock receiverAsynchronous receiverShifting receiveRise shiftedAtRise withLevel byteEnded
-    keptWith statusAfter setWhere withBit
+    keptWith scsrAfter setWhere withBit
 shift-received received = refl

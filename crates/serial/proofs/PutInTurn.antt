@@ -10,14 +10,14 @@ use lib.Dec.{eqb, ltb}
 use lib.ListN.{length, length-append}
 use borrow.Author.Tests.{ne-eqb}
 use lib.Pow.{pow-pos, pow-add, shr-shr, shr-lt}
-use Rattle.bits.specs.Bits.{bit, digit, setWhere}
-use Rattle.bits.specs.Lists.{number, tabulate}
-use Rattle.bits.proofs.Cond.{digit-le}
+use Rattle.bits.specs.Bits.{bit, oneWhere, setWhere}
+use Rattle.bits.specs.Lists.{numberOfBits, tabulate}
+use Rattle.bits.proofs.Cond.{one-where-le}
 use Rattle.bits.proofs.Numbers.{number-append, number-lt}
 use Rattle.serial.specs.declared.receiver.Receiver.{Receiver}
 use Rattle.serial.specs.declared.receiver.Receiving.{Receiving}
 use Rattle.serial_format.specs.Format.{width, hasParity}
-use Rattle.serial.specs.Receiver.{receiving, withLevel, keptWith, statusAfter, receivedByte, frameEnded}
+use Rattle.serial.specs.Receiver.{receiving, withLevel, keptWith, scsrAfter, receivedByte, frameEnded}
 use Rattle.serial.specs.Receiver.{lookTaken, looked, receiveTick, shiftedAtRise, byteEnded, receiveRise}
 
 -- levels put one after another
@@ -27,23 +27,23 @@ putAll register (high ∷ levels) = putAll (withLevel register high) levels
 
 -- where n more levels are to come, at most ten, a level put now ends n places below bit 10
 put-far : (register n : ℕ) (high : Bool) → n ≤ 10
-    → withLevel register high / 2 ^ n ≡ register / 2 ^ suc n + digit high * 2 ^ (10 - n)
+    → withLevel register high / 2 ^ n ≡ register / 2 ^ suc n + oneWhere high * 2 ^ (10 - n)
 unfolding withLevel
 put-far register n high h =
     let ten : 10 - n + n ≡ 10 = omega arith in
     let whole : 2 ^ (10 - n) * 2 ^ n ≡ 1024 = sym (pow-add 2 (10 - n) n) ∙ ap (λ k. 2 ^ k) ten in
-    let parts : digit high * 1024 ≡ digit high * 2 ^ (10 - n) * 2 ^ n =
-    ap (λ k. digit high * k) (sym whole) ∙ sym (mul-assoc (digit high) (2 ^ (10 - n)) (2 ^ n)) in
-    let far : (register / 2 + digit high * 2 ^ (10 - n) * 2 ^ n) / 2 ^ n
-    ≡ register / 2 / 2 ^ n + digit high
-    * 2 ^ (10 - n) = add-mul-div-right (register / 2) (digit high * 2 ^ (10 - n)) (pow-pos n) in
+    let parts : oneWhere high * 1024 ≡ oneWhere high * 2 ^ (10 - n) * 2 ^ n =
+    ap (λ k. oneWhere high * k) (sym whole) ∙ sym (mul-assoc (oneWhere high) (2 ^ (10 - n)) (2 ^ n)) in
+    let far : (register / 2 + oneWhere high * 2 ^ (10 - n) * 2 ^ n) / 2 ^ n
+    ≡ register / 2 / 2 ^ n + oneWhere high
+    * 2 ^ (10 - n) = add-mul-div-right (register / 2) (oneWhere high * 2 ^ (10 - n)) (pow-pos n) in
     let one : 1 + n ≡ suc n = omega arith in
     let down : register / 2 / 2 ^ n ≡ register / 2 ^ suc n = shr-shr register 1 n ∙ ap (λ k. register / 2 ^ k) one in
-    ap (λ k. (register / 2 + k) / 2 ^ n) parts ∙ far ∙ ap (λ k. k + digit high * 2 ^ (10 - n)) down
+    ap (λ k. (register / 2 + k) / 2 ^ n) parts ∙ far ∙ ap (λ k. k + oneWhere high * 2 ^ (10 - n)) down
 
 -- Bits put in turn: at most eleven levels stand at the register's top, the first lowest, whatever it held before.
 pub put-in-turn : (register : ℕ) (levels : List Bool) → length levels ≤ 11
-    → putAll register levels ≡ register / 2 ^ length levels + 2 ^ (11 - length levels) * number levels
+    → putAll register levels ≡ register / 2 ^ length levels + 2 ^ (11 - length levels) * numberOfBits levels
 put-in-turn register [] h = rw div-one (omega arith)
 put-in-turn register (high ∷ levels) h =
     let n = length levels in
@@ -53,25 +53,25 @@ put-in-turn register (high ∷ levels) h =
     let less : 11 - n ≡ suc (10 - n) = omega arith in
     let twice : 2 ^ (11 - n) ≡ 2 ^ (10 - n) * 2 = ap (λ k. 2 ^ k) less ∙ pow-suc 2 (10 - n) in
     let lower : 11 - suc n ≡ 10 - n = omega arith in
-    let later : 2 ^ (11 - n) * number levels ≡ 2 ^ (10 - n) * (2 * number levels) =
-    ap (λ k. k * number levels) twice ∙ mul-assoc (2 ^ (10 - n)) 2 (number levels) in
-    let both : 2 ^ (10 - n) * (digit high + 2 * number levels)
-    ≡ 2 ^ (10 - n) * digit high + 2 ^ (10 - n)
-    * (2 * number levels) = mul-add (2 ^ (10 - n)) (digit high) (2 * number levels) in
-    let here = mul-comm (digit high) (2 ^ (10 - n)) in
+    let later : 2 ^ (11 - n) * numberOfBits levels ≡ 2 ^ (10 - n) * (2 * numberOfBits levels) =
+    ap (λ k. k * numberOfBits levels) twice ∙ mul-assoc (2 ^ (10 - n)) 2 (numberOfBits levels) in
+    let both : 2 ^ (10 - n) * (oneWhere high + 2 * numberOfBits levels)
+    ≡ 2 ^ (10 - n) * oneWhere high + 2 ^ (10 - n)
+    * (2 * numberOfBits levels) = mul-add (2 ^ (10 - n)) (oneWhere high) (2 * numberOfBits levels) in
+    let here = mul-comm (oneWhere high) (2 ^ (10 - n)) in
     rw lower (omega (arith, rest, far, later, both, here))
 
 -- what the register held before is gone from the top
 pub top-in-turn : (register : ℕ) (levels : List Bool) → length levels ≤ 11 → register < 2048
-    → putAll register levels / 2 ^ (11 - length levels) ≡ number levels
+    → putAll register levels / 2 ^ (11 - length levels) ≡ numberOfBits levels
 top-in-turn register levels h g =
     let n = length levels in
     let eleven : 11 - n + n ≡ 11 = omega arith in
     let old : register / 2 ^ n < 2 ^ (11 - n) = shr-lt (11 - n) n (rw eleven g) in
     ap (λ k. k / 2 ^ (11 - n)) (put-in-turn register levels h)
-    ∙ add-mul-div-left (register / 2 ^ n) (number levels) (pow-pos (11 - n))
-    ∙ ap (λ k. k + number levels) (div-eq-of-lt old)
-    ∙ zero-add (number levels)
+    ∙ add-mul-div-left (register / 2 ^ n) (numberOfBits levels) (pow-pos (11 - n))
+    ∙ ap (λ k. k + numberOfBits levels) (div-eq-of-lt old)
+    ∙ zero-add (numberOfBits levels)
 
 -- ---- eight rises in shift-register mode
 
@@ -87,45 +87,48 @@ withRegister r left register = record { subinterval = r .subinterval; half = r .
 pub byte-received : (r : Receiver) (scsr received : ℕ) (a b c d e f g h : Bool) → r .register < 2048
     → let levels : List Bool = a ∷ b ∷ c ∷ d ∷ e ∷ f ∷ g ∷ h ∷ [] in
     risen levels (receiving (withRegister r 0 (r .register)) scsr received)
-    ≡ keptWith (number levels) (withRegister r 0 (putAll (r .register) levels)) (statusAfter scsr false false) scsr
+    ≡ keptWith (numberOfBits levels) (withRegister r 0 (putAll (r .register) levels)) (scsrAfter scsr false false) scsr
     received
 unfolding receiveRise shiftedAtRise byteEnded
 byte-received r scsr received a b c d e f g h lt =
     let levels : List Bool = a ∷ b ∷ c ∷ d ∷ e ∷ f ∷ g ∷ h ∷ [] in
-    let top : putAll (r .register) levels / 8 ≡ number levels = top-in-turn (r .register) levels (omega arith) lt in
-    let small : number levels < 256 = number-lt levels in
-    let byte : putAll (r .register) levels / 8 % 256 ≡ number levels = ap (λ k. k % 256) top ∙ mod-eq-of-lt small in
-    ap (λ k. keptWith k (withRegister r 0 (putAll (r .register) levels)) (statusAfter scsr false false) scsr received)
+    let top : putAll (r .register) levels / 8 ≡ numberOfBits levels =
+    top-in-turn (r .register) levels (omega arith) lt in
+    let small : numberOfBits levels < 256 = number-lt levels in
+    let byte : putAll (r .register) levels / 8 % 256 ≡ numberOfBits levels =
+    ap (λ k. k % 256) top ∙ mod-eq-of-lt small in
+    ap (λ k. keptWith k (withRegister r 0 (putAll (r .register) levels)) (scsrAfter scsr false false) scsr received)
     byte
 
 -- SCSR0 clear: the byte is kept and SCSR0 set; else SCSR1 is set and the old byte stays. SCSR2 and SCSR3 are not
 -- touched.
 pub byte-kept : (r : Receiver) (byte scsr received : ℕ) → bit 0 scsr ≡ false
-    → keptWith byte r (statusAfter scsr false false) scsr received ≡ receiving r (setWhere 0 true scsr) byte
-unfolding keptWith statusAfter setWhere
+    → keptWith byte r (scsrAfter scsr false false) scsr received ≡ receiving r (setWhere 0 true scsr) byte
+unfolding keptWith scsrAfter setWhere
 byte-kept r byte scsr received e = rw e
 
 pub byte-dropped : (r : Receiver) (byte scsr received : ℕ) → bit 0 scsr ≡ true
-    → keptWith byte r (statusAfter scsr false false) scsr received ≡ receiving r (setWhere 1 true scsr) received
-unfolding keptWith statusAfter setWhere
+    → keptWith byte r (scsrAfter scsr false false) scsr received ≡ receiving r (setWhere 1 true scsr) received
+unfolding keptWith scsrAfter setWhere
 byte-dropped r byte scsr received e = rw e
 
 -- ---- an asynchronous frame
 
 -- data levels, then parity or none, then the stop
 pub frame-received : (sccr register : ℕ) (levels ending : List Bool) → length levels ≡ width sccr
-    → length ending ≡ digit (hasParity sccr) + 1
-    → register < 2048 → receivedByte sccr (putAll register (levels ++ ending)) ≡ number levels
+    → length ending ≡ oneWhere (hasParity sccr) + 1
+    → register < 2048 → receivedByte sccr (putAll register (levels ++ ending)) ≡ numberOfBits levels
 unfolding receivedByte
 frame-received sccr register levels ending l e lt =
-    let p = digit-le (hasParity sccr) in
-    let n : length (levels ++ ending) ≡ width sccr + (digit (hasParity sccr) + 1) =
+    let p = one-where-le (hasParity sccr) in
+    let n : length (levels ++ ending) ≡ width sccr + (oneWhere (hasParity sccr) + 1) =
     length-append levels ending ∙ rw (l, e) in
-    let place : 10 - digit (hasParity sccr) - width sccr ≡ 11 - length (levels ++ ending) = omega (arith, p, n) in
+    let place : 10 - oneWhere (hasParity sccr) - width sccr ≡ 11 - length (levels ++ ending) = omega (arith, p, n) in
     let top = top-in-turn register (levels ++ ending) (omega (arith, p, n)) lt in
     let split = number-append levels ending in
     rw (place, top, split, l)
-    (add-mul-mod-self-left (number levels) (2 ^ width sccr) (number ending) ∙ mod-eq-of-lt (rw l at (number-lt levels)))
+    (add-mul-mod-self-left (numberOfBits levels) (2 ^ width sccr) (numberOfBits ending) ∙ mod-eq-of-lt
+    (rw l at (number-lt levels)))
 
 -- ---- the same by ticks: a look each second tick, and each eighth look takes the level
 

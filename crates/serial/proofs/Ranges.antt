@@ -9,9 +9,9 @@ use lib.Dec.{leb, ltb, eqb}
 use lib.Pow.{pow-mono}
 use lib.ListN.{length}
 use borrow.Author.Tests.{leb-true, ltb-true, le-leb, lt-ltb, ltb-false, leb-false, eqb-false}
-use Rattle.bits.specs.Bits.{bit, digit, withBit}
-use Rattle.bits.specs.Lists.{bitsOf, number}
-use Rattle.bits.proofs.Cond.{and-left, and-right, and-both, cond-both, digit-le}
+use Rattle.bits.specs.Bits.{bit, oneWhere, withBit}
+use Rattle.bits.specs.Lists.{bitsOf, numberOfBits}
+use Rattle.bits.proofs.Cond.{and-left, and-right, and-both, cond-both, one-where-le}
 use Rattle.bits.proofs.Numbers.{number-lt}
 use Rattle.counters.specs.declared.time.Ticks.{Ticks}
 use Rattle.serial.specs.declared.transmitter.Transmitter.{Transmitter}
@@ -150,13 +150,13 @@ startDetected-in r sccr high i =
     (λ _. cond-both InReceiver (ltb (r .subinterval) 3) (atSub r (r .subinterval + 1)) (started r sccr)
     (λ e. let h = ltb-true (r .subinterval) 3 e in
     record { subinterval = omega arith; left = i .left; register = i .register })
-    (λ _. let d = digit-le (hasParity sccr) in
+    (λ _. let d = one-where-le (hasParity sccr) in
     record { subinterval = omega arith; left = omega arith; register = i .register }))
 
 with-level : (r : Receiver) (high : Bool) → InReceiver r → InReceiver (shiftedIn r high)
 unfolding withLevel
 with-level r high i =
-    let l = i .left in let g = i .register in let d = digit-le high in
+    let l = i .left in let g = i .register in let d = one-where-le high in
     record { subinterval = omega arith; left = omega arith; register = omega arith }
 
 lookTaken-in : (r : Receiver) (sccr scsr received : ℕ) (high : Bool) → InReceiver r
@@ -196,7 +196,7 @@ unfolding shiftedAtRise withLevel
 at-rise-in r high i =
     let l : cond (eqb (r .left) 0) 8 (r .left) ≤ 11 =
     cond-both (λ (n : ℕ). n ≤ 11) (eqb (r .left) 0) 8 (r .left) (λ _. omega arith) (λ _. i .left) in
-    let g = i .register in let d = digit-le high in
+    let g = i .register in let d = one-where-le high in
     record { subinterval = i .subinterval; left = omega arith; register = omega arith }
 
 rise-in : (r : Receiver) (scsr received : ℕ) (high : Bool) → InReceiver r

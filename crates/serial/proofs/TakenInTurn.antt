@@ -10,9 +10,9 @@ use native.Mathlib.Omega.{arith}
 use lib.Dec.{eqb, ltb}
 use lib.ListN.{length, drop, getD, length-drop, drop-of-length-le}
 use borrow.Author.Tests.{ltb-true, ltb-false, eqb-true, eqb-false, eq-eqb, ne-eqb}
-use Rattle.bits.specs.Bits.{bit, digit, withBit}
-use Rattle.bits.specs.Lists.{bitsOf, number}
-use Rattle.bits.proofs.Cond.{digit-le}
+use Rattle.bits.specs.Bits.{bit, oneWhere, withBit}
+use Rattle.bits.specs.Lists.{bitsOf, numberOfBits}
+use Rattle.bits.proofs.Cond.{one-where-le}
 use Rattle.serial.specs.declared.transmitter.Transmitter.{Transmitter}
 use Rattle.serial.specs.declared.transmitter.Sending.{Sending}
 use Rattle.serial_format.specs.Format.{transmitterShifts, frameBits, paceIn, pace}
@@ -22,7 +22,7 @@ use Rattle.serial.specs.Transmitter.{shiftClock}
 
 -- a transmitter that has these bits to send, the first one on the line
 abbrev pub sendingBits : List Bool → ℕ → Transmitter
-sendingBits bits phase = record { left = length bits; phase = phase; register = number bits }
+sendingBits bits phase = record { left = length bits; phase = phase; register = numberOfBits bits }
 
 abbrev pub tickedFor : ℕ → ℕ → Transmitter → Transmitter
 tickedFor zero ticks t = t
@@ -42,8 +42,8 @@ next-ends : (shifts : Bool) (m : ℕ) → suc m % 16 % paceIn shifts ≡ suc m %
 next-ends true m = omega arith
 next-ends false m = omega arith
 
-without-first : (b : Bool) (bits : List Bool) → number (b ∷ bits) / 2 ≡ number bits
-without-first b bits = let d = digit-le b in omega arith
+without-first : (b : Bool) (bits : List Bool) → numberOfBits (b ∷ bits) / 2 ≡ numberOfBits bits
+without-first b bits = let d = one-where-le b in omega arith
 
 one-fewer : (n : ℕ) → suc n - 1 ≡ n
 one-fewer n = omega arith
@@ -119,9 +119,9 @@ taken-in-turn shifts bits k j h g =
 pub left-in-turn : (bits : List Bool) (k phase : ℕ) → sendingBits (drop k bits) phase .left ≡ length bits - k
 left-in-turn bits k phase = length-drop k bits
 
-lowest : (b : Bool) (bits : List Bool) → bit 0 (number (b ∷ bits)) ≡ b
-lowest true bits = eq-eqb (number (true ∷ bits) / 2 ^ 0 % 2) 1 (omega arith)
-lowest false bits = ne-eqb (number (false ∷ bits) / 2 ^ 0 % 2) 1 (λ e. omega arith)
+lowest : (b : Bool) (bits : List Bool) → bit 0 (numberOfBits (b ∷ bits)) ≡ b
+lowest true bits = eq-eqb (numberOfBits (true ∷ bits) / 2 ^ 0 % 2) 1 (omega arith)
+lowest false bits = ne-eqb (numberOfBits (false ∷ bits) / 2 ^ 0 % 2) 1 (λ e. omega arith)
 
 pub line-in-turn : (bits : List Bool) (k phase : ℕ) → k < length bits
     → line (sendingBits (drop k bits) phase) ≡ getD bits k true

@@ -2,7 +2,7 @@
 use mathlib.Core.Bool.{Bool, true, false, _&&_, _||_, not, cond, Bool·beq}
 use Prim.Native.Nat.{ℕ, _+_, _-_, _*_, _/_, _%_, _^_}
 use lib.Dec.{leb, ltb, eqb}
-use Rattle.bits.specs.Bits.{bit, digit, setWhere}
+use Rattle.bits.specs.Bits.{bit, oneWhere, setWhere}
 use Rattle.counters.specs.declared.time.Ticks.{Ticks}
 use Rattle.serial.specs.declared.receiver.Receiver.{Receiver}
 use Rattle.serial.specs.declared.receiver.Receiving.{Receiving}
@@ -22,7 +22,7 @@ atSub r n = record { subinterval = n; half = r .half; left = r .left; register =
 
 -- "bits left data + parity + one stop"
 abbrev pub frameSize : ℕ → ℕ
-frameSize sccr = width sccr + digit (hasParity sccr) + 1
+frameSize sccr = width sccr + oneWhere (hasParity sccr) + 1
 
 abbrev pub started : Receiver → ℕ → Receiver
 started r sccr = record { subinterval = 0; half = r .half; left = frameSize sccr; register = r .register }
@@ -34,7 +34,7 @@ startDetected r sccr high =
 
 -- "shifts the level into bit 10": in either mode
 unfoldable pub withLevel : ℕ → Bool → ℕ
-withLevel register high = register / 2 + digit high * 1024
+withLevel register high = register / 2 + oneWhere high * 1024
 
 -- ", one bit fewer left"
 abbrev pub shiftedIn : Receiver → Bool → Receiver
@@ -43,7 +43,7 @@ shiftedIn r high =
 
 -- "bit 10 is the stop, parity and data below it", "the byte (high bits 0)"
 unfoldable pub receivedByte : ℕ → ℕ → ℕ
-receivedByte sccr register = register / 2 ^ (10 - digit (hasParity sccr) - width sccr) % 2 ^ width sccr
+receivedByte sccr register = register / 2 ^ (10 - oneWhere (hasParity sccr) - width sccr) % 2 ^ width sccr
 
 -- "Wrong parity", "a low stop"
 unfoldable pub wrongParity : ℕ → ℕ → Bool
@@ -55,8 +55,8 @@ lowStop register = not (bit 10 register)
 
 -- "if SCSR0 is clear .. SCSR0 set; else SCSR1 is set. Wrong parity sets SCSR2, a low stop SCSR3";
 -- 001, 5.3, SCSR 0: it "will not be set to a logic 1 if the received data contains an error condition"
-unfoldable pub statusAfter : ℕ → Bool → Bool → ℕ
-statusAfter scsr wrong low =
+unfoldable pub scsrAfter : ℕ → Bool → Bool → ℕ
+scsrAfter scsr wrong low =
     setWhere framingError low (setWhere parityError wrong
     (cond (bit receiverFull scsr) (setWhere overrun true scsr) (setWhere receiverFull (not (wrong || low)) scsr)))
 
@@ -68,7 +68,7 @@ keptWith byte r status scsr received = receiving r status (cond (bit receiverFul
 unfoldable pub frameEnded : Receiver → ℕ → ℕ → ℕ → Receiving
 frameEnded r sccr scsr received =
     keptWith (receivedByte sccr (r .register)) r
-    (statusAfter scsr (wrongParity sccr (r .register)) (lowStop (r .register))) scsr received
+    (scsrAfter scsr (wrongParity sccr (r .register)) (lowStop (r .register))) scsr received
 
 -- "Then each eighth look, from 7 to 0"
 unfoldable pub lookTaken : Receiver → ℕ → ℕ → ℕ → Bool → Receiving
@@ -101,7 +101,7 @@ shiftedAtRise r high = record {
 
 -- "at the last the byte is bits 3 to 10, with SCSR0 or SCSR1 as in 01": without an error
 unfoldable pub byteEnded : Receiver → ℕ → ℕ → Receiving
-byteEnded r scsr received = keptWith (r .register / 8 % 256) r (statusAfter scsr false false) scsr received
+byteEnded r scsr received = keptWith (r .register / 8 % 256) r (scsrAfter scsr false false) scsr received
 
 abbrev pub endedAtLast : Receiver → ℕ → ℕ → Receiving
 endedAtLast r scsr received = cond (eqb (r .left) 0) (byteEnded r scsr received) (receiving r scsr received)

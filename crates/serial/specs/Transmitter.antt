@@ -5,7 +5,7 @@ use Prim.Native.Nat.{ℕ, _+_, _-_, _/_, _%_}
 use lib.Dec.{leb, ltb, eqb}
 use lib.ListN.{length}
 use Rattle.bits.specs.Bits.{bit, withBit}
-use Rattle.bits.specs.Lists.{bitsOf, number}
+use Rattle.bits.specs.Lists.{bitsOf, numberOfBits}
 use Rattle.counters.specs.declared.time.Ticks.{Ticks}
 use Rattle.serial.specs.declared.transmitter.Transmitter.{Transmitter}
 use Rattle.serial.specs.declared.transmitter.Sending.{Sending}
@@ -25,7 +25,8 @@ idleTransmitter = record { left = 0; phase = 0; register = 0 }
 
 -- "phase 0, register and bits left to a frame"
 unfoldable pub framed : ℕ → ℕ → Transmitter
-framed sccr byte = record { left = length (sentBits sccr byte); phase = 0; register = number (sentBits sccr byte) }
+framed sccr byte =
+    record { left = length (sentBits sccr byte); phase = 0; register = numberOfBits (sentBits sccr byte) }
 
 -- "it takes the data, sets SCSR6"; 001, 5.3, SCSR 7: "Cleared by a transfer of new data into the Transmitter Shift
 -- Register"

@@ -1,15 +1,15 @@
 // The receiver.
 ghost use mathlib.Core.Path.{_≡_};
 ghost use Prim.Native.Nat.{_-_};
-ghost use Rattle.bits.specs.Bits.{digit};
+ghost use Rattle.bits.specs.Bits.{oneWhere};
 ghost use Rattle.serial_format.specs.Format.{width, hasParity};
 ghost use Rattle.serial.specs.Receiver.{idleReceiver, frameSize, startDetected, receivedByte, wrongParity};
-ghost use Rattle.serial.specs.Receiver.{statusAfter, withLevel, keptWith, frameEnded, lookTaken, looked};
+ghost use Rattle.serial.specs.Receiver.{scsrAfter, withLevel, keptWith, frameEnded, lookTaken, looked};
 ghost use Rattle.serial.specs.Receiver.{receiveTick, shiftedAtRise, byteEnded, receiveRise, receiverClock};
 ghost use Rattle.serial.specs.Receiver.{receiverWithSccr};
 use bits::one_less;
 use counters::time::Ticks;
-use serial_format::data_span;
+use serial_format::data_values;
 use serial_format::data_width;
 use serial_format::has_parity;
 use serial_format::keeps_receiver;
@@ -68,7 +68,7 @@ fn frame_size(sccr: u8) -> u8
 
 // How many bits stand below the data: those of the register under stop and parity.
 fn data_place(sccr: u8) -> u16
-    ensures { λ r. ⌜ r ≡ 10 - digit (hasParity sccr) - width sccr ⌝ }
+    ensures { λ r. ⌜ r ≡ 10 - oneWhere (hasParity sccr) - width sccr ⌝ }
 {
     (10 - parity_size(sccr) - data_width(sccr)) as u16
 }
@@ -78,8 +78,8 @@ fn byte_of(sccr: u8, register: u16) -> u8
     ensures { λ r. ⌜ r ≡ receivedByte sccr register ⌝ }
 {
     let place = data_place(sccr);
-    let span = data_span(sccr);
-    ((register >> place) % span) as u8
+    let values = data_values(sccr);
+    ((register >> place) % values) as u8
 }
 
 // Whether there is a parity bit, and it is wrong.
@@ -92,8 +92,8 @@ fn parity_is_wrong(sccr: u8, register: u16) -> bool
 }
 
 // The status register at the end of a frame.
-fn status_after(scsr: u8, wrong: bool, low: bool) -> u8
-    ensures { λ r. ⌜ r ≡ statusAfter scsr wrong low ⌝ }
+fn scsr_after(scsr: u8, wrong: bool, low: bool) -> u8
+    ensures { λ r. ⌜ r ≡ scsrAfter scsr wrong low ⌝ }
 {
     if scsr / RECEIVER_FULL_WEIGHT % 2 == 1 {
         let overrun = bits::set_where(scsr, OVERRUN, true);
@@ -163,7 +163,7 @@ impl Receiver {
         ensures { λ r. ⌜ r ≡ frameEnded self sccr scsr received ⌝ }
     {
         let wrong = parity_is_wrong(sccr, self.register);
-        let status = status_after(scsr, wrong, self.register / STOP % 2 != 1);
+        let status = scsr_after(scsr, wrong, self.register / STOP % 2 != 1);
         let byte = byte_of(sccr, self.register);
         self.keep(byte, status, scsr, received)
     }
@@ -245,7 +245,7 @@ impl Receiver {
     fn end_byte(mut self, scsr: u8, received: u8) -> Receiving
         ensures { λ r. ⌜ r ≡ byteEnded self scsr received ⌝ }
     {
-        let status = status_after(scsr, false, false);
+        let status = scsr_after(scsr, false, false);
         let byte = (self.register / BYTE % 256) as u8;
         self.keep(byte, status, scsr, received)
     }

@@ -116,7 +116,7 @@ impl Transmitter {
     }
 
     // The phase raised, and at the end of a bit the next one on the line.
-    fn advance(mut self, sccr: u8) -> Transmitter
+    fn advance_phase(mut self, sccr: u8) -> Transmitter
         ensures { λ r. ⌜ r ≡ ticked (pace sccr) self ⌝ }
     {
         let phase = next_phase(self.phase);
@@ -133,7 +133,7 @@ impl Transmitter {
     fn bit_tick(mut self, sccr: u8, scsr: u8, byte: u8) -> Sending
         ensures { λ r. ⌜ r ≡ bitTick self sccr scsr byte ⌝ }
     {
-        let next = self.advance(sccr);
+        let next = self.advance_phase(sccr);
         if next.left == 0 {
             return next.frame_end(sccr, scsr, byte);
         }

@@ -9,51 +9,54 @@ use lib.Pow.{pow-pos, pow-mono}
 use lib.Bits.{bitXor}
 use lib.Dec.{T, eqb, eqb→eq}
 use lib.ListN.{length, length-append}
-use Rattle.bits.specs.Bits.{bit, digit}
-use Rattle.bits.specs.Lists.{bitsOf, number, oddOnes, allOf, tabulate}
-use Rattle.bits.proofs.Cond.{both-left, both-right, equal, digit-le, cond-both}
+use Rattle.bits.specs.Bits.{bit, oneWhere}
+use Rattle.bits.specs.Lists.{bitsOf, numberOfBits, oddOnes, allOf, tabulate}
+use Rattle.bits.proofs.Cond.{both-left, both-right, equal, one-where-le, cond-both}
 use Rattle.bits.proofs.Tables.{below, below2, length-tabulate, upTo}
 use Rattle.bits.proofs.Numbers.{number-append}
-use Rattle.serial_format.specs.Format.{width, hasParity, parityBit, dataBits, ending, frameBits}
+use Rattle.serial_format.specs.Format.{width, hasParity, parityBit, dataBits, parityAndStops, frameBits}
 
-pub span-pos : (sccr : ℕ) → 0 < 2 ^ width sccr
-span-pos sccr = pow-pos (width sccr)
+pub values-pos : (sccr : ℕ) → 0 < 2 ^ width sccr
+values-pos sccr = pow-pos (width sccr)
 
-pub span-le : (sccr : ℕ) → 2 ^ width sccr ≤ 256
-span-le sccr = pow-mono {i = width sccr} {j = 8} (omega arith)
+pub values-le : (sccr : ℕ) → 2 ^ width sccr ≤ 256
+values-le sccr = pow-mono {i = width sccr} {j = 8} (omega arith)
 
 pub data-lt : (sccr x : ℕ) → x % 2 ^ width sccr < 256
-data-lt sccr x = omega (arith, mod-lt x (span-pos sccr), span-le sccr)
+data-lt sccr x = omega (arith, mod-lt x (values-pos sccr), values-le sccr)
 
 -- for each width and byte: the data bits write the byte modulo 2 to the width, whose own eight bits have the same
 -- parity
 dataRight : ℕ → ℕ → Bool
 dataRight k x =
-    eqb (number (bitsOf (8 - k) x)) (x % 2 ^ (8 - k))
+    eqb (numberOfBits (bitsOf (8 - k) x)) (x % 2 ^ (8 - k))
     && Bool·beq (oddOnes (bitsOf 8 (x % 2 ^ (8 - k)))) (oddOnes (bitsOf (8 - k) x))
 
 data-right : (k x : ℕ) → k < 4 → x < 256 → T (dataRight k x)
 unfolding dataRight
 data-right = below2 dataRight 4 256 tt
 
-pub number-data : (sccr x : ℕ) → x < 256 → number (dataBits sccr x) ≡ x % 2 ^ width sccr
+pub number-data : (sccr x : ℕ) → x < 256 → numberOfBits (dataBits sccr x) ≡ x % 2 ^ width sccr
 unfolding dataRight
 number-data sccr x h =
-    eqb→eq (number (dataBits sccr x)) (x % 2 ^ width sccr)
-    (both-left (eqb (number (dataBits sccr x)) (x % 2 ^ width sccr)) _ (data-right (sccr / 4 % 4) x (omega arith) h))
+    eqb→eq (numberOfBits (dataBits sccr x)) (x % 2 ^ width sccr)
+    (both-left (eqb (numberOfBits (dataBits sccr x)) (x % 2 ^ width sccr)) _
+    (data-right (sccr / 4 % 4) x (omega arith) h))
 
 -- eight data bits are the byte
-pub number-byte : (x : ℕ) → x < 256 → number (bitsOf 8 x) ≡ x
+pub number-byte : (x : ℕ) → x < 256 → numberOfBits (bitsOf 8 x) ≡ x
 number-byte x h = number-data 0 x h ∙ mod-eq-of-lt h
 
 pub odd-data : (sccr x : ℕ) → x < 256 → oddOnes (bitsOf 8 (x % 2 ^ width sccr)) ≡ oddOnes (dataBits sccr x)
 unfolding dataRight
 odd-data sccr x h =
     equal (oddOnes (bitsOf 8 (x % 2 ^ width sccr))) (oddOnes (dataBits sccr x))
-    (both-right (eqb (number (dataBits sccr x)) (x % 2 ^ width sccr)) _ (data-right (sccr / 4 % 4) x (omega arith) h))
+    (both-right (eqb (numberOfBits (dataBits sccr x)) (x % 2 ^ width sccr)) _
+    (data-right (sccr / 4 % 4) x (omega arith) h))
 
 -- so a frame's ending may be taken from the data as a number
-pub ending-data : (sccr x : ℕ) → x < 256 → ending sccr (bitsOf 8 (x % 2 ^ width sccr)) ≡ ending sccr (dataBits sccr x)
+pub ending-data : (sccr x : ℕ) → x < 256
+    → parityAndStops sccr (bitsOf 8 (x % 2 ^ width sccr)) ≡ parityAndStops sccr (dataBits sccr x)
 unfolding parityBit
 ending-data sccr x h = rw (odd-data sccr x h)
 
@@ -76,27 +79,28 @@ pub frame-length : (sccr x : ℕ) → length (frameBits sccr x) ≡ width sccr +
 unfolding frameBits
 frame-length sccr x =
     let d : length (dataBits sccr x) ≡ width sccr = length-tabulate (λ k. bit k x) (width sccr) 0 in
-    let e : length (ending sccr (dataBits sccr x))
+    let e : length (parityAndStops sccr (dataBits sccr x))
     ≡ 2 = cond-both (λ (l : List Bool). length l ≡ 2) (hasParity sccr) (parityBit sccr (dataBits sccr x) ∷ true ∷ [])
     (true ∷ true ∷ []) (λ _. refl) (λ _. refl) in
-    let a = length-append (dataBits sccr x) (ending sccr (dataBits sccr x)) in
+    let a = length-append (dataBits sccr x) (parityAndStops sccr (dataBits sccr x)) in
     omega (arith, a, d, e)
 
 -- a frame as a number
 pub frame-number : (sccr x : ℕ) → x < 256
-    → number (frameBits sccr x)
-    ≡ (x % 2 ^ width sccr + 2 ^ width sccr * number (ending sccr (bitsOf 8 (x % 2 ^ width sccr)))) * 2
+    → numberOfBits (frameBits sccr x)
+    ≡ (x % 2 ^ width sccr + 2 ^ width sccr * numberOfBits (parityAndStops sccr (bitsOf 8 (x % 2 ^ width sccr)))) * 2
 unfolding frameBits
 frame-number sccr x h =
-    let a = number-append (dataBits sccr x) (ending sccr (dataBits sccr x)) in
+    let a = number-append (dataBits sccr x) (parityAndStops sccr (dataBits sccr x)) in
     let n = number-data sccr x h in
     let l : length (dataBits sccr x) ≡ width sccr = length-tabulate (λ k. bit k x) (width sccr) 0 in
     rw (ending-data sccr x h, a, n, l) (omega arith)
 
-pub ending-le : (sccr : ℕ) (bits : List Bool) → number (ending sccr bits) ≤ 3
+pub ending-le : (sccr : ℕ) (bits : List Bool) → numberOfBits (parityAndStops sccr bits) ≤ 3
 ending-le sccr bits =
-    cond-both (λ (l : List Bool). number l ≤ 3) (hasParity sccr) (parityBit sccr bits ∷ true ∷ []) (true ∷ true ∷ [])
-    (λ _. let d = digit-le (parityBit sccr bits) in omega arith) (λ _. omega arith)
+    cond-both (λ (l : List Bool). numberOfBits l ≤ 3) (hasParity sccr) (parityBit sccr bits ∷ true ∷ [])
+    (true ∷ true ∷ [])
+    (λ _. let d = one-where-le (parityBit sccr bits) in omega arith) (λ _. omega arith)
 
 -- the parts of a frame of eleven bits
 pub frame-le : (b e p : ℕ) → 0 < p → p ≤ 256 → e ≤ 3 → (b % p + p * e) * 2 ≤ 2046

@@ -2,7 +2,7 @@
 use mathlib.Core.Bool.{Bool, true, false, _&&_, _||_, not, cond}
 use mathlib.Core.List.{List, [], _∷_, _++_}
 use Prim.Native.Nat.{ℕ, _+_, _-_, _/_, _%_, _^_}
-use Rattle.bits.specs.Bits.{bit, digit}
+use Rattle.bits.specs.Bits.{bit, oneWhere}
 use Rattle.bits.specs.Lists.{bitsOf, oddOnes}
 
 -- "SCCR5: transmitter shifts; else SCCR4: receiver shifts"
@@ -52,12 +52,12 @@ abbrev pub dataBits : ℕ → ℕ → List Bool
 dataBits sccr byte = bitsOf (width sccr) byte
 
 -- "Two stops without parity; with it Figure 5-2's number, one if unreadable." (it is)
-abbrev pub ending : ℕ → List Bool → List Bool
-ending sccr bits = cond (hasParity sccr) (parityBit sccr bits ∷ true ∷ []) (true ∷ true ∷ [])
+abbrev pub parityAndStops : ℕ → List Bool → List Bool
+parityAndStops sccr bits = cond (hasParity sccr) (parityBit sccr bits ∷ true ∷ []) (true ∷ true ∷ [])
 
 -- "a frame: start 0, data lowest bit first, parity, stops, bit 0 first"
 unfoldable pub frameBits : ℕ → ℕ → List Bool
-frameBits sccr byte = false ∷ dataBits sccr byte ++ ending sccr (dataBits sccr byte)
+frameBits sccr byte = false ∷ dataBits sccr byte ++ parityAndStops sccr (dataBits sccr byte)
 
 -- the ticks that a bit lasts: of a frame 16; 02, U1, in shift-register mode: "shifted at each tick that makes the phase
 -- even"

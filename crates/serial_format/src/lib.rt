@@ -3,11 +3,13 @@ ghost use mathlib.Core.Path.{_≡_};
 ghost use Prim.Native.Nat.{ℕ, _^_, _%_, _-_};
 ghost use lib.Dec.{eqb};
 ghost use lib.ListN.{length};
-ghost use Rattle.bits.specs.Bits.{bit, digit};
-ghost use Rattle.bits.specs.Lists.{bitsOf, oddOnes, number};
-ghost use Rattle.serial_format.specs.Format.{transmitterShifts, receiverShifts, receiverAsynchronous, receiverShifting};
-ghost use Rattle.serial_format.specs.Format.{holdsA, keepsTransmitter, keepsReceiver, width, hasParity, parityBit};
-ghost use Rattle.serial_format.specs.Format.{ending, frameBits, pace};
+ghost use Rattle.bits.specs.Bits.{bit, oneWhere};
+ghost use Rattle.bits.specs.Lists.{bitsOf, oddOnes, numberOfBits};
+ghost use Rattle.serial_format.specs.Format.{transmitterShifts, receiverShifts, receiverAsynchronous};
+ghost use Rattle.serial_format.specs.Format.{receiverShifting};
+ghost use Rattle.serial_format.specs.Format.{holdsA, keepsTransmitter, keepsReceiver, width, hasParity};
+ghost use Rattle.serial_format.specs.Format.{parityBit};
+ghost use Rattle.serial_format.specs.Format.{parityAndStops, frameBits, pace};
 
 // What SCSR says: its bits.
 pub mod status;
@@ -89,7 +91,7 @@ pub fn data_width(sccr: u8) -> u8
 }
 
 // 2 to the number of data bits.
-pub fn data_span(sccr: u8) -> u16
+pub fn data_values(sccr: u8) -> u16
     ensures { λ r. ⌜ r ≡ 2 ^ width sccr ⌝ }
 {
     let k = sccr / 4 % 4;
@@ -114,9 +116,9 @@ pub fn has_parity(sccr: u8) -> bool
 
 // 1 where a frame has a parity bit.
 pub fn parity_size(sccr: u8) -> u8
-    ensures { λ r. ⌜ r ≡ digit (hasParity sccr) ⌝ }
+    ensures { λ r. ⌜ r ≡ oneWhere (hasParity sccr) ⌝ }
 {
-    bits::digit8(has_parity(sccr))
+    bits::one_where(has_parity(sccr))
 }
 
 // Whether a byte has an odd number of ones.
@@ -138,22 +140,22 @@ pub fn parity_bit(sccr: u8, byte: u8) -> bool
 
 // What follows the data bits, as a number: parity and one stop, or two stops.
 pub fn frame_ending(sccr: u8, byte: u8) -> u16
-    ensures { λ r. ⌜ r ≡ number (ending sccr (bitsOf 8 byte)) ⌝ }
+    ensures { λ r. ⌜ r ≡ numberOfBits (parityAndStops sccr (bitsOf 8 byte)) ⌝ }
 {
     if has_parity(sccr) {
-        return bits::digit8(parity_bit(sccr, byte)) as u16 + 2;
+        return bits::one_where(parity_bit(sccr, byte)) as u16 + 2;
     }
     3
 }
 
 // The frame of a byte, as a number: its first bit lowest.
 pub fn frame(sccr: u8, byte: u8) -> u16
-    ensures { λ r. ⌜ r ≡ number (frameBits sccr byte) ⌝ }
+    ensures { λ r. ⌜ r ≡ numberOfBits (frameBits sccr byte) ⌝ }
 {
-    let span = data_span(sccr);
-    let data = byte as u16 % span;
+    let values = data_values(sccr);
+    let data = byte as u16 % values;
     let ending = frame_ending(sccr, data as u8);
-    (data + span * ending) * 2
+    (data + values * ending) * 2
 }
 
 // The number of bits of a frame: start, data, and two more.

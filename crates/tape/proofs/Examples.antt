@@ -8,8 +8,8 @@ use lib.ListN.{length, set}
 use Rattle.page_sums.specs.PageSums.{totalOf}
 use Rattle.tape.specs.Digits.{isDigit, valueOf, numberFrom, byteOf, bytesOf}
 use Rattle.tape.specs.Records.{byteCountOf, addressOf, sumOf, checkSumOf, areDigits, malformed, faultOf, dataOf}
-use Rattle.memory.specs.Memory.{memorySpan}
-use Rattle.tape.specs.Tapes.{loadResult, endedBy, recordBy, checkFrom, checkOf, putFrom, landed, storeFrom}
+use Rattle.memory.specs.Memory.{memoryLength}
+use Rattle.tape.specs.Tapes.{loadResult, endedBy, recordBy, checkFrom, checkOf, putFrom, landed, landedAll}
 use Rattle.tape.specs.Tapes.{loaded, loadOf}
 use Rattle.tape.proofs.Laws.{load-accepted}
 
@@ -28,18 +28,18 @@ unfolding isDigit valueOf numberFrom byteOf bytesOf totalOf byteCountOf addressO
 replay-check = refl
 
 -- its bytes land at 0200h and at FFFCh
-replay-store : (memory : List ℕ) → storeFrom replayTape memory
+replay-landed : (memory : List ℕ) → landedAll replayTape memory
     ≡ set (set (set (set (set (set (set (set (set memory 0x200 0xA9) 0x201 0x55) 0x202 0x85) 0x203 0x00) 0x204 0x4C)
     0x205 0x04) 0x206 0x02) 0xFFFC 0x00) 0xFFFD 0x02
 unfolding isDigit valueOf numberFrom byteOf bytesOf totalOf byteCountOf addressOf sumOf checkSumOf areDigits malformed
-    faultOf dataOf putFrom landed storeFrom
-replay-store memory = refl
+    faultOf dataOf putFrom landed landedAll
+replay-landed memory = refl
 
-pub replay-load : (memory : List ℕ) → length memory ≡ memorySpan → loadOf replayTape memory
+pub replay-load : (memory : List ℕ) → length memory ≡ memoryLength → loadOf replayTape memory
     ≡ loaded (loadResult 0 53) (set (set (set (set (set (set (set (set (set memory 0x200 0xA9) 0x201 0x55) 0x202
     0x85) 0x203 0x00) 0x204 0x4C) 0x205 0x04) 0x206 0x02) 0xFFFC 0x00) 0xFFFD 0x02)
 replay-load memory h =
-    load-accepted replayTape memory h 53 replay-check ∙ ap (loaded (loadResult 0 53)) (replay-store memory)
+    load-accepted replayTape memory h 53 replay-check ∙ ap (loaded (loadResult 0 53)) (replay-landed memory)
 
 -- the last record alone is a good tape, and writes nothing
 abbrev pub loneTape : List ℕ
@@ -50,7 +50,7 @@ unfolding isDigit valueOf numberFrom byteOf bytesOf totalOf byteCountOf addressO
     faultOf endedBy recordBy checkFrom
 lone-check = refl
 
-pub lone-load : (memory : List ℕ) → length memory ≡ memorySpan
+pub lone-load : (memory : List ℕ) → length memory ≡ memoryLength
     → loadOf loneTape memory ≡ loaded (loadResult 0 11) memory
-unfolding valueOf numberFrom byteCountOf storeFrom
+unfolding valueOf numberFrom byteCountOf landedAll
 lone-load memory h = load-accepted loneTape memory h 11 lone-check

@@ -14,30 +14,30 @@ use Rattle.bits.proofs.Cond.{cond-both}
 use Rattle.tape.specs.declared.LoadResult.{LoadResult}
 use Rattle.tape.specs.Digits.{isDigit, bytesOf}
 use Rattle.tape.specs.Records.{mark, recordLength, byteCountOf, addressOf, faultOf, dataOf}
-use Rattle.memory.specs.Memory.{memorySpan, registerEnd, withLow}
-use Rattle.memory.proofs.Low.{low-set, low-length}
-use Rattle.tape.specs.Tapes.{loadResult, endedBy, recordBy, checkFrom, checkOf, putFrom, landed, storeFrom}
+use Rattle.memory.specs.Memory.{memoryLength, registerEnd, withUntouched}
+use Rattle.memory.proofs.Untouched.{untouched-set, untouched-length}
+use Rattle.tape.specs.Tapes.{loadResult, endedBy, recordBy, checkFrom, checkOf, putFrom, landed, landedAll}
 use Rattle.tape.specs.Tapes.{Loaded, loaded, loadOf}
 use Rattle.tape.proofs.DigitLaws.{and-true}
 use Rattle.tape.proofs.RecordLaws.{good}
 use Rattle.tape.proofs.MemoryLaws.{length-puts, take-puts}
 
 -- what each landing keeps, the store of a tape keeps
-store-keeps : (P : List ℕ → Type 0) → ((text memory : List ℕ) → P memory → P (landed text memory))
-    → (tape memory : List ℕ) → P memory → P (storeFrom tape memory)
-unfolding storeFrom
-store-keeps P k [] memory p = p
-store-keeps P k (c ∷ text) memory p =
+landed-all-keeps : (P : List ℕ → Type 0) → ((text memory : List ℕ) → P memory → P (landed text memory))
+    → (tape memory : List ℕ) → P memory → P (landedAll tape memory)
+unfolding landedAll
+landed-all-keeps P k [] memory p = p
+landed-all-keeps P k (c ∷ text) memory p =
     cond-both P (eqb c mark && eqb (byteCountOf text) 0) _ _ (λ _. p)
-    (λ _. store-keeps P k text _ (cond-both P (eqb c mark) _ _ (λ _. k text memory p) (λ _. p)))
+    (λ _. landed-all-keeps P k text _ (cond-both P (eqb c mark) _ _ (λ _. k text memory p) (λ _. p)))
 
 module _ (tape memory : List ℕ) where
   load-keeps : (P : List ℕ → Type 0) → ((text m : List ℕ) → P m → P (landed text m)) → P memory
       → P (loadOf tape memory .memory)
   unfolding loadOf
   load-keeps P k p =
-      cond-both (λ (o : Loaded). P (o .memory)) (eqb (length memory) memorySpan) _ _
-      (λ _. cond-both P (eqb (checkOf tape .number) 0) _ _ (λ _. store-keeps P k tape memory p) (λ _. p))
+      cond-both (λ (o : Loaded). P (o .memory)) (eqb (length memory) memoryLength) _ _
+      (λ _. cond-both P (eqb (checkOf tape .number) 0) _ _ (λ _. landed-all-keeps P k tape memory p) (λ _. p))
       (λ _. p)
 
   -- memory keeps its length
@@ -55,20 +55,20 @@ module _ (tape memory : List ℕ) where
       (λ text m e. take-puts registerEnd (addressOf text) (bytesOf (dataOf text)) m ∙ e) refl
 
   -- a memory of another length is 1, at place 0, whatever the tape
-  pub load-other-length : (length memory ≡ memorySpan → ⊥) → loadOf tape memory ≡ loaded (loadResult 1 0) memory
+  pub load-other-length : (length memory ≡ memoryLength → ⊥) → loadOf tape memory ≡ loaded (loadResult 1 0) memory
   unfolding loadOf
-  load-other-length h = rw (ne-eqb (length memory) memorySpan h)
+  load-other-length h = rw (ne-eqb (length memory) memoryLength h)
 
-  module _ (right : length memory ≡ memorySpan) where
+  module _ (right : length memory ≡ memoryLength) where
     -- a refused tape leaves memory unchanged
     pub load-refused : (checkOf tape .number ≡ 0 → ⊥) → loadOf tape memory ≡ loaded (checkOf tape) memory
     unfolding loadOf
-    load-refused h = rw (eq-eqb (length memory) memorySpan right, ne-eqb (checkOf tape .number) 0 h)
+    load-refused h = rw (eq-eqb (length memory) memoryLength right, ne-eqb (checkOf tape .number) 0 h)
 
     pub load-accepted : (place : ℕ) → checkOf tape ≡ loadResult 0 place
-        → loadOf tape memory ≡ loaded (loadResult 0 place) (storeFrom tape memory)
+        → loadOf tape memory ≡ loaded (loadResult 0 place) (landedAll tape memory)
     unfolding loadOf
-    load-accepted place e = rw (eq-eqb (length memory) memorySpan right, e)
+    load-accepted place e = rw (eq-eqb (length memory) memoryLength right, e)
 
 -- a digit is no `;`
 digit-unmarked : (c : ℕ) → isDigit c ≡ true → eqb c mark ≡ false
@@ -77,8 +77,8 @@ digit-unmarked c h = ne-eqb c mark (λ e. let f = rw e at h in let z : _≡_ {A 
 
 -- digits are skipped, by the check and by the store
 digits-stored : (n : ℕ) (text : List ℕ) → n ≤ length text → allOf isDigit (take n text) ≡ true
-    → (memory : List ℕ) → storeFrom text memory ≡ storeFrom (drop n text) memory
-unfolding storeFrom
+    → (memory : List ℕ) → landedAll text memory ≡ landedAll (drop n text) memory
+unfolding landedAll
 digits-stored zero text h d memory = refl
 digits-stored (suc n) [] h d memory = absurd (omega arith)
 digits-stored (suc n) (c ∷ text) h d memory =
@@ -115,60 +115,67 @@ check-past place n text = by-fault (eqb (faultOf text) 0) refl
     by-fault false e = rw e
 
 pub store-past : (text memory : List ℕ) → faultOf text ≡ 0
-    → storeFrom text memory ≡ storeFrom (drop (recordLength (byteCountOf text)) text) memory
+    → landedAll text memory ≡ landedAll (drop (recordLength (byteCountOf text)) text) memory
 store-past text memory e =
     let g = good text e in digits-stored (recordLength (byteCountOf text)) text (g .whole) (g .digits) memory
 
 -- ---- 0 to 3Fh are not read either
 
-module _ (low : List ℕ) (whole : length low ≡ registerEnd) where
-  puts-low : (address : ℕ) (bytes m : List ℕ)
-      → putFrom registerEnd address bytes (withLow low m) ≡ withLow low (putFrom registerEnd address bytes m)
+module _ (first : List ℕ) (whole : length first ≡ registerEnd) where
+  puts-untouched : (address : ℕ) (bytes m : List ℕ)
+      → putFrom registerEnd address bytes (withUntouched first m)
+      ≡ withUntouched first (putFrom registerEnd address bytes m)
   unfolding putFrom
-  puts-low address [] m = refl
-  puts-low address (b ∷ bytes) m = by-place (ltb address registerEnd) refl (puts-low (address + 1) bytes)
+  puts-untouched address [] m = refl
+  puts-untouched address (b ∷ bytes) m = by-place (ltb address registerEnd) refl (puts-untouched (address + 1) bytes)
     where
       by-place : (t : Bool) → ltb address registerEnd ≡ t
           → ((m : List ℕ)
-          → putFrom registerEnd (address + 1) bytes (withLow low m)
-          ≡ withLow low (putFrom registerEnd (address + 1) bytes m))
-          → putFrom registerEnd (address + 1) bytes (cond t (withLow low m) (set (withLow low m) address b))
-          ≡ withLow low (putFrom registerEnd (address + 1) bytes (cond t m (set m address b)))
+          → putFrom registerEnd (address + 1) bytes (withUntouched first m)
+          ≡ withUntouched first (putFrom registerEnd (address + 1) bytes m))
+          → putFrom registerEnd (address + 1) bytes
+          (cond t (withUntouched first m) (set (withUntouched first m) address b))
+          ≡ withUntouched first (putFrom registerEnd (address + 1) bytes (cond t m (set m address b)))
       by-place true e later = later m
       by-place false e later =
-          ap (putFrom registerEnd (address + 1) bytes) (low-set low m address b whole e) ∙ later (set m address b)
+          ap (putFrom registerEnd (address + 1) bytes) (untouched-set first m address b whole e) ∙ later
+          (set m address b)
 
-  landed-low : (text m : List ℕ) → landed text (withLow low m) ≡ withLow low (landed text m)
+  landed-untouched : (text m : List ℕ) → landed text (withUntouched first m) ≡ withUntouched first (landed text m)
   unfolding landed
-  landed-low text m = puts-low (addressOf text) (bytesOf (dataOf text)) m
+  landed-untouched text m = puts-untouched (addressOf text) (bytesOf (dataOf text)) m
 
-  store-low : (tape m : List ℕ) → storeFrom tape (withLow low m) ≡ withLow low (storeFrom tape m)
-  unfolding storeFrom
-  store-low [] m = refl
-  store-low (c ∷ text) m = by-mark (eqb c mark) (eqb (byteCountOf text) 0) (store-low text)
+  landed-all-untouched : (tape m : List ℕ)
+      → landedAll tape (withUntouched first m) ≡ withUntouched first (landedAll tape m)
+  unfolding landedAll
+  landed-all-untouched [] m = refl
+  landed-all-untouched (c ∷ text) m = by-mark (eqb c mark) (eqb (byteCountOf text) 0) (landed-all-untouched text)
     where
-      by-mark : (t z : Bool) → ((m : List ℕ) → storeFrom text (withLow low m) ≡ withLow low (storeFrom text m))
-          → cond (t && z) (withLow low m) (storeFrom text (cond t (landed text (withLow low m)) (withLow low m)))
-          ≡ withLow low (cond (t && z) m (storeFrom text (cond t (landed text m) m)))
+      by-mark : (t z : Bool)
+          → ((m : List ℕ) → landedAll text (withUntouched first m) ≡ withUntouched first (landedAll text m))
+          → cond (t && z) (withUntouched first m)
+          (landedAll text (cond t (landed text (withUntouched first m)) (withUntouched first m)))
+          ≡ withUntouched first (cond (t && z) m (landedAll text (cond t (landed text m) m)))
       by-mark true true later = refl
-      by-mark true false later = ap (storeFrom text) (landed-low text m) ∙ later (landed text m)
+      by-mark true false later = ap (landedAll text) (landed-untouched text m) ∙ later (landed text m)
       by-mark false z later = later m
 
   -- 01, Machine state: memory's "bytes at 0 to 3Fh, the registers, are never touched". With other bytes there a load
   -- gives the same number and place, the same bytes from 40h on, and those bytes back.
-  pub load-low : (tape m : List ℕ) → registerEnd ≤ length m
-      → loadOf tape (withLow low m) ≡ loaded (loadOf tape m .result) (withLow low (loadOf tape m .memory))
+  pub load-untouched : (tape m : List ℕ) → registerEnd ≤ length m
+      → loadOf tape (withUntouched first m) ≡ loaded (loadOf tape m .result)
+      (withUntouched first (loadOf tape m .memory))
   unfolding loadOf
-  load-low tape m h =
-      rw (low-length low m whole h) (by-tests (eqb (length m) memorySpan) (eqb (checkOf tape .number) 0))
+  load-untouched tape m h =
+      rw (untouched-length first m whole h) (by-tests (eqb (length m) memoryLength) (eqb (checkOf tape .number) 0))
     where
       by-tests : (t z : Bool)
-          → cond t (loaded (checkOf tape) (cond z (storeFrom tape (withLow low m)) (withLow low m)))
-          (loaded (loadResult 1 0) (withLow low m))
-          ≡ loaded (cond t (loaded (checkOf tape) (cond z (storeFrom tape m) m)) (loaded (loadResult 1 0) m) .result)
-          (withLow low
-          (cond t (loaded (checkOf tape) (cond z (storeFrom tape m) m)) (loaded (loadResult 1 0) m) .memory))
-      by-tests true true = ap (loaded (checkOf tape)) (store-low tape m)
+          → cond t (loaded (checkOf tape) (cond z (landedAll tape (withUntouched first m)) (withUntouched first m)))
+          (loaded (loadResult 1 0) (withUntouched first m))
+          ≡ loaded (cond t (loaded (checkOf tape) (cond z (landedAll tape m) m)) (loaded (loadResult 1 0) m) .result)
+          (withUntouched first
+          (cond t (loaded (checkOf tape) (cond z (landedAll tape m) m)) (loaded (loadResult 1 0) m) .memory))
+      by-tests true true = ap (loaded (checkOf tape)) (landed-all-untouched tape m)
       by-tests true false = refl
       by-tests false z = refl
 
@@ -180,8 +187,8 @@ module _ (c : ℕ) (text : List ℕ) (other : c ≡ mark → ⊥) where
   unfolding checkFrom
   skip-checked place seen = rw (ne-eqb c mark other, add-zero)
 
-  pub skip-stored : (m : List ℕ) → storeFrom (c ∷ text) m ≡ storeFrom text m
-  unfolding storeFrom
+  pub skip-stored : (m : List ℕ) → landedAll (c ∷ text) m ≡ landedAll text m
+  unfolding landedAll
   skip-stored m = rw (ne-eqb c mark other)
 
 -- a record at `place`, behind `seen` others: its fault ends the tape, "the record's place"
@@ -197,8 +204,8 @@ module _ (text : List ℕ) (sound : faultOf text ≡ 0) where
   unfolding checkFrom recordBy
   last-checked place seen z = rw (sound, z)
 
-  pub last-stored : (m : List ℕ) → byteCountOf text ≡ 0 → storeFrom (mark ∷ text) m ≡ m
-  unfolding storeFrom
+  pub last-stored : (m : List ℕ) → byteCountOf text ≡ 0 → landedAll (mark ∷ text) m ≡ m
+  unfolding landedAll
   last-stored m z = rw z
 
   module _ (more : byteCountOf text ≡ 0 → ⊥) where
@@ -214,6 +221,6 @@ module _ (text : List ℕ) (sound : faultOf text ≡ 0) where
         (digits-past (recordLength (byteCountOf text)) text (g .whole) (g .digits) (place + 1) (seen + 1))
 
     pub next-stored : (m : List ℕ)
-        → storeFrom (mark ∷ text) m ≡ storeFrom (drop (recordLength (byteCountOf text)) text) (landed text m)
-    unfolding storeFrom
+        → landedAll (mark ∷ text) m ≡ landedAll (drop (recordLength (byteCountOf text)) text) (landed text m)
+    unfolding landedAll
     next-stored m = rw (ne-eqb (byteCountOf text) 0 more) (store-past text (landed text m) sound)

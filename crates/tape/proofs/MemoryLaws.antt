@@ -16,41 +16,42 @@ use Rattle.tape.specs.Digits.{byteOf, bytesOf}
 use Rattle.tape.specs.Tapes.{putFrom}
 use Rattle.tape.proofs.DigitLaws.{bytes-next, bytes-end}
 
--- one byte at an address, unless it is below `low`
+-- one byte at an address, unless it is below `least`
 abbrev pub putAt : ℕ → ℕ → ℕ → List ℕ → List ℕ
-putAt low address b memory = cond (ltb address low) memory (set memory address b)
+putAt least address b memory = cond (ltb address least) memory (set memory address b)
 
-length-put : (low address b : ℕ) (memory : List ℕ) → length (putAt low address b memory) ≡ length memory
-length-put low address b memory =
-    cond-both (λ m. length m ≡ length memory) (ltb address low) _ _ (λ _. refl) (λ _. length-set memory address b)
+length-put : (least address b : ℕ) (memory : List ℕ) → length (putAt least address b memory) ≡ length memory
+length-put least address b memory =
+    cond-both (λ m. length m ≡ length memory) (ltb address least) _ _ (λ _. refl) (λ _. length-set memory address b)
 
 -- memory keeps its length
-pub length-puts : (low address : ℕ) (bytes memory : List ℕ) → length (putFrom low address bytes memory) ≡ length memory
+pub length-puts : (least address : ℕ) (bytes memory : List ℕ)
+    → length (putFrom least address bytes memory) ≡ length memory
 unfolding putFrom
-length-puts low address [] memory = refl
-length-puts low address (b ∷ bytes) memory =
-    length-puts low (address + 1) bytes (putAt low address b memory) ∙ length-put low address b memory
+length-puts least address [] memory = refl
+length-puts least address (b ∷ bytes) memory =
+    length-puts least (address + 1) bytes (putAt least address b memory) ∙ length-put least address b memory
 
--- the bytes below `low` are kept
-take-put : (low address b : ℕ) (memory : List ℕ) → take low (putAt low address b memory) ≡ take low memory
-take-put low address b memory =
-    cond-both (λ m. take low m ≡ take low memory) (ltb address low) _ _ (λ _. refl)
-    (λ e. take-set-le low memory address b (ltb-false address low e))
+-- the bytes below `least` are kept
+take-put : (least address b : ℕ) (memory : List ℕ) → take least (putAt least address b memory) ≡ take least memory
+take-put least address b memory =
+    cond-both (λ m. take least m ≡ take least memory) (ltb address least) _ _ (λ _. refl)
+    (λ e. take-set-le least memory address b (ltb-false address least e))
 
-pub take-puts : (low address : ℕ) (bytes memory : List ℕ)
-    → take low (putFrom low address bytes memory) ≡ take low memory
+pub take-puts : (least address : ℕ) (bytes memory : List ℕ)
+    → take least (putFrom least address bytes memory) ≡ take least memory
 unfolding putFrom
-take-puts low address [] memory = refl
-take-puts low address (b ∷ bytes) memory =
-    take-puts low (address + 1) bytes (putAt low address b memory) ∙ take-put low address b memory
+take-puts least address [] memory = refl
+take-puts least address (b ∷ bytes) memory =
+    take-puts least (address + 1) bytes (putAt least address b memory) ∙ take-put least address b memory
 
 -- the byte writer, at byte k of the digits: a byte that is put, one that is dropped, and the end
-module _ (low : ℕ) (digits : List ℕ) where
+module _ (least : ℕ) (digits : List ℕ) where
   abbrev writtenFrom : ℕ → List ℕ → List ℕ
-  writtenFrom k part = putFrom low k (bytesOf (drop (2 * k) digits)) part
+  writtenFrom k part = putFrom least k (bytesOf (drop (2 * k) digits)) part
 
   put-next : (k : ℕ) (part : List ℕ) → k < length digits / 2 → writtenFrom k part
-      ≡ writtenFrom (k + 1) (putAt low k (byteOf (getD digits (2 * k) 0) (getD digits (2 * k + 1) 0)) part)
+      ≡ writtenFrom (k + 1) (putAt least k (byteOf (getD digits (2 * k) 0) (getD digits (2 * k + 1) 0)) part)
   unfolding putFrom
   put-next k part h = rw (bytes-next digits k h)
 
@@ -58,62 +59,63 @@ module _ (low : ℕ) (digits : List ℕ) where
   unfolding putFrom
   put-end k part h = rw (bytes-end digits k h)
 
-  pub put-on : (k : ℕ) (part : List ℕ) → low ≤ k → k < length digits / 2 → writtenFrom k part
+  pub put-on : (k : ℕ) (part : List ℕ) → least ≤ k → k < length digits / 2 → writtenFrom k part
       ≡ writtenFrom (k + 1) (set part k (byteOf (getD digits (2 * k) 0) (getD digits (2 * k + 1) 0)))
-  put-on k part l h = put-next k part h ∙ rw (le-ltb k low l)
+  put-on k part l h = put-next k part h ∙ rw (le-ltb k least l)
 
-  put-dropped : (k : ℕ) (part : List ℕ) → k < low → writtenFrom k part ≡ writtenFrom (k + 1) part
+  put-dropped : (k : ℕ) (part : List ℕ) → k < least → writtenFrom k part ≡ writtenFrom (k + 1) part
   put-dropped k part l = by-end (ltb k (length digits / 2)) refl
     where
       by-end : (t : Bool) → ltb k (length digits / 2) ≡ t → writtenFrom k part ≡ writtenFrom (k + 1) part
-      by-end true e = put-next k part (ltb-true k (length digits / 2) e) ∙ rw (lt-ltb k low l)
+      by-end true e = put-next k part (ltb-true k (length digits / 2) e) ∙ rw (lt-ltb k least l)
       by-end false e =
           let u = ltb-false k (length digits / 2) e in put-end k part u ∙ sym (put-end (k + 1) part (omega arith))
 
   -- n bytes that are dropped
-  put-past : (n k : ℕ) (part : List ℕ) → k + n ≤ low → writtenFrom k part ≡ writtenFrom (k + n) part
+  put-past : (n k : ℕ) (part : List ℕ) → k + n ≤ least → writtenFrom k part ≡ writtenFrom (k + n) part
   put-past zero k part h = rw add-zero
   put-past (suc n) k part h =
       let e : k + 1 + n ≡ k + suc n = omega arith in
       put-dropped k part (omega arith) ∙ put-past n (k + 1) part (omega arith) ∙ ap (λ i. writtenFrom i part) e
 
-  -- the bytes below `low` come first
-  pub put-first : (part : List ℕ) → writtenFrom low part ≡ putFrom low 0 (bytesOf digits) part
-  put-first part = ap (λ i. writtenFrom i part) (sym (zero-add low)) ∙ sym (put-past low 0 part (omega arith))
+  -- the bytes below `least` come first
+  pub put-first : (part : List ℕ) → writtenFrom least part ≡ putFrom least 0 (bytesOf digits) part
+  put-first part = ap (λ i. writtenFrom i part) (sym (zero-add least)) ∙ sym (put-past least 0 part (omega arith))
 
 -- a byte of the part that starts at an address is that byte of the whole memory
-module _ (low a : ℕ) where
+module _ (least a : ℕ) where
   set-part : (k b : ℕ) (m : List ℕ) → take a m ++ set (drop a m) k b ≡ set m (a + k) b
   set-part k b m =
       let h : a ≤ a + k = omega arith in
       rw (← take-set-le a m (a + k) b h, ← drop-set-add a m k b) (take-append-drop a (set m (a + k) b))
 
-  put-part : (k b : ℕ) (m : List ℕ) → take a m ++ putAt (low - a) k b (drop a m) ≡ putAt low (a + k) b m
-  put-part k b m = by-test (ltb (a + k) low) refl
+  put-part : (k b : ℕ) (m : List ℕ) → take a m ++ putAt (least - a) k b (drop a m) ≡ putAt least (a + k) b m
+  put-part k b m = by-test (ltb (a + k) least) refl
     where
-      by-test : (t : Bool) → ltb (a + k) low ≡ t → take a m ++ putAt (low - a) k b (drop a m) ≡ putAt low (a + k) b m
+      by-test : (t : Bool) → ltb (a + k) least ≡ t
+          → take a m ++ putAt (least - a) k b (drop a m) ≡ putAt least (a + k) b m
       by-test true e =
-          let l = ltb-true (a + k) low e in
-          let u : k < low - a = omega arith in
-          rw (lt-ltb k (low - a) u, e) (take-append-drop a m)
+          let l = ltb-true (a + k) least e in
+          let u : k < least - a = omega arith in
+          rw (lt-ltb k (least - a) u, e) (take-append-drop a m)
       by-test false e =
-          let l = ltb-false (a + k) low e in
-          let u : low - a ≤ k = omega arith in
-          rw (le-ltb k (low - a) u, e) (set-part k b m)
+          let l = ltb-false (a + k) least e in
+          let u : least - a ≤ k = omega arith in
+          rw (le-ltb k (least - a) u, e) (set-part k b m)
 
   pub puts-part : (k : ℕ) (bytes m : List ℕ) → a ≤ length m
-      → take a m ++ putFrom (low - a) k bytes (drop a m) ≡ putFrom low (a + k) bytes m
+      → take a m ++ putFrom (least - a) k bytes (drop a m) ≡ putFrom least (a + k) bytes m
   unfolding putFrom
   puts-part k [] m h = take-append-drop a m
   puts-part k (b ∷ bytes) m h =
-      let x = putAt (low - a) k b (drop a m) in
-      let m′ = putAt low (a + k) b m in
+      let x = putAt (least - a) k b (drop a m) in
+      let m′ = putAt least (a + k) b m in
       let e : take a m ++ x ≡ m′ = put-part k b m in
       let n : length (take a m) ≡ a = length-take-le a m h in
       let t : take a m′ ≡ take a m = ap (take a) (sym e) ∙ take-at (take a m) x a n in
       let r : drop a m′ ≡ x = ap (drop a) (sym e) ∙ drop-at (take a m) x a n in
       let s : a + (k + 1) ≡ a + k + 1 = omega arith in
-      let h′ : a ≤ length m′ = omega (arith, length-put low (a + k) b m) in
+      let h′ : a ≤ length m′ = omega (arith, length-put least (a + k) b m) in
       rw (← t, ← r, ← s) (puts-part (k + 1) bytes m′ h′)
 
 -- the part from an address to the end, lent and come back as `y`
@@ -132,10 +134,10 @@ module _ (a : ℕ) (m y : List ℕ) (h : a ≤ length m) where
       let n : length (drop a m) ≤ length m - a = omega (arith, length-drop a m) in
       rw (drop-of-length-le (drop a m) n, append-nil y)
 
-  pub put-back : (low : ℕ) (bytes : List ℕ) → y ≡ putFrom (low - a) 0 bytes lent → back ≡ putFrom low a bytes m
-  put-back low bytes e =
-      let y′ : y ≡ putFrom (low - a) 0 bytes (drop a m) = e ∙ ap (putFrom (low - a) 0 bytes) lent-all in
-      back-all ∙ ap (λ x. take a m ++ x) y′ ∙ puts-part low a 0 bytes m h ∙ rw add-zero
+  pub put-back : (least : ℕ) (bytes : List ℕ) → y ≡ putFrom (least - a) 0 bytes lent → back ≡ putFrom least a bytes m
+  put-back least bytes e =
+      let y′ : y ≡ putFrom (least - a) 0 bytes (drop a m) = e ∙ ap (putFrom (least - a) 0 bytes) lent-all in
+      back-all ∙ ap (λ x. take a m ++ x) y′ ∙ puts-part least a 0 bytes m h ∙ rw add-zero
 
   pub sums-back : (sums later : List ℕ) → later ≡ sumsAfterPart a sums lent y → later ≡ sumsAfter sums m back
   sums-back sums later e =

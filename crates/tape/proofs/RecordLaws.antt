@@ -12,7 +12,7 @@ use Rattle.bits.proofs.Cond.{cond-both}
 use Rattle.tape.specs.Digits.{isDigit}
 use Rattle.tape.specs.Records.{mostBytes, headLength, recordLength, byteCountOf, addressOf, sumOf, checkSumOf}
 use Rattle.tape.specs.Records.{areDigits, malformed, faultOf, dataOf}
-use Rattle.memory.specs.Memory.{memorySpan}
+use Rattle.memory.specs.Memory.{memoryLength}
 use Rattle.tape.proofs.DigitLaws.{and-true, number-byte, number-word}
 
 or-false : (a b : Bool) → a || b ≡ false → (a ≡ false) × (b ≡ false)
@@ -24,7 +24,7 @@ pub record Good (text : List ℕ) : Type 0 where
   pub whole : recordLength (byteCountOf text) ≤ length text
   pub digits : allOf isDigit (take (recordLength (byteCountOf text)) text) ≡ true
   pub few : byteCountOf text ≤ mostBytes
-  pub room : addressOf text + byteCountOf text ≤ memorySpan
+  pub room : addressOf text + byteCountOf text ≤ memoryLength
   pub summed : sumOf text ≡ checkSumOf text
 
 module _ (text : List ℕ) where
@@ -42,14 +42,14 @@ module _ (text : List ℕ) where
       let n = recordLength (byteCountOf text) in
       let a = not (leb n (length text) && allOf isDigit (take n text)) in
       let b = ltb mostBytes (byteCountOf text) in
-      let f = or-false (a || b) (ltb memorySpan (addressOf text + byteCountOf text)) e in
+      let f = or-false (a || b) (ltb memoryLength (addressOf text + byteCountOf text)) e in
       let g = or-false a b (f .0) in
       let d = and-true (leb n (length text)) (allOf isDigit (take n text)) (not-false _ (g .0)) in
       record {
         whole = leb-true n (length text) (d .0);
         digits = d .1;
         few = ltb-false mostBytes (byteCountOf text) (g .1);
-        room = ltb-false memorySpan (addressOf text + byteCountOf text) (f .1);
+        room = ltb-false memoryLength (addressOf text + byteCountOf text) (f .1);
         summed = s;
       }
 
@@ -64,7 +64,7 @@ module _ (text : List ℕ) where
       Is n = n ≡ 0 → Good text
 
   -- two digits for each byte that memory has room for
-  pub data-room : length (dataOf text) ≤ 2 * (memorySpan - addressOf text)
+  pub data-room : length (dataOf text) ≤ 2 * (memoryLength - addressOf text)
   unfolding dataOf
   data-room =
       cond-both Fits (eqb (faultOf text) 0) _ _
@@ -73,4 +73,4 @@ module _ (text : List ℕ) where
       (λ _. omega arith)
     where
       Fits : List ℕ → Type 0
-      Fits d = length d ≤ 2 * (memorySpan - addressOf text)
+      Fits d = length d ≤ 2 * (memoryLength - addressOf text)

@@ -7,7 +7,7 @@ use borrow.Author.Tests.{ne-eqb}
 use lib.Dec.{eqb}
 use lib.ListN.{length}
 use Rattle.bits.proofs.Cond.{cond-both}
-use Rattle.memory.specs.Memory.{memorySpan}
+use Rattle.memory.specs.Memory.{memoryLength}
 use Rattle.page_sums.specs.PageSums.{pageCount, pageListRefused, sumsAfter, SixteenBits}
 use Rattle.page_sums.proofs.Sums.{sums-kept}
 use Rattle.page_sums.proofs.Refused.{memory-wrong, list-wrong, list-right}
@@ -16,7 +16,7 @@ use Rattle.tape.proofs.Laws.{load-other-length}
 
 module _ (tape memory sums : List ℕ) where
   -- 13 before any record, with place 0
-  pub list-next : length memory ≡ memorySpan → (length sums ≡ pageCount → ⊥)
+  pub list-next : length memory ≡ memoryLength → (length sums ≡ pageCount → ⊥)
       → loadWithSumsOf tape memory sums ≡ loaded (loadResult 13 0) memory
   unfolding loadWithSumsOf
   list-next m n = rw (list-wrong (length memory) (length sums) m n)
@@ -27,7 +27,8 @@ module _ (tape memory sums : List ℕ) where
   with-sums n = rw (list-right (length memory) (length sums) n)
 
   -- 1 comes before 13
-  pub memory-first : (length memory ≡ memorySpan → ⊥) → loadWithSumsOf tape memory sums ≡ loaded (loadResult 1 0) memory
+  pub memory-first : (length memory ≡ memoryLength → ⊥)
+      → loadWithSumsOf tape memory sums ≡ loaded (loadResult 1 0) memory
   unfolding loadWithSumsOf
   memory-first h = rw (memory-wrong (length memory) (length sums) h) (load-other-length tape memory h)
 
@@ -38,7 +39,7 @@ module _ (tape memory sums : List ℕ) where
   kept : Kept (loadOf tape memory)
   unfolding loadOf
   kept =
-      cond-both Kept (eqb (length memory) memorySpan) _ _ (λ _ refused. rw (ne-eqb (checkOf tape .number) 0 refused))
+      cond-both Kept (eqb (length memory) memoryLength) _ _ (λ _ refused. rw (ne-eqb (checkOf tape .number) 0 refused))
       (λ _ _. refl)
 
   kept-with-sums : Kept (loadWithSumsOf tape memory sums)

@@ -12,11 +12,11 @@ use lib.ListN.{length, take, drop, getD, length-drop, drop-of-length-le}
 use lib.Seq.{drop-cons, take-all}
 use Rattle.tape.specs.declared.LoadResult.{LoadResult}
 use Rattle.tape.specs.Digits.{bytesOf}
-use Rattle.bits.specs.Bits.{digit}
+use Rattle.bits.specs.Bits.{oneWhere}
 use Rattle.bits.proofs.Cond.{cond-both}
 use Rattle.tape.specs.Records.{mark, byteCountOf, addressOf, faultOf, dataOf, dataAt}
-use Rattle.memory.specs.Memory.{memorySpan, registerEnd}
-use Rattle.tape.specs.Tapes.{loadResult, endedBy, recordBy, checkFrom, putFrom, landed, storeFrom}
+use Rattle.memory.specs.Memory.{memoryLength, registerEnd}
+use Rattle.tape.specs.Tapes.{loadResult, endedBy, recordBy, checkFrom, putFrom, landed, landedAll}
 use Rattle.tape.proofs.RecordLaws.{address-most, data-room}
 
 -- a part to the end, as it is lent
@@ -34,32 +34,32 @@ module _ (tape : List ℕ) (place : ℕ) where
   unfolding checkFrom
   check-end seen h = rw (drop-of-length-le tape h)
 
-  pub store-end : (memory : List ℕ) → length tape ≤ place → storeFrom (drop place tape) memory ≡ memory
-  unfolding storeFrom
-  store-end memory h = rw (drop-of-length-le tape h)
+  pub landed-all-end : (memory : List ℕ) → length tape ≤ place → landedAll (drop place tape) memory ≡ memory
+  unfolding landedAll
+  landed-all-end memory h = rw (drop-of-length-le tape h)
 
   module _ (here : place < length tape) where
     check-next : (seen : ℕ) → checkFrom place seen (drop place tape)
         ≡ cond (eqb (getD tape place 0) mark)
-        (recordBy place (seen + digit (eqb (getD tape place 0) mark)) text
-        (checkFrom (place + 1) (seen + digit (eqb (getD tape place 0) mark)) text))
-        (checkFrom (place + 1) (seen + digit (eqb (getD tape place 0) mark)) text)
+        (recordBy place (seen + oneWhere (eqb (getD tape place 0) mark)) text
+        (checkFrom (place + 1) (seen + oneWhere (eqb (getD tape place 0) mark)) text))
+        (checkFrom (place + 1) (seen + oneWhere (eqb (getD tape place 0) mark)) text)
     unfolding checkFrom
     check-next seen = rw (drop-cons tape place 0 here, add-one place)
 
-    store-next : (memory : List ℕ) → storeFrom (drop place tape) memory
+    landed-all-next : (memory : List ℕ) → landedAll (drop place tape) memory
         ≡ cond (eqb (getD tape place 0) mark && eqb (byteCountOf text) 0) memory
-        (storeFrom text (cond (eqb (getD tape place 0) mark) (landed text memory) memory))
-    unfolding storeFrom
-    store-next memory = rw (drop-cons tape place 0 here, add-one place)
+        (landedAll text (cond (eqb (getD tape place 0) mark) (landed text memory) memory))
+    unfolding landedAll
+    landed-all-next memory = rw (drop-cons tape place 0 here, add-one place)
 
     -- anything but `;` is skipped
     module _ (other : getD tape place 0 ≡ mark → ⊥) where
       pub check-skip : (seen : ℕ) → checkFrom place seen (drop place tape) ≡ checkFrom (place + 1) seen text
       check-skip seen = check-next seen ∙ rw (ne-eqb (getD tape place 0) mark other, add-zero)
 
-      pub store-skip : (memory : List ℕ) → storeFrom (drop place tape) memory ≡ storeFrom text memory
-      store-skip memory = store-next memory ∙ rw (ne-eqb (getD tape place 0) mark other)
+      pub landed-all-skip : (memory : List ℕ) → landedAll (drop place tape) memory ≡ landedAll text memory
+      landed-all-skip memory = landed-all-next memory ∙ rw (ne-eqb (getD tape place 0) mark other)
 
     -- a `;` begins a record
     module _ (marked : getD tape place 0 ≡ mark) where
@@ -93,26 +93,27 @@ module _ (tape : List ℕ) (place : ℕ) where
             check-record seen ∙ rw (good-text, ← c, ne-eqb k 0 l)
 
       module _ (k : ℕ) (ek : k ≡ byteCountOf lent) (memory : List ℕ) where
-        store-record : storeFrom (drop place tape) memory ≡ cond (eqb k 0) memory (storeFrom text (landed text memory))
-        store-record =
+        landed-all-record : landedAll (drop place tape) memory
+            ≡ cond (eqb k 0) memory (landedAll text (landed text memory))
+        landed-all-record =
             let c : k ≡ byteCountOf text = ek ∙ ap byteCountOf (to-end tape (place + 1)) in
-            store-next memory ∙ rw (eq-eqb (getD tape place 0) mark marked, ← c)
+            landed-all-next memory ∙ rw (eq-eqb (getD tape place 0) mark marked, ← c)
 
-        pub store-last : k ≡ 0 → storeFrom (drop place tape) memory ≡ memory
-        store-last l = store-record ∙ rw (eq-eqb k 0 l)
+        pub landed-all-last : k ≡ 0 → landedAll (drop place tape) memory ≡ memory
+        landed-all-last l = landed-all-record ∙ rw (eq-eqb k 0 l)
 
-        pub store-on : (a : ℕ) (digits m : List ℕ) → (k ≡ 0 → ⊥) → a ≡ addressOf lent → digits ≡ dataAt tape place
+        pub landed-all-on : (a : ℕ) (digits m : List ℕ) → (k ≡ 0 → ⊥) → a ≡ addressOf lent → digits ≡ dataAt tape place
             → m ≡ putFrom registerEnd a (bytesOf digits) memory
-            → storeFrom (drop place tape) memory ≡ storeFrom text m
+            → landedAll (drop place tape) memory ≡ landedAll text m
         unfolding landed dataAt
-        store-on a digits m l ea ed em =
+        landed-all-on a digits m l ea ed em =
             let f : a ≡ addressOf text = ea ∙ ap addressOf (to-end tape (place + 1)) in
             let d : digits ≡ dataOf text = ed ∙ rw (eq-eqb (getD tape place 0) mark marked) in
-            store-record ∙ rw (ne-eqb k 0 l, em, f, d)
+            landed-all-record ∙ rw (ne-eqb k 0 l, em, f, d)
 
   -- a record's bytes have room in memory from its address on
   pub data-fits : (a : ℕ) (digits : List ℕ) → a ≡ addressOf lent → digits ≡ dataAt tape place
-      → (a ≤ memorySpan) × (length digits ≤ 2 * (memorySpan - a))
+      → (a ≤ memoryLength) × (length digits ≤ 2 * (memoryLength - a))
   unfolding dataAt
   data-fits a digits ea ed =
       let f : a ≡ addressOf text = ea ∙ ap addressOf (to-end tape (place + 1)) in (
@@ -121,4 +122,4 @@ module _ (tape : List ℕ) (place : ℕ) where
       )
     where
       Fits : List ℕ → Type 0
-      Fits d = length d ≤ 2 * (memorySpan - addressOf text)
+      Fits d = length d ≤ 2 * (memoryLength - addressOf text)

@@ -6,7 +6,7 @@ use Prim.Native.Nat.{ℕ, _+_, _*_, _%_}
 use lib.Dec.{ltb, leb, eqb}
 use lib.ListN.{length, getD, take, drop}
 use Rattle.bits.specs.Lists.{allOf}
-use Rattle.memory.specs.Memory.{memorySpan}
+use Rattle.memory.specs.Memory.{memoryLength}
 use Rattle.page_sums.specs.PageSums.{totalOf}
 use Rattle.tape.specs.Digits.{isDigit, numberOf, bytesOf}
 
@@ -54,7 +54,7 @@ unfoldable pub malformed : List ℕ → Bool
 malformed text =
     not (areDigits (recordLength (byteCountOf text)) text)
     || ltb mostBytes (byteCountOf text)
-    || ltb memorySpan (addressOf text + byteCountOf text)
+    || ltb memoryLength (addressOf text + byteCountOf text)
 
 -- the number of a record's own fault, 0 where it has none: 8 malformed, 9 check sum wrong
 unfoldable pub faultOf : List ℕ → ℕ

@@ -4,8 +4,8 @@ use mathlib.Core.List.{List, [], _∷_}
 use Prim.Native.Nat.{ℕ, _+_}
 use lib.Dec.{ltb, eqb}
 use lib.ListN.{length, set}
-use Rattle.bits.specs.Bits.{digit}
-use Rattle.memory.specs.Memory.{memorySpan, registerEnd}
+use Rattle.bits.specs.Bits.{oneWhere}
+use Rattle.memory.specs.Memory.{memoryLength, registerEnd}
 use Rattle.page_sums.specs.PageSums.{pageListRefused}
 use Rattle.tape.specs.declared.LoadResult.{LoadResult}
 use Rattle.tape.specs.Digits.{bytesOf}
@@ -35,18 +35,18 @@ recordBy place n text goesOn =
 unfoldable pub checkFrom : ℕ → ℕ → List ℕ → LoadResult
 checkFrom place seen [] = loadResult 10 place
 checkFrom place seen (c ∷ text) =
-    let n = seen + digit (eqb c mark) in
+    let n = seen + oneWhere (eqb c mark) in
     let goesOn = checkFrom (place + 1) n text in
     cond (eqb c mark) (recordBy place n text goesOn) goesOn
 
 abbrev pub checkOf : List ℕ → LoadResult
 checkOf tape = checkFrom 0 0 tape
 
--- bytes from an address onward; those below `low` are dropped
+-- bytes from an address onward; those below `least` are dropped
 unfoldable pub putFrom : ℕ → ℕ → List ℕ → List ℕ → List ℕ
-putFrom low address [] memory = memory
-putFrom low address (b ∷ bytes) memory =
-    putFrom low (address + 1) bytes (cond (ltb address low) memory (set memory address b))
+putFrom least address [] memory = memory
+putFrom least address (b ∷ bytes) memory =
+    putFrom least (address + 1) bytes (cond (ltb address least) memory (set memory address b))
 
 -- "Bytes land from the record's address onward; those below 40h are dropped"
 unfoldable pub landed : List ℕ → List ℕ → List ℕ
@@ -54,11 +54,11 @@ landed text memory = putFrom registerEnd (addressOf text) (bytesOf (dataOf text)
 
 -- the records of an accepted tape land in their order, so that later ones overwrite earlier ones; count 00 ends the
 -- tape, and "what follows is ignored"
-unfoldable pub storeFrom : List ℕ → List ℕ → List ℕ
-storeFrom [] memory = memory
-storeFrom (c ∷ text) memory =
+unfoldable pub landedAll : List ℕ → List ℕ → List ℕ
+landedAll [] memory = memory
+landedAll (c ∷ text) memory =
     cond (eqb c mark && eqb (byteCountOf text) 0) memory
-    (storeFrom text (cond (eqb c mark) (landed text memory) memory))
+    (landedAll text (cond (eqb c mark) (landed text memory) memory))
 
 -- what a load hands back, and memory after it
 pub record Loaded : Type 0 where
@@ -71,8 +71,8 @@ loaded r m = record { result = r; memory = m }
 -- "on a tape 1 comes first, with place 0"; 8 to 10 leave memory unchanged
 unfoldable pub loadOf : List ℕ → List ℕ → Loaded
 loadOf tape memory =
-    cond (eqb (length memory) memorySpan)
-    (loaded (checkOf tape) (cond (eqb (checkOf tape .number) 0) (storeFrom tape memory) memory))
+    cond (eqb (length memory) memoryLength)
+    (loaded (checkOf tape) (cond (eqb (checkOf tape .number) 0) (landedAll tape memory) memory))
     (loaded (loadResult 1 0) memory)
 
 -- 02, U7: a load with page sums. 13 comes behind 1 and before any record, with place 0; unless it refuses, it is a

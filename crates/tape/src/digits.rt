@@ -68,7 +68,7 @@ pub fn byte(high: u8, low: u8) -> u8
 }
 
 // The sum of the bytes that digits write.
-pub fn total(digits: &[u8]) -> usize
+pub fn byte_sum(digits: &[u8]) -> usize
     requires { ⌜ length (now digits) ≤ 65536 ⌝ }
     ensures { λ r. ⌜ r ≡ totalOf (bytesOf (now (digits .entry))) ⌝ }
 {

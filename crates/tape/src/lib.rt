@@ -4,7 +4,7 @@ mod landing;
 mod record;
 
 use landing::land;
-use memory::MEMORY_SPAN;
+use memory::MEMORY_LENGTH;
 use page_sums::WRONG_PAGE_LIST;
 use page_sums::page_list_refused;
 use record::address;
@@ -15,9 +15,9 @@ ghost use mathlib.Core.Path.{_≡_};
 ghost use Prim.Native.Nat.{_+_, _<_, _^_};
 ghost use lib.ListN.{length};
 ghost use Rattle.tape.specs.Records.{dataAt};
-ghost use Rattle.memory.specs.Memory.{memorySpan};
+ghost use Rattle.memory.specs.Memory.{memoryLength};
 ghost use Rattle.page_sums.specs.PageSums.{sumsAfter};
-ghost use Rattle.tape.specs.Tapes.{endedBy, checkOf, storeFrom, loaded, loadOf, loadWithSumsOf};
+ghost use Rattle.tape.specs.Tapes.{endedBy, checkOf, landedAll, loaded, loadOf, loadWithSumsOf};
 
 // Begins a record.
 const MARK: u8 = b';';
@@ -82,9 +82,9 @@ fn check(tape: &[u8]) -> LoadResult
 }
 
 // The bytes of an accepted tape into memory and its page sums, up to its last record.
-fn store(tape: &[u8], memory: &mut [u8], sums: &mut [u16])
-    requires { ⌜ length (now memory) ≡ memorySpan ⌝ }
-    ensures { λ _. ⌜ now (memory .exit) ≡ storeFrom (now (tape .entry)) (now (memory .entry)) ⌝ }
+fn land_all(tape: &[u8], memory: &mut [u8], sums: &mut [u16])
+    requires { ⌜ length (now memory) ≡ memoryLength ⌝ }
+    ensures { λ _. ⌜ now (memory .exit) ≡ landedAll (now (tape .entry)) (now (memory .entry)) ⌝ }
     ensures { λ _. ⌜ now (sums .exit) ≡ sumsAfter (now (sums .entry)) (now (memory .entry)) (now (memory .exit)) ⌝ }
 {
     let mut place = 0;
@@ -107,7 +107,7 @@ fn load_into(tape: &[u8], memory: &mut [u8], sums: &mut [u16]) -> LoadResult
     ensures { λ r. ⌜ loaded r (now (memory .exit)) ≡ loadOf (now (tape .entry)) (now (memory .entry)) ⌝ }
     ensures { λ _. ⌜ now (sums .exit) ≡ sumsAfter (now (sums .entry)) (now (memory .entry)) (now (memory .exit)) ⌝ }
 {
-    if memory.len() != MEMORY_SPAN {
+    if memory.len() != MEMORY_LENGTH {
         return LoadResult {
             number: 1,
             place: 0,
@@ -117,7 +117,7 @@ fn load_into(tape: &[u8], memory: &mut [u8], sums: &mut [u16]) -> LoadResult
     if checked.number != 0 {
         return checked;
     }
-    store(tape, memory, sums);
+    land_all(tape, memory, sums);
     checked
 }
 

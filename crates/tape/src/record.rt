@@ -1,8 +1,8 @@
 // One record of a tape. `text` is what stands behind its `;`, to the end of the tape.
 use crate::digits::all_digits;
+use crate::digits::byte_sum;
 use crate::digits::number;
-use crate::digits::total;
-use memory::MEMORY_SPAN;
+use memory::MEMORY_LENGTH;
 ghost use mathlib.Core.Path.{_≡_};
 ghost use lib.ListN.{take, drop};
 ghost use Rattle.tape.specs.Records.{
@@ -60,7 +60,7 @@ fn check_sum(text: &[u8]) -> usize
 fn sum(text: &[u8]) -> usize
     ensures { λ r. ⌜ r ≡ sumOf (now (text .entry)) ⌝ }
 {
-    total(part(text, 0, HEAD_LENGTH + 2 * count(text))) % 65536
+    byte_sum(part(text, 0, HEAD_LENGTH + 2 * count(text))) % 65536
 }
 
 // Whether the first `n` characters are there and are digits.
@@ -76,7 +76,7 @@ fn is_malformed(text: &[u8]) -> bool
 {
     let n = count(text);
     let a = address(text);
-    !are_digits(text, HEAD_LENGTH + 2 * n + 4) | (MOST_BYTES < n) | (MEMORY_SPAN < a + n)
+    !are_digits(text, HEAD_LENGTH + 2 * n + 4) | (MOST_BYTES < n) | (MEMORY_LENGTH < a + n)
 }
 
 // The number of a record's own fault: 8 malformed, 9 check sum wrong, else 0.

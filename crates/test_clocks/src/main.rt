@@ -13,7 +13,7 @@
 use cpu_access::halt::Halt;
 use libc::STDIN_FILENO;
 use libc::STDOUT_FILENO;
-use memory::MEMORY_SPAN;
+use memory::MEMORY_LENGTH;
 use r6501q_state::state::fresh_state;
 use r6501q_step::Progress;
 use record_text::LINE_LENGTH;
@@ -199,7 +199,7 @@ fn run_loaded(memory: &mut [u8], text: &[u8], place: usize, settings: Settings)
 fn run_scenario(text: &[u8], settings: Settings)
     requires { ⌜ settings .records ≤ 64 ⌝ }
 {
-    let mut memory = [0u8; MEMORY_SPAN];
+    let mut memory = [0u8; MEMORY_LENGTH];
     let loaded = tape::load(text, &mut memory);
     if loaded.number != 0 {
         print_refused(loaded.number);

@@ -16,7 +16,7 @@ use Rattle.cpu_access.specs.declared.waiting.Waiting.the-variants.{Nothing, Byt
 use Rattle.cpu_access.specs.Stack.{noWrites, oneWrite}
 use Rattle.r6501q_clock.specs.declared.Clocked.{Clocked}
 use Rattle.r6501q_clock.specs.declared.Clocked.the-variants.{Stopped, Done}
-use Rattle.leaps.specs.Lists.{runOf}
+use Rattle.leaps.specs.CallLists.{runOf}
 use Rattle.leaps.specs.Calls.{callStart}
 use Rattle.r6501q_step.specs.R6501q.{Handed, Result, machine}
 

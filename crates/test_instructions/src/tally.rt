@@ -16,7 +16,7 @@ impl Tally {
     pub(crate) fn count(self, agrees: bool) -> Tally {
         Tally {
             all: wrapping_add_u64(self.all, 1),
-            agreed: wrapping_add_u64(self.agreed, bits::digit8(agrees) as u64),
+            agreed: wrapping_add_u64(self.agreed, bits::one_where(agrees) as u64),
         }
     }
 

@@ -31,7 +31,7 @@ impl Totals {
         by_opcode[opcode] = wrapping_add_u64(by_opcode[opcode], group.cases.agreed);
         group.print();
         Totals {
-            groups: wrapping_add_u64(self.groups, bits::digit8(group.known) as u64),
+            groups: wrapping_add_u64(self.groups, bits::one_where(group.known) as u64),
             cases: self.cases.join(group.cases),
             digests: self.digests.join(group.digests),
         }

@@ -2,7 +2,7 @@
 // place that the loader hands back, in decimal, then the bytes at 3Fh, 40h, 0200h and FFFDh of that memory, in hex.
 use libc::STDIN_FILENO;
 use libc::STDOUT_FILENO;
-use memory::MEMORY_SPAN;
+use memory::MEMORY_LENGTH;
 use test_text::next_mark;
 
 // Stands between two tapes: neither `;` nor a digit.
@@ -14,7 +14,7 @@ fn print_byte(b: u8) {
 }
 
 fn print_load(tape: &[u8]) {
-    let mut memory = [0u8; MEMORY_SPAN];
+    let mut memory = [0u8; MEMORY_LENGTH];
     let loaded = tape::load(tape, &mut memory);
     io::print_decimal(STDOUT_FILENO, loaded.number as u64);
     io::write_all(STDOUT_FILENO, b" ");

@@ -1,4 +1,4 @@
-use Rattle.cpu.specs.Instruction.{carriedOut}
+use Rattle.cpu.specs.InstructionInCode.{carriedOut}
 use borrow.Author.Needs.{needs}
 use Rattle.cpu.proofs.carried_out.Statement.{statement}
 use Rattle.cpu.proofs.carried_out.Tie as tie

@@ -1,4 +1,4 @@
-use Rattle.cpu.specs.Instruction.{executeOf}
+use Rattle.cpu.specs.InstructionInCode.{executeOf}
 use borrow.Author.Needs.{needs}
 use Rattle.cpu.proofs.execute.Statement.{statement}
 use Rattle.cpu.proofs.execute.Tie as tie
@@ -8,8 +8,8 @@ unfolding executeOf
 returns c =
     rw (
       ← (c .before .before .before .access-of .ensures),
-      ← (c .before .before .is-call .ensures),
-      ← (c .call .ensures),
+      ← (c .before .before .is-jsr .ensures),
+      ← (c .jsr .ensures),
       c .before .if1 .taken,
     )
 
@@ -22,7 +22,7 @@ unfolding executeOf
 returns-2 c =
     rw (
       ← (c .before .before .before .before .before .access-of .ensures),
-      ← (c .before .before .before .before .is-call .ensures),
+      ← (c .before .before .before .before .is-jsr .ensures),
       ← (c .before .before .no-writes .ensures),
       ← (c .before .carried-out .ensures),
       ← (c .outcome-of .ensures),

@@ -9,7 +9,7 @@ use Rattle.cpu_opcodes.proofs.Laws.{length-fits}
 use Rattle.cpu_access.specs.declared.Fetched.{Fetched}
 use Rattle.cpu_access.specs.declared.CpuRegisters.{CpuRegisters}
 use Rattle.cpu_effects.specs.Effects.{withPc}
-use Rattle.cpu.specs.Instruction.{opcodeFetched, decodedTo, instructionOf}
+use Rattle.cpu.specs.InstructionInCode.{opcodeFetched, decodedTo, instructionOf}
 use borrow.Author.Needs.{needs}
 use Rattle.cpu.proofs.instruction.Statement.{statement}
 use Rattle.cpu.proofs.instruction.Tie as tie
@@ -24,7 +24,7 @@ returns : tie.Need-returns
 unfolding instructionOf
 returns c =
     rw (
-      ← (c .before .before .before .before .before .idle .ensures),
+      ← (c .before .before .before .before .before .unasked .ensures),
       ← (c .before .before .before .before .fetch .ensures),
       ← (c .before .no-writes .ensures),
       ← (c .ask-with .ensures),
@@ -36,7 +36,7 @@ unfolding instructionOf
 returns-2 c =
     let at = c .before .before .before .before .before .before .before .before .before .before .args in
     rw (
-      ← (c .before .before .before .before .before .before .idle .ensures),
+      ← (c .before .before .before .before .before .before .unasked .ensures),
       ← (c .before .before .before .before .before .fetch .ensures),
     )
     (opcodeFetched-as (at .answers .now) (at .memory .now) (at .registers)
@@ -57,7 +57,7 @@ returns-3 c =
     rw (
       c .execute .ensures,
       c .before .with-pc .ensures,
-      ← (c .before .before .before .before .before .before .before .before .before .idle .ensures),
+      ← (c .before .before .before .before .before .before .before .before .before .unasked .ensures),
       ← (c .before .before .before .before .before .before .before .before .fetch .ensures),
     )
     (opcodeFetched-as (at .answers .now) (at .memory .now) (at .registers)

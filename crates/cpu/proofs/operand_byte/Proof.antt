@@ -1,5 +1,5 @@
 use mathlib.Core.Path.{refl}
-use Rattle.cpu.specs.Instruction.{operandByte}
+use Rattle.cpu.specs.InstructionInCode.{operandByte}
 use borrow.Author.Needs.{needs}
 use Rattle.cpu.proofs.operand_byte.Statement.{statement}
 use Rattle.cpu.proofs.operand_byte.Tie as tie

@@ -1,4 +1,4 @@
-use Rattle.cpu.specs.Instruction.{outcomeOf}
+use Rattle.cpu.specs.InstructionInCode.{outcomeOf}
 use borrow.Author.Needs.{needs}
 use Rattle.cpu.proofs.outcome_of.Statement.{statement}
 use Rattle.cpu.proofs.outcome_of.Tie as tie

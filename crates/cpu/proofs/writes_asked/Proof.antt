@@ -1,4 +1,4 @@
-use Rattle.cpu.specs.Instruction.{writesAsked}
+use Rattle.cpu.specs.InstructionInCode.{writesAsked}
 use borrow.Author.Needs.{needs}
 use Rattle.cpu.proofs.writes_asked.Statement.{statement}
 use Rattle.cpu.proofs.writes_asked.Tie as tie

@@ -1,7 +1,7 @@
 -- `mode_of` meets its contract: each arm by its own number, the last since no number below 13 is left. Assumes nothing.
 use mathlib.Core.Path.{sym}
 use lib.ListN.{List·getD-eq-default}
-use Rattle.cpu_opcodes.specs.Table.{modes}
+use Rattle.cpu_opcodes.specs.TableInCode.{modes}
 use Rattle.cpu_opcodes.specs.declared.Mode.the-variants.{ZeroPageRelative}
 use Rattle.cpu_opcodes.proofs.Apart.{apart-le}
 use Rattle.cpu_opcodes.proofs.mode_of.Statement.{statement}

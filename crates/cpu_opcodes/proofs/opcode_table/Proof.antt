@@ -2,7 +2,7 @@
 use mathlib.Core.Path.{refl}
 use borrow.Fn.Function.{resV}
 use Rattle.cpu_opcodes.specs.Decode.{decodeOf}
-use Rattle.cpu_opcodes.specs.Table.{opcodeTable}
+use Rattle.cpu_opcodes.specs.TableInCode.{opcodeTable}
 use Rattle.cpu_opcodes.proofs.Rows.{same-rows}
 use Rattle.cpu_opcodes.proofs.opcode_table.Statement.{statement}
 use Rattle.cpu_opcodes.proofs.opcode_table.Tie as tie

@@ -5,7 +5,7 @@ use Rattle.r6501q.proofs.r6501q_well_formed.Tie as tie
 returns : tie.Need-returns
 returns c =
     rw (
-      c .digit8 .ensures,
+      c .one-where .ensures,
       c .before .well-formed .ensures,
       c .before .before .state-of .ensures,
       c .before .before .before .flags-fit .ensures,

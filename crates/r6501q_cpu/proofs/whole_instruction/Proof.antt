@@ -5,7 +5,7 @@ use native.Mathlib.Numerals.{add-one}
 use lib.ListN.{length, take, length-set}
 use lib.Seq.{length-take-le, take-suc-set}
 use borrow.Author.Needs.{needs}
-use Rattle.cpu.specs.Sequence.{undefinedStop}
+use Rattle.cpu.specs.InstructionAccesses.{undefinedStop}
 use Rattle.r6501q_cpu.specs.declared.Processed.the-variants.{Stopped}
 use Rattle.r6501q_cpu.specs.Asking.{instructionFrom, answeredInstruction}
 use Rattle.r6501q_cpu.proofs.Asks.{round-over, round-answered}

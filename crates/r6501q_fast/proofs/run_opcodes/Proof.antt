@@ -57,8 +57,8 @@ returns-2 c =
     let inv = c .before .before .before .before .before .before .loop .inv in
     (rw (c .before .before .before .before .before .before .before .same-work .ensures) at (inv .1), (inv .0, inv .2))
 
-row-0-requires : tie.Need-row-0-requires Inv-loop μ-loop
-row-0-requires c κs =
+opcodes-00-requires : tie.Need-opcodes-00-requires Inv-loop μ-loop
+opcodes-00-requires c κs =
     let loop = c .before .before .before .before .before .before .before .before .before .before .before .loop in
     let at =
     c .before .before .before .before .before .before .before .before .before .before .before .before .before .before
@@ -75,8 +75,8 @@ row-0-requires c κs =
       ),
     )
 
-row-1-requires : tie.Need-row-1-requires Inv-loop μ-loop
-row-1-requires c κs =
+opcodes-10-requires : tie.Need-opcodes-10-requires Inv-loop μ-loop
+opcodes-10-requires c κs =
     let loop = c .before .before .before .before .before .before .before .before .before .before .before .loop in
     let at =
     c .before .before .before .before .before .before .before .before .before .before .before .before .before .before
@@ -93,8 +93,8 @@ row-1-requires c κs =
       ),
     )
 
-row-2-requires : tie.Need-row-2-requires Inv-loop μ-loop
-row-2-requires c κs =
+opcodes-20-requires : tie.Need-opcodes-20-requires Inv-loop μ-loop
+opcodes-20-requires c κs =
     let loop = c .before .before .before .before .before .before .before .before .before .before .before .loop in
     let at =
     c .before .before .before .before .before .before .before .before .before .before .before .before .before .before
@@ -111,8 +111,8 @@ row-2-requires c κs =
       ),
     )
 
-row-3-requires : tie.Need-row-3-requires Inv-loop μ-loop
-row-3-requires c κs =
+opcodes-30-requires : tie.Need-opcodes-30-requires Inv-loop μ-loop
+opcodes-30-requires c κs =
     let loop = c .before .before .before .before .before .before .before .before .before .before .before .loop in
     let at =
     c .before .before .before .before .before .before .before .before .before .before .before .before .before .before
@@ -129,8 +129,8 @@ row-3-requires c κs =
       ),
     )
 
-row-4-requires : tie.Need-row-4-requires Inv-loop μ-loop
-row-4-requires c κs =
+opcodes-40-requires : tie.Need-opcodes-40-requires Inv-loop μ-loop
+opcodes-40-requires c κs =
     let loop = c .before .before .before .before .before .before .before .before .before .before .before .loop in
     let at =
     c .before .before .before .before .before .before .before .before .before .before .before .before .before .before
@@ -147,8 +147,8 @@ row-4-requires c κs =
       ),
     )
 
-row-5-requires : tie.Need-row-5-requires Inv-loop μ-loop
-row-5-requires c κs =
+opcodes-50-requires : tie.Need-opcodes-50-requires Inv-loop μ-loop
+opcodes-50-requires c κs =
     let loop = c .before .before .before .before .before .before .before .before .before .before .before .loop in
     let at =
     c .before .before .before .before .before .before .before .before .before .before .before .before .before .before
@@ -165,8 +165,8 @@ row-5-requires c κs =
       ),
     )
 
-row-6-requires : tie.Need-row-6-requires Inv-loop μ-loop
-row-6-requires c κs =
+opcodes-60-requires : tie.Need-opcodes-60-requires Inv-loop μ-loop
+opcodes-60-requires c κs =
     let loop = c .before .before .before .before .before .before .before .before .before .before .before .loop in
     let at =
     c .before .before .before .before .before .before .before .before .before .before .before .before .before .before
@@ -183,8 +183,8 @@ row-6-requires c κs =
       ),
     )
 
-row-7-requires : tie.Need-row-7-requires Inv-loop μ-loop
-row-7-requires c κs =
+opcodes-70-requires : tie.Need-opcodes-70-requires Inv-loop μ-loop
+opcodes-70-requires c κs =
     let loop = c .before .before .before .before .before .before .before .before .before .before .before .loop in
     let at =
     c .before .before .before .before .before .before .before .before .before .before .before .before .before .before
@@ -201,8 +201,8 @@ row-7-requires c κs =
       ),
     )
 
-row-8-requires : tie.Need-row-8-requires Inv-loop μ-loop
-row-8-requires c κs =
+opcodes-80-requires : tie.Need-opcodes-80-requires Inv-loop μ-loop
+opcodes-80-requires c κs =
     let loop = c .before .before .before .before .before .before .before .before .before .before .before .loop in
     let at =
     c .before .before .before .before .before .before .before .before .before .before .before .before .before .before
@@ -219,8 +219,8 @@ row-8-requires c κs =
       ),
     )
 
-row-9-requires : tie.Need-row-9-requires Inv-loop μ-loop
-row-9-requires c κs =
+opcodes-90-requires : tie.Need-opcodes-90-requires Inv-loop μ-loop
+opcodes-90-requires c κs =
     let loop = c .before .before .before .before .before .before .before .before .before .before .before .loop in
     let at =
     c .before .before .before .before .before .before .before .before .before .before .before .before .before .before
@@ -237,8 +237,8 @@ row-9-requires c κs =
       ),
     )
 
-row-a-requires : tie.Need-row-a-requires Inv-loop μ-loop
-row-a-requires c κs =
+opcodes-a0-requires : tie.Need-opcodes-a0-requires Inv-loop μ-loop
+opcodes-a0-requires c κs =
     let loop = c .before .before .before .before .before .before .before .before .before .before .before .loop in
     let at =
     c .before .before .before .before .before .before .before .before .before .before .before .before .before .before
@@ -255,8 +255,8 @@ row-a-requires c κs =
       ),
     )
 
-row-b-requires : tie.Need-row-b-requires Inv-loop μ-loop
-row-b-requires c κs =
+opcodes-b0-requires : tie.Need-opcodes-b0-requires Inv-loop μ-loop
+opcodes-b0-requires c κs =
     let loop = c .before .before .before .before .before .before .before .before .before .before .before .loop in
     let at =
     c .before .before .before .before .before .before .before .before .before .before .before .before .before .before
@@ -273,8 +273,8 @@ row-b-requires c κs =
       ),
     )
 
-row-c-requires : tie.Need-row-c-requires Inv-loop μ-loop
-row-c-requires c κs =
+opcodes-c0-requires : tie.Need-opcodes-c0-requires Inv-loop μ-loop
+opcodes-c0-requires c κs =
     let loop = c .before .before .before .before .before .before .before .before .before .before .before .loop in
     let at =
     c .before .before .before .before .before .before .before .before .before .before .before .before .before .before
@@ -291,8 +291,8 @@ row-c-requires c κs =
       ),
     )
 
-row-d-requires : tie.Need-row-d-requires Inv-loop μ-loop
-row-d-requires c κs =
+opcodes-d0-requires : tie.Need-opcodes-d0-requires Inv-loop μ-loop
+opcodes-d0-requires c κs =
     let loop = c .before .before .before .before .before .before .before .before .before .before .before .loop in
     let at =
     c .before .before .before .before .before .before .before .before .before .before .before .before .before .before
@@ -309,8 +309,8 @@ row-d-requires c κs =
       ),
     )
 
-row-e-requires : tie.Need-row-e-requires Inv-loop μ-loop
-row-e-requires c κs =
+opcodes-e0-requires : tie.Need-opcodes-e0-requires Inv-loop μ-loop
+opcodes-e0-requires c κs =
     let loop = c .before .before .before .before .before .before .before .before .before .before .before .loop in
     let at =
     c .before .before .before .before .before .before .before .before .before .before .before .before .before .before
@@ -327,8 +327,8 @@ row-e-requires c κs =
       ),
     )
 
-row-f-requires : tie.Need-row-f-requires Inv-loop μ-loop
-row-f-requires c κs =
+opcodes-f0-requires : tie.Need-opcodes-f0-requires Inv-loop μ-loop
+opcodes-f0-requires c κs =
     let loop = c .before .before .before .before .before .before .before .before .before .before .before .loop in
     let at =
     c .before .before .before .before .before .before .before .before .before .before .before .before .before .before
@@ -512,22 +512,22 @@ run-opcodes-spec =
     same-length-2
     returns-2
     (λ c κs. search needs)
-    row-0-requires
-    row-1-requires
-    row-2-requires
-    row-3-requires
-    row-4-requires
-    row-5-requires
-    row-6-requires
-    row-7-requires
-    row-8-requires
-    row-9-requires
-    row-a-requires
-    row-b-requires
-    row-c-requires
-    row-d-requires
-    row-e-requires
-    row-f-requires
+    opcodes-00-requires
+    opcodes-10-requires
+    opcodes-20-requires
+    opcodes-30-requires
+    opcodes-40-requires
+    opcodes-50-requires
+    opcodes-60-requires
+    opcodes-70-requires
+    opcodes-80-requires
+    opcodes-90-requires
+    opcodes-a0-requires
+    opcodes-b0-requires
+    opcodes-c0-requires
+    opcodes-d0-requires
+    opcodes-e0-requires
+    opcodes-f0-requires
     next-start-requires
     with-shared-requires
     (λ c κs. search needs)

@@ -6,9 +6,9 @@ returns : tie.Need-returns
 returns c =
     rw (
       c .pass2 .ensures,
-      c .before .running-b .ensures,
+      c .before .counting-b .ensures,
       c .before .before .pass .ensures,
-      c .before .before .before .running-a .ensures,
+      c .before .before .before .counting-a .ensures,
     )
 
 pub pass-counters-spec : {M : Type 1} → statement M

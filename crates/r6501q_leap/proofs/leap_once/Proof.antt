@@ -1,4 +1,4 @@
-use Rattle.bits.proofs.Cond.{digit-le}
+use Rattle.bits.proofs.Cond.{one-where-le}
 use lib.Dec.{ltb}
 use native.Mathlib.Omega.{arith}
 use denote.Ref.{now}
@@ -17,7 +17,7 @@ add-t24 c =
     let root =
     c .before .before .before .before .before .before .before .before .before .before .before .before .before .before
     .before .before .before .before .before .before .before .before .before .before .before .before in
-    let most = digit-le (ltb (root .args .at .progress .state .clock) (c .before .before .before .before .before
+    let most = one-where-le (ltb (root .args .at .progress .state .clock) (c .before .before .before .before .before
     .before .before .before .before .before .before .leap .result .state .clock)) in
     omega (arith, most, c .before .before .leaps-from .ensures, root .pre .1 .0 .0, root .pre .1 .1 .0)
 

@@ -6,7 +6,7 @@ use native.Mathlib.Omega.{arith}
 use Rattle.page_sums.specs.PageSums.{sumsAfter, SixteenBits}
 use Rattle.page_sums.proofs.Sums.{sums-kept, sums-then, sums-length}
 use Rattle.r6501q_leap.proofs.Runs.{goes-some, goes-unstopped}
-use Rattle.r6501q_run.proofs.Rests.{Running, running-begins, leapt, leapt-fewer, codes-read}
+use Rattle.r6501q_run.proofs.Rests.{RunSoFar, run-so-far-begins, leapt, leapt-fewer, codes-read}
 use Rattle.r6501q_run.proofs.Rests.{handed-on, spanned, ended-run}
 use borrow.Author.Needs.{needs}
 use Rattle.r6501q_run.proofs.leap_on.Statement.{statement}
@@ -15,7 +15,8 @@ use Rattle.r6501q_run.proofs.leap_on.Tie as tie
 abbrev Inv-loop : tie.InvT-loop
 Inv-loop memory₀ sums₀ inputclocks inputcodes outputclocks₀ outputwords₀ entries halt at₀ clocks₀ codes₀ memory sums
     outputclocks outputwords at clocks codes =
-    Running halt at₀ memory₀ inputclocks inputcodes outputclocks₀ outputwords₀ memory outputclocks outputwords at clocks
+    RunSoFar halt at₀ memory₀ inputclocks inputcodes outputclocks₀ outputwords₀ memory outputclocks outputwords at
+    clocks
     codes
     × (sums ≡ sumsAfter sums₀ memory₀ memory)
 
@@ -30,7 +31,7 @@ loop-holds c =
     let at = root .args in
     let words : SixteenBits (now (at .sums)) =
     λ p. omega (arith, c .before .before .before .before .before .slice-known2 .given p) in (
-      running-begins _ _ _ _ _ _ _ (root .pre .0) (root .pre .1 .0),
+      run-so-far-begins _ _ _ _ _ _ _ (root .pre .0) (root .pre .1 .0),
       sums-kept 0 (now (at .sums)) (now (at .memory)) words,
     )
 
@@ -54,7 +55,7 @@ Leapt c =
     let loop = c .before .before .before .before .before .before .before .before .before .before .before .before
     .before .before .before .loop in
     let done = c .before .before .before .before .before .before .before .before .leap-once in
-    Running (at .halt) (at .start) (now (at .memory)) (now (at .inputclocks)) (now (at .inputcodes))
+    RunSoFar (at .halt) (at .start) (now (at .memory)) (now (at .inputclocks)) (now (at .inputcodes))
     (now (at .outputclocks)) (now (at .outputwords)) (done .last .1 .0) (done .last .1 .1 .1 .1 .1 .0)
     (done .last .1 .1 .1 .1 .1 .1 .0) (done .result) (now (loop .clocks)) (now (loop .codes))
 

@@ -8,7 +8,8 @@ use Rattle.page_sums.specs.PageSums.{sumsAfter, SixteenBits}
 use Rattle.page_sums.proofs.Sums.{sums-kept, sums-then, sums-length}
 use Rattle.r6501q_unseen.proofs.Clocks.{unseen-fewer}
 use Rattle.r6501q_span_leaps.proofs.Spanned.{fewer-left}
-use Rattle.r6501q_span_leaps.proofs.Ticked.{ticks-of, some-period, Within, within-begins, within-steps, within-ends}
+use Rattle.r6501q_span_leaps.proofs.Ticked.{ticks-of, some-period, Within, within-begins, within-steps}
+use Rattle.r6501q_span_leaps.proofs.Ticked.{within-ends}
 use Rattle.r6501q_span_leaps.proofs.Ticked.{ending}
 use borrow.Author.Needs.{needs}
 use Rattle.r6501q_span_leaps.proofs.leap_within.Statement.{statement}

@@ -1,5 +1,5 @@
 use mathlib.Core.Path.{sym, ap, _∙_}
-use Rattle.bits.specs.Bits.{digit}
+use Rattle.bits.specs.Bits.{oneWhere}
 use Rattle.r6501q_span_leaps.proofs.Ticked.{shares-none, shares-one}
 use borrow.Author.Needs.{needs}
 use Rattle.r6501q_span_leaps.proofs.shared_in.Statement.{statement}
@@ -8,11 +8,12 @@ use Rattle.r6501q_span_leaps.proofs.shared_in.Tie as tie
 returns : tie.Need-returns
 returns c =
     sym (shares-one _ _ _ (c .before .before .if1 .taken)
-    ∙ ap digit (sym (c .before .on-tick .ensures) ∙ c .if2 .taken))
+    ∙ ap oneWhere (sym (c .before .on-tick .ensures) ∙ c .if2 .taken))
 
 returns-2 : tie.Need-returns-2
 returns-2 c =
-    sym (shares-one _ _ _ (c .before .before .if1 .taken) ∙ ap digit (sym (c .before .on-tick .ensures) ∙ c .if2 .left))
+    sym (shares-one _ _ _ (c .before .before .if1 .taken) ∙ ap oneWhere
+    (sym (c .before .on-tick .ensures) ∙ c .if2 .left))
 
 returns-3 : tie.Need-returns-3
 returns-3 c = sym (shares-none _ _ _ (c .if1 .left))

@@ -43,7 +43,8 @@ returns c =
         kept = ran .kept .1 .1 .1 .0;
         keeps = once .kept .1 .1 .1 .0;
       },
-      sums-then 0 (now (at .sums)) (now (at .memory)) (ran .last .1 .1 .1 .0) (once .last .1 .1 .1 .0) (ran .ensures .1 .1)
+      sums-then 0 (now (at .sums)) (now (at .memory)) (ran .last .1 .1 .1 .0) (once .last .1 .1 .1 .0)
+          (ran .ensures .1 .1)
           (once .ensures .1),
     )
 

@@ -6,7 +6,7 @@ use lib.Seq.{drop-drop}
 use denote.Ref.{now}
 use Rattle.page_sums.specs.PageSums.{SixteenBits}
 use Rattle.page_sums.proofs.Sums.{sums-kept}
-use Rattle.r6501q_step.proofs.Worlds.{plain-stops, plain-moves, due-fits}
+use Rattle.r6501q_step.proofs.Worlds.{plain-stops, plain-moves, input-count-fits}
 use borrow.Author.Needs.{needs}
 use Rattle.r6501q_step.proofs.advance.Statement.{statement}
 use Rattle.r6501q_step.proofs.advance.Tie as tie
@@ -19,7 +19,8 @@ outcome-from-requires c κs =
     let codes = now (root .args .inputcodes) in (
       (
         going .clock,
-        rw (c .before .before .due-from .ensures) (due-fits _ _ clocks codes (going .read) (going .inputs)),
+        rw (c .before .before .input-count-from .ensures)
+            (input-count-fits _ _ clocks codes (going .read) (going .inputs)),
       ),
       root .pre .1,
     )
@@ -32,9 +33,9 @@ complete-requires c κs =
     let going = root .pre .0 in
     let clocks = now (root .args .inputclocks) in
     let codes = now (root .args .inputcodes) in
-    let due = c .before .before .before .before .before .before .before .before .before .before .due-from in
+    let due = c .before .before .before .before .before .before .before .before .before .before .input-count-from in
     let fits : root .args .p .read + due .result ≤ length codes =
-    rw (due .ensures) (due-fits _ _ clocks codes (going .read) (going .inputs)) in
+    rw (due .ensures) (input-count-fits _ _ clocks codes (going .read) (going .inputs)) in
     (omega (arith, fits, root .good), omega (arith, going .written, root .good))
 
 returns : tie.Need-returns
@@ -51,7 +52,7 @@ returns c =
     let outcome =
     sym (c .before .before .before .before .outcome-from .ensures) ∙ c .before .before .clocked .given .1 in (
       rw (c .stop-at .ensures) (plain-stops (at .halt) _ _ _ (root .pre .0 .stop)
-          (c .before .before .before .before .before .before .before .due-from .ensures) _ outcome refl),
+          (c .before .before .before .before .before .before .before .input-count-from .ensures) _ outcome refl),
       sums-kept 0 (now (at .sums)) (now (at .memory)) words,
     )
 
@@ -64,7 +65,7 @@ returns-2 c =
     let done = c .before .before .before .before .before .before .before .before .complete .ensures in
     let due =
     c .before .before .before .before .before .before .before .before .before .before .before .before .before .before
-    .before .before .before .before .before .due-from in
+    .before .before .before .before .before .input-count-from in
     let outcome = sym (c .before .before .before .before .before .before .before .before .before .before .before
     .before .before .before .before .before .outcome-from .ensures)
     ∙ c .before .before .before .before .before .before .before .before .before .before .before .before .before

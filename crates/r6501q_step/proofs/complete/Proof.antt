@@ -36,7 +36,7 @@ returns c =
     let put =
     c .before .before .before .before .before .before .before .before .before .before .before .before .before .before
     .before .commit .ensures in
-    let end = progress-done (at .halt) (at .ended) (at .due) (at .p) _ refl refl (c .before .written-after .ensures)
+    let end = progress-done (at .halt) (at .ended) (at .inputs) (at .p) _ refl refl (c .before .written-after .ensures)
     (c .stop-after .ensures) in (
       end,
       (

@@ -9,7 +9,7 @@ use Rattle.r6501q_step.proofs.outcome_from.Tie as tie
 returns : tie.Need-returns
 returns c =
     let at = c .before .before .before .before .before .args in
-    let size : at .p .read + at .due - at .p .read ≡ at .due = omega arith in
+    let size : at .p .read + at .inputs - at .p .read ≡ at .inputs = omega arith in
     rw (c .clock .ensures, size)
 
 pub outcome-from-spec : {M : Type 1} → statement M

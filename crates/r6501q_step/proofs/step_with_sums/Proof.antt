@@ -5,7 +5,7 @@ use lib.ListN.{length}
 use native.Mathlib.Omega.{arith}
 use Rattle.page_sums.specs.PageSums.{pageListRefused, SixteenBits}
 use Rattle.page_sums.proofs.Sums.{sums-kept}
-use Rattle.leaps.specs.Lists.{stepOf}
+use Rattle.leaps.specs.CallLists.{stepOf}
 use Rattle.leaps.specs.Calls.{callStart}
 use Rattle.leaps.proofs.Summed.{list-refused, list-accepted}
 use Rattle.r6501q_step.specs.R6501q.{World, machine}

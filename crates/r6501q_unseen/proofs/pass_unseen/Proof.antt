@@ -34,9 +34,9 @@ returns c =
       c .before .bit32 .ensures,
       c .before .before .sent-after .ensures,
       c .before .before .before .pass .ensures,
-      c .before .before .before .before .running-b .ensures,
+      c .before .before .before .before .counting-b .ensures,
       c .before .before .before .before .before .counter-after .ensures,
-      c .before .before .before .before .before .before .running-a .ensures,
+      c .before .before .before .before .before .before .counting-a .ensures,
       c .before .before .before .before .before .before .before .ticks-in .ensures,
     )
 

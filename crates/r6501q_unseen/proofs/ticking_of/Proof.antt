@@ -5,11 +5,11 @@ use Rattle.r6501q_unseen.proofs.ticking_of.Tie as tie
 
 returns : tie.Need-returns
 unfolding tickingOf
-returns c = rw (← (c .before .before .before .running-a .ensures), c .before .before .if1 .taken)
+returns c = rw (← (c .before .before .before .counting-a .ensures), c .before .before .if1 .taken)
 
 returns-2 : tie.Need-returns-2
 unfolding tickingOf
-returns-2 c = rw (← (c .before .running-a .ensures), c .if1 .left)
+returns-2 c = rw (← (c .before .counting-a .ensures), c .if1 .left)
 
 pub ticking-of-spec : {M : Type 1} → statement M
 ticking-of-spec =

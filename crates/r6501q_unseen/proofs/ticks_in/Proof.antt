@@ -8,7 +8,7 @@ returns c =
     rw (
       ticks-closed (c .before .before .before .args .n .0) (c .before .before .before .args .ports)
           (c .before .before .before .args .p),
-      ← (c .before .before .running-a .ensures),
+      ← (c .before .before .counting-a .ensures),
       c .before .if1 .taken,
     ) (c .underflows-in .ensures)
 
@@ -16,7 +16,7 @@ returns-2 : tie.Need-returns-2
 returns-2 c =
     rw (
       ticks-closed (c .before .before .args .n .0) (c .before .before .args .ports) (c .before .before .args .p),
-      ← (c .before .running-a .ensures),
+      ← (c .before .counting-a .ensures),
       c .if1 .left,
     )
 

@@ -16,7 +16,7 @@ returns c =
       omega arith,
       omega arith,
       unseen-before (c .before .before .before-b .result .0) (a .ports) (a .p)
-          (λ e. absurd (false≢true (sym (not-true _ (c .if1 .taken)) ∙ c .before .running-a .ensures ∙ e))) (b .1),
+          (λ e. absurd (false≢true (sym (not-true _ (c .if1 .taken)) ∙ c .before .counting-a .ensures ∙ e))) (b .1),
     )
 
 returns-2 : tie.Need-returns-2

@@ -19,11 +19,11 @@ loop-holds c =
     (c .before .before .before .pre .0) (c .before .before .before .args .at)
     (now (c .before .before .before .args .text))
 
-shared-slice-read-put-record-2 : tie.Need-shared-slice-read-put-record-2 Inv-loop μ-loop
-shared-slice-read-put-record-2 c = omega arith
+shared-slice-read-put-line-2 : tie.Need-shared-slice-read-put-line-2 Inv-loop μ-loop
+shared-slice-read-put-line-2 c = omega arith
 
-put-record-requires : tie.Need-put-record-requires Inv-loop μ-loop
-put-record-requires c κs =
+put-line-requires : tie.Need-put-line-requires Inv-loop μ-loop
+put-line-requires c κs =
     omega (
       arith,
       c .before .before .before .before .loop .inv .room,
@@ -45,10 +45,10 @@ loop-again c =
     (c .before .before .before .before .before .before .before .before .before .before .before .args .at)
     (now (c .before .before .before .before .before .before .before .before .before .before .before .args .text))
     (c .before .before .before .before .before .before .before .loop .place)
-    (c .before .before .before .before .before .before .before .loop .i) (c .before .before .put-record .result)
+    (c .before .before .before .before .before .before .before .loop .i) (c .before .before .put-line .result)
     (c .before .before .before .before .before .before .before .loop .text)
-    (c .before .before .put-record .last .1 .1 .0) (c .before .before .before .before .before .before .loop-test .taken)
-    (c .before .before .before .before .before .before .before .loop .inv) (c .before .before .put-record .ensures)
+    (c .before .before .put-line .last .1 .1 .0) (c .before .before .before .before .before .before .loop-test .taken)
+    (c .before .before .before .before .before .before .before .loop .inv) (c .before .before .put-line .ensures)
 
 same-length : tie.Need-same-length Inv-loop μ-loop
 same-length c = c .before .loop .inv .kept
@@ -70,8 +70,8 @@ put-records-spec =
     (λ c. search needs)
     (λ c. search needs)
     (λ c. search needs)
-    shared-slice-read-put-record-2
-    put-record-requires
+    shared-slice-read-put-line-2
+    put-line-requires
     add-i
     loop-less
     loop-again

@@ -6,7 +6,7 @@ use Rattle.serial_format.proofs.frame_ending.Tie as tie
 returns : tie.Need-returns
 returns c =
     rw (
-      c .digit8 .ensures,
+      c .one-where .ensures,
       c .before .parity-bit .ensures,
       ← (c .before .before .before .has-parity .ensures),
       c .before .before .if1 .taken,

@@ -6,7 +6,7 @@ use borrow.Author.Tests.{eq-eqb, ne-eqb}
 use Rattle.bits.proofs.Cond.{cond-no}
 use Rattle.page_sums.specs.PageSums.{SixteenBits}
 use Rattle.page_sums.proofs.Sums.{sums-kept}
-use Rattle.tape.specs.Tapes.{storeFrom, loaded, loadOf}
+use Rattle.tape.specs.Tapes.{landedAll, loaded, loadOf}
 use borrow.Author.Needs.{needs}
 use Rattle.tape.proofs.load_into.Statement.{statement}
 use Rattle.tape.proofs.load_into.Tie as tie
@@ -28,14 +28,14 @@ returns-2 c =
     λ p. omega (arith, c .before .before .before .before .slice-known2 .given p) in (
       rw (← c .before .before .check .ensures, eq-eqb _ _ (c .before .before .before .if1 .left))
           (ap (loaded checked) (sym (cond-no (eqb (checked .number) 0)
-          (storeFrom (now (at .tape)) (now (at .memory))) (now (at .memory)) (ne-eqb (checked .number) 0 refused)))),
+          (landedAll (now (at .tape)) (now (at .memory))) (now (at .memory)) (ne-eqb (checked .number) 0 refused)))),
       sums-kept 0 (now (at .sums)) (now (at .memory)) words,
     )
 
 returns-3 : tie.Need-returns-3
 unfolding loadOf
 returns-3 c =
-    let stored = c .before .before .before .before .store in (
+    let stored = c .before .before .before .before .land-all in (
       rw (
         ← c .before .before .before .before .before .before .before .before .before .check .ensures,
         stored .ensures .0,

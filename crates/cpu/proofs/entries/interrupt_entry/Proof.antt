@@ -1,5 +1,5 @@
 use mathlib.Core.Path.{refl}
-use Rattle.cpu.specs.Entries.{interruptEntry}
+use Rattle.cpu.specs.EntriesInCode.{interruptEntry}
 use borrow.Author.Needs.{needs}
 use Rattle.cpu.proofs.entries.interrupt_entry.Statement.{statement}
 use Rattle.cpu.proofs.entries.interrupt_entry.Tie as tie

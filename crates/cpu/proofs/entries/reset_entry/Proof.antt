@@ -1,5 +1,5 @@
 use mathlib.Core.Path.{refl}
-use Rattle.cpu.specs.Entries.{resetEntry}
+use Rattle.cpu.specs.EntriesInCode.{resetEntry}
 use borrow.Author.Needs.{needs}
 use Rattle.cpu.proofs.entries.reset_entry.Statement.{statement}
 use Rattle.cpu.proofs.entries.reset_entry.Tie as tie

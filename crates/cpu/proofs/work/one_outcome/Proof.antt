@@ -3,7 +3,7 @@ use denote.Ref.{now}
 use mathlib.Core.Path.{ap, _∙_}
 use native.Mathlib.Omega.{arith}
 use Rattle.cpu.specs.declared.work.Work.{Work}
-use Rattle.cpu.specs.Instruction.{instructionOf}
+use Rattle.cpu.specs.InstructionInCode.{instructionOf}
 use Rattle.cpu.proofs.Kept.{none-started}
 use Rattle.cpu.proofs.work.one_outcome.Statement.{statement}
 use Rattle.cpu.proofs.work.one_outcome.Tie as tie

@@ -5,7 +5,7 @@ use Rattle.cpu_alu.proofs.arithmetic.add_binary.Tie as tie
 
 returns : tie.Need-returns
 unfolding addBinary
-returns c = rw (← (c .before .digit8 .ensures), ← (c .overflow .ensures))
+returns c = rw (← (c .before .one-where .ensures), ← (c .overflow .ensures))
 
 pub add-binary-spec : {M : Type 1} → statement M
 add-binary-spec =

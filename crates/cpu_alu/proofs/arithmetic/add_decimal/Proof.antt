@@ -10,7 +10,7 @@ returns c =
     rw (
       ← (c .before .before .before .low-sum .ensures),
       ← (c .before .before .overflow .ensures),
-      ← (c .before .digit8 .ensures),
+      ← (c .before .one-where .ensures),
       ← (c .corrected .ensures),
     ) refl
 

@@ -1,6 +1,6 @@
 use mathlib.Core.Path.{refl}
 use native.Mathlib.Omega.{arith}
-use Rattle.bits.proofs.Cond.{digit-le}
+use Rattle.bits.proofs.Cond.{one-where-le}
 use Rattle.bits.proofs.Bits.{bit-zero}
 use Rattle.cpu_alu.specs.Shift.{rorOf}
 use borrow.Author.Needs.{needs}
@@ -8,15 +8,15 @@ use Rattle.cpu_alu.proofs.shift.ror.Statement.{statement}
 use Rattle.cpu_alu.proofs.shift.ror.Tie as tie
 
 mul-value : tie.Need-mul-value
-mul-value c = omega (arith, c .digit8 .ensures, digit-le (c .before .args .status .c))
+mul-value c = omega (arith, c .one-where .ensures, one-where-le (c .before .args .status .c))
 
 add-value : tie.Need-add-value
-add-value c = omega (arith, c .digit8 .ensures, digit-le (c .before .args .status .c))
+add-value c = omega (arith, c .one-where .ensures, one-where-le (c .before .args .status .c))
 
 returns : tie.Need-returns
 unfolding rorOf
 returns c =
-    rw (bit-zero, c .resulting .ensures, c .before .with-carry .ensures, c .before .before .digit8 .ensures) refl
+    rw (bit-zero, c .resulting .ensures, c .before .with-carry .ensures, c .before .before .one-where .ensures) refl
 
 pub ror-spec : {M : Type 1} → statement M
 ror-spec =

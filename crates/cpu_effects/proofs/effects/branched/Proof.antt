@@ -1,13 +1,18 @@
 use mathlib.Core.Path.{refl}
 use native.Mathlib.Omega.{arith}
-use Rattle.bits.proofs.Cond.{digit-le}
+use Rattle.bits.proofs.Cond.{one-where-le}
 use Rattle.cpu_effects.specs.Effects.{branched}
 use borrow.Author.Needs.{needs}
 use Rattle.cpu_effects.proofs.effects.branched.Statement.{statement}
 use Rattle.cpu_effects.proofs.effects.branched.Tie as tie
 
 add-length-2 : tie.Need-add-length-2
-add-length-2 c = omega (arith, c .digit8 .ensures, digit-le (c .before .before .before .before .args .o .crossed))
+add-length-2 c =
+    omega (
+      arith,
+      c .one-where .ensures,
+      one-where-le (c .before .before .before .before .args .o .crossed),
+    )
 
 returns : tie.Need-returns
 unfolding branched
@@ -15,7 +20,7 @@ returns c =
     rw (
       c .read-only .ensures,
       c .before .with-pc .ensures,
-      c .before .before .digit8 .ensures,
+      c .before .before .one-where .ensures,
       c .before .before .before .before .if1 .taken,
     ) refl
 

@@ -2,7 +2,7 @@
 -- Assumes nothing.
 use mathlib.Core.Path.{refl, sym}
 use lib.ListN.{List·getD-eq-default}
-use Rattle.cpu_opcodes.specs.Table.{bitBranchOperations}
+use Rattle.cpu_opcodes.specs.TableInCode.{bitBranchOperations}
 use Rattle.cpu_opcodes.specs.declared.operation.BitBranchOperation.the-variants.{Bbs}
 use Rattle.cpu_opcodes.proofs.Apart.{apart-le}
 use Rattle.cpu_opcodes.proofs.operation.bit_branch_operation.Statement.{statement}

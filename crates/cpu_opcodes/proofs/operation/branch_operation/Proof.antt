@@ -2,7 +2,7 @@
 -- nothing.
 use mathlib.Core.Path.{refl, sym}
 use lib.ListN.{List·getD-eq-default}
-use Rattle.cpu_opcodes.specs.Table.{branchOperations}
+use Rattle.cpu_opcodes.specs.TableInCode.{branchOperations}
 use Rattle.cpu_opcodes.specs.declared.operation.BranchOperation.the-variants.{Bvs}
 use Rattle.cpu_opcodes.proofs.Apart.{apart-le}
 use Rattle.cpu_opcodes.proofs.operation.branch_operation.Statement.{statement}

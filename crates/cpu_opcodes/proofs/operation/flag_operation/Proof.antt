@@ -2,7 +2,7 @@
 -- nothing.
 use mathlib.Core.Path.{refl, sym}
 use lib.ListN.{List·getD-eq-default}
-use Rattle.cpu_opcodes.specs.Table.{flagOperations}
+use Rattle.cpu_opcodes.specs.TableInCode.{flagOperations}
 use Rattle.cpu_opcodes.specs.declared.operation.FlagOperation.the-variants.{Sei}
 use Rattle.cpu_opcodes.proofs.Apart.{apart-le}
 use Rattle.cpu_opcodes.proofs.operation.flag_operation.Statement.{statement}

@@ -2,7 +2,7 @@
 -- nothing.
 use mathlib.Core.Path.{refl, sym}
 use lib.ListN.{List·getD-eq-default}
-use Rattle.cpu_opcodes.specs.Table.{modifyOperations}
+use Rattle.cpu_opcodes.specs.TableInCode.{modifyOperations}
 use Rattle.cpu_opcodes.specs.declared.operation.ModifyOperation.the-variants.{Smb}
 use Rattle.cpu_opcodes.proofs.Apart.{apart-le}
 use Rattle.cpu_opcodes.proofs.operation.modify_operation.Statement.{statement}

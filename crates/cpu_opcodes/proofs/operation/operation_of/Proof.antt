@@ -3,7 +3,7 @@
 use mathlib.Core.Path.{refl, sym}
 use lib.ListN.{List·getD-eq-default}
 use borrow.Author.Needs.{needs}
-use Rattle.cpu_opcodes.specs.Table.{operationsBy}
+use Rattle.cpu_opcodes.specs.TableInCode.{operationsBy}
 use Rattle.cpu_opcodes.specs.declared.operation.Operation.the-variants.{Rts}
 use Rattle.cpu_opcodes.proofs.Apart.{apart-le}
 use Rattle.cpu_opcodes.proofs.operation.operation_of.Statement.{statement}

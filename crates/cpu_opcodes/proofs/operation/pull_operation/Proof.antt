@@ -2,7 +2,7 @@
 -- nothing.
 use mathlib.Core.Path.{refl, sym}
 use lib.ListN.{List·getD-eq-default}
-use Rattle.cpu_opcodes.specs.Table.{pullOperations}
+use Rattle.cpu_opcodes.specs.TableInCode.{pullOperations}
 use Rattle.cpu_opcodes.specs.declared.operation.PullOperation.the-variants.{Plp}
 use Rattle.cpu_opcodes.proofs.Apart.{apart-le}
 use Rattle.cpu_opcodes.proofs.operation.pull_operation.Statement.{statement}

@@ -2,7 +2,7 @@
 -- nothing.
 use mathlib.Core.Path.{refl, sym}
 use lib.ListN.{List·getD-eq-default}
-use Rattle.cpu_opcodes.specs.Table.{pushOperations}
+use Rattle.cpu_opcodes.specs.TableInCode.{pushOperations}
 use Rattle.cpu_opcodes.specs.declared.operation.PushOperation.the-variants.{Php}
 use Rattle.cpu_opcodes.proofs.Apart.{apart-le}
 use Rattle.cpu_opcodes.proofs.operation.push_operation.Statement.{statement}

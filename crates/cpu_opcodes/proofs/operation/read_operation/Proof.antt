@@ -2,7 +2,7 @@
 -- nothing.
 use mathlib.Core.Path.{refl, sym}
 use lib.ListN.{List·getD-eq-default}
-use Rattle.cpu_opcodes.specs.Table.{readOperations}
+use Rattle.cpu_opcodes.specs.TableInCode.{readOperations}
 use Rattle.cpu_opcodes.specs.declared.operation.ReadOperation.the-variants.{Sbc}
 use Rattle.cpu_opcodes.proofs.Apart.{apart-le}
 use Rattle.cpu_opcodes.proofs.operation.read_operation.Statement.{statement}

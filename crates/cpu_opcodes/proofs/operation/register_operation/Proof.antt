@@ -2,7 +2,7 @@
 -- Assumes nothing.
 use mathlib.Core.Path.{refl, sym}
 use lib.ListN.{List·getD-eq-default}
-use Rattle.cpu_opcodes.specs.Table.{registerOperations}
+use Rattle.cpu_opcodes.specs.TableInCode.{registerOperations}
 use Rattle.cpu_opcodes.specs.declared.operation.RegisterOperation.the-variants.{Tya}
 use Rattle.cpu_opcodes.proofs.Apart.{apart-le}
 use Rattle.cpu_opcodes.proofs.operation.register_operation.Statement.{statement}

@@ -2,7 +2,7 @@
 -- nothing.
 use mathlib.Core.Path.{refl, sym}
 use lib.ListN.{List·getD-eq-default}
-use Rattle.cpu_opcodes.specs.Table.{storeOperations}
+use Rattle.cpu_opcodes.specs.TableInCode.{storeOperations}
 use Rattle.cpu_opcodes.specs.declared.operation.StoreOperation.the-variants.{Sty}
 use Rattle.cpu_opcodes.proofs.Apart.{apart-le}
 use Rattle.cpu_opcodes.proofs.operation.store_operation.Statement.{statement}

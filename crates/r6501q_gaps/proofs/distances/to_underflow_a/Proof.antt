@@ -5,7 +5,7 @@ use Rattle.r6501q_gaps.proofs.distances.to_underflow_a.Tie as tie
 
 returns : tie.Need-returns
 unfolding toUnderflowA
-returns c = rw (c .where-seen .ensures, c .before .before .running-a .ensures)
+returns c = rw (c .where-seen .ensures, c .before .before .counting-a .ensures)
 
 pub to-underflow-a-spec : {M : Type 1} → statement M
 to-underflow-a-spec = tie.close (tie.spec (λ c κs. search needs) (λ c. search needs) (λ c κs. search needs) returns)

@@ -1,4 +1,4 @@
-use Rattle.bits.proofs.Cond.{digit-le}
+use Rattle.bits.proofs.Cond.{one-where-le}
 use Rattle.r6501q_mnemonics.proofs.flow.branch.Statement.{statement}
 use Rattle.r6501q_mnemonics.proofs.flow.branch.Tie as tie
 use Rattle.r6501q_mnemonics.specs.Attempts.{branchTried}
@@ -7,16 +7,16 @@ use native.Mathlib.Omega.{arith}
 
 returns : tie.Need-returns
 unfolding branchTried
-returns c = rw (← (c .left-as-it-was .ensures), c .before .if1 .taken)
+returns c = rw (← (c .failed-attempt .ensures), c .before .if1 .taken)
 
 add-clocks-2 : tie.Need-add-clocks-2
-add-clocks-2 c = omega (arith, c .digit8 .ensures, digit-le (c .before .before .before .args .p .crossed))
+add-clocks-2 c = omega (arith, c .one-where .ensures, one-where-le (c .before .before .before .args .p .crossed))
 
 returns-2 : tie.Need-returns-2
 unfolding branchTried
 returns-2 c =
     rw (
-      ← (c .before .before .digit8 .ensures),
+      ← (c .before .before .one-where .ensures),
       ← (c .before .with-pc .ensures),
       ← (c .started-next .ensures),
       c .before .before .before .if2 .taken,

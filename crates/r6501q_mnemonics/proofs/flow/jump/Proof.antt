@@ -5,7 +5,7 @@ use borrow.Author.Needs.{needs}
 
 returns : tie.Need-returns
 unfolding jumpTried
-returns c = rw (← (c .left-as-it-was .ensures), c .before .if1 .taken)
+returns c = rw (← (c .failed-attempt .ensures), c .before .if1 .taken)
 
 returns-2 : tie.Need-returns-2
 unfolding jumpTried

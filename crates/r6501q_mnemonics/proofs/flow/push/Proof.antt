@@ -19,7 +19,7 @@ returns c =
     let same = sums-kept 0 (now (at .sums)) (now (at .memory)) words in
     let ends = rw (c .before .before .before .one-write .ensures, c .before .before .before .before .push .ensures)
     at (sym (c .before .before .ends-span .ensures) ∙ c .before .if1 .taken) in
-    (rw ends (c .left-as-it-was .ensures), (rw ends refl, same))
+    (rw ends (c .failed-attempt .ensures), (rw ends refl, same))
 
 returns-2 : tie.Need-returns-2
 unfolding pushTried pushMemory

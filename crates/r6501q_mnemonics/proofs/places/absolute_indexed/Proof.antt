@@ -4,7 +4,11 @@ use borrow.Author.Needs.{needs}
 
 returns : tie.Need-returns
 returns c =
-    rw (← (c .before .before .before .idle .ensures), ← (c .before .fetch-address .ensures), ← (c .at-indexed .ensures))
+    rw (
+      ← (c .before .before .before .unasked .ensures),
+      ← (c .before .fetch-address .ensures),
+      ← (c .at-indexed .ensures),
+    )
 
 pub absolute-indexed-spec : {M : Type 1} → statement M
 absolute-indexed-spec =

@@ -3,7 +3,7 @@ use Rattle.r6501q_mnemonics.proofs.places.immediate.Tie as tie
 use borrow.Author.Needs.{needs}
 
 returns : tie.Need-returns
-returns c = rw (← (c .before .idle .ensures), ← (c .next-address .ensures))
+returns c = rw (← (c .before .unasked .ensures), ← (c .next-address .ensures))
 
 pub immediate-spec : {M : Type 1} → statement M
 immediate-spec =

@@ -3,7 +3,12 @@ use Rattle.r6501q_mnemonics.proofs.places.relative.Tie as tie
 use borrow.Author.Needs.{needs}
 
 returns : tie.Need-returns
-returns c = rw (← (c .before .before .before .idle .ensures), ← (c .before .fetch .ensures), ← (c .relative .ensures))
+returns c =
+    rw (
+      ← (c .before .before .before .unasked .ensures),
+      ← (c .before .fetch .ensures),
+      ← (c .relative .ensures),
+    )
 
 pub relative-spec : {M : Type 1} → statement M
 relative-spec =

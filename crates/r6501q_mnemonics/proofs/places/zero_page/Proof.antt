@@ -4,7 +4,7 @@ use borrow.Author.Needs.{needs}
 
 returns : tie.Need-returns
 returns c =
-    rw (← (c .before .before .before .idle .ensures), ← (c .before .fetch .ensures), ← (c .at-zero-page .ensures))
+    rw (← (c .before .before .before .unasked .ensures), ← (c .before .fetch .ensures), ← (c .at-zero-page .ensures))
 
 pub zero-page-spec : {M : Type 1} → statement M
 zero-page-spec =

@@ -24,7 +24,7 @@ returns c =
     let one = c .before .before .before .before .before .before .one-write .ensures in
     let ends = c .before .before .before .before .before .ends-span .ensures in
     let left = c .before .if1 .taken in
-    (rw (← one, ← ends, left) (c .left-as-it-was .ensures), (rw (← one, ← ends, left) refl, same))
+    (rw (← one, ← ends, left) (c .failed-attempt .ensures), (rw (← one, ← ends, left) refl, same))
 
 stored-whole-requires : tie.Need-stored-whole-requires
 stored-whole-requires c κs =

@@ -9,14 +9,14 @@ use Rattle.r6501q_unseen.proofs.counter.counter_after.Tie as tie
 
 returns : tie.Need-returns
 unfolding countAfter
-returns c = rw (not-true (c .before .args .running) (c .if1 .taken))
+returns c = rw (not-true (c .before .args .counting) (c .if1 .taken))
 
 returns-2 : tie.Need-returns-2
 unfolding countAfter
 returns-2 c =
     rw (
       le-leb _ _ (c .before .if2 .taken),
-      not-false (c .before .before .before .before .before .args .running)
+      not-false (c .before .before .before .before .before .args .counting)
           (c .before .before .before .before .if1 .left),
     )
 
@@ -30,7 +30,7 @@ unfolding countAfter
 returns-3 c =
     rw (
       lt-leb _ _ (c .before .before .before .if2 .left),
-      not-false (c .before .before .before .before .before .before .before .args .running)
+      not-false (c .before .before .before .before .before .before .before .args .counting)
           (c .before .before .before .before .before .before .if1 .left),
     )
 

@@ -24,7 +24,7 @@ waited-for-requires c κs =
     at
     (not-false (c .before .before .before .before .before .receiver-asynchronous .result && leb (a .r .subinterval) 7)
     (c .before .before .before .if1 .left)) in
-    λ low. rw (c .before .before .digit8 .ensures)
+    λ low. rw (c .before .before .one-where .ensures)
     (waits-within (a .ticks) (a .r) (a .sccr) (a .high) on (pre .0) (c .if2 .taken) low)
 
 returns-2 : tie.Need-returns-2
@@ -36,7 +36,7 @@ returns-2 c =
     (c .before .before .before .before .if1 .left) in
     rw (
       c .waited-for .ensures,
-      c .before .before .before .digit8 .ensures,
+      c .before .before .before .one-where .ensures,
       ← (c .before .before .before .before .before .before .receiver-asynchronous .ensures),
       on,
       eq-eqb (a .r .left) 0 (c .before .if2 .taken),
@@ -50,7 +50,7 @@ taken-for-requires c κs =
     at
     (not-false (c .before .before .before .before .before .receiver-asynchronous .result && leb (a .r .subinterval) 7)
     (c .before .before .before .if1 .left)) in
-    rw (c .before .before .digit8 .ensures)
+    rw (c .before .before .one-where .ensures)
     (takes-within (a .ticks) (a .r) (a .sccr) (a .high) on (pre .0) (c .if2 .left))
 
 returns-3 : tie.Need-returns-3
@@ -62,7 +62,7 @@ returns-3 c =
     (c .before .before .before .before .if1 .left) in
     rw (
       c .taken-for .ensures,
-      c .before .before .before .digit8 .ensures,
+      c .before .before .before .one-where .ensures,
       ← (c .before .before .before .before .before .before .receiver-asynchronous .ensures),
       on,
       ne-eqb (a .r .left) 0 (c .before .if2 .left),

@@ -1,19 +1,19 @@
 use native.Mathlib.Omega.{arith}
-use Rattle.serial_format.proofs.Frames.{span-pos, span-le, data-lt}
+use Rattle.serial_format.proofs.Frames.{values-pos, values-le, data-lt}
 use Rattle.serial.specs.Receiver.{receivedByte}
 use borrow.Author.Needs.{needs}
 use Rattle.serial.proofs.receiver.byte_of.Statement.{statement}
 use Rattle.serial.proofs.receiver.byte_of.Tie as tie
 
 rem-result : tie.Need-rem-result
-rem-result c = rw (c .data-span .ensures) (span-pos _)
+rem-result c = rw (c .data-values .ensures) (values-pos _)
 
 cast-result : tie.Need-cast-result
-cast-result c = rw (c .data-span .ensures) (record { fits = data-lt _ _ })
+cast-result c = rw (c .data-values .ensures) (record { fits = data-lt _ _ })
 
 returns : tie.Need-returns
 unfolding receivedByte
-returns c = rw (← (c .before .data-place .ensures), ← (c .data-span .ensures))
+returns c = rw (← (c .before .data-place .ensures), ← (c .data-values .ensures))
 
 pub byte-of-spec : {M : Type 1} → statement M
 byte-of-spec =

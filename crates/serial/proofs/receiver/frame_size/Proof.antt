@@ -1,15 +1,15 @@
 use Rattle.serial_format.specs.Format.{hasParity}
-use Rattle.bits.proofs.Cond.{digit-le}
+use Rattle.bits.proofs.Cond.{one-where-le}
 use native.Mathlib.Omega.{arith}
 use borrow.Author.Needs.{needs}
 use Rattle.serial.proofs.receiver.frame_size.Statement.{statement}
 use Rattle.serial.proofs.receiver.frame_size.Tie as tie
 
 add-result : tie.Need-add-result
-add-result c = rw (c .parity-size .ensures) (omega (arith, digit-le (hasParity (c .before .before .args .sccr))))
+add-result c = rw (c .parity-size .ensures) (omega (arith, one-where-le (hasParity (c .before .before .args .sccr))))
 
 add-result-2 : tie.Need-add-result-2
-add-result-2 c = rw (c .parity-size .ensures) (omega (arith, digit-le (hasParity (c .before .before .args .sccr))))
+add-result-2 c = rw (c .parity-size .ensures) (omega (arith, one-where-le (hasParity (c .before .before .args .sccr))))
 
 pub frame-size-spec : {M : Type 1} → statement M
 frame-size-spec =

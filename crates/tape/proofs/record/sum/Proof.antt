@@ -14,8 +14,8 @@ mul-part c = omega (arith, c .count .ensures, count-most (now (c .before .before
 add-part : tie.Need-add-part
 add-part c = omega (arith, c .count .ensures, count-most (now (c .before .before .args .text)))
 
-total-requires : tie.Need-total-requires
-total-requires c κs =
+byte-sum-requires : tie.Need-byte-sum-requires
+byte-sum-requires c κs =
     omega (
       arith,
       simp length-take at (ap length (c .part .ensures)),
@@ -25,8 +25,8 @@ total-requires c κs =
 
 returns : tie.Need-returns
 unfolding sumOf
-returns c = rw (c .total .ensures, c .before .part .ensures, c .before .before .count .ensures) refl
+returns c = rw (c .byte-sum .ensures, c .before .part .ensures, c .before .before .count .ensures) refl
 
 pub sum-spec : {M : Type 1} → statement M
 sum-spec =
-    tie.close (tie.spec (λ c κs. search needs) mul-part add-part (λ c κs. search needs) total-requires returns)
+    tie.close (tie.spec (λ c κs. search needs) mul-part add-part (λ c κs. search needs) byte-sum-requires returns)

@@ -8,7 +8,7 @@ unfolding frameEnded
 returns c =
     rw (
       ← (c .before .before .before .before .parity-is-wrong .ensures),
-      ← (c .before .before .status-after .ensures),
+      ← (c .before .before .scsr-after .ensures),
       ← (c .before .byte-of .ensures),
       ← (c .keep .ensures),
     )

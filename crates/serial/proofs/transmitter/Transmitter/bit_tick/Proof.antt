@@ -8,11 +8,15 @@ use Rattle.serial.proofs.transmitter.Transmitter.bit_tick.Tie as tie
 returns : tie.Need-returns
 unfolding bitTick
 returns c =
-    rw (c .frame-end .ensures, ← (c .before .before .before .advance .ensures), eq-eqb _ _ (c .before .if1 .taken)) refl
+    rw (
+      c .frame-end .ensures,
+      ← (c .before .before .before .advance-phase .ensures),
+      eq-eqb _ _ (c .before .if1 .taken),
+    ) refl
 
 returns-2 : tie.Need-returns-2
 unfolding bitTick
-returns-2 c = rw (← (c .before .before .advance .ensures), ne-eqb _ _ (c .if1 .left))
+returns-2 c = rw (← (c .before .before .advance-phase .ensures), ne-eqb _ _ (c .if1 .left))
 
 pub bit-tick-spec : {M : Type 1} → statement M
 bit-tick-spec = tie.close (tie.spec (λ c κs. search needs) (λ c κs. search needs) returns returns-2)
