@@ -55,7 +55,6 @@ use Rattle.cpu.specs.InstructionInCode.{writesAsked}
 use Rattle.cpu.specs.Work.{nextWork}
 use Rattle.r6501q_clock.specs.Commit.{putWrite, committed}
 use Rattle.cpu_access.specs.Halt.{endsSpan}
-use Rattle.r6501q_spans.specs.Spans.{putWork}
 use Rattle.bits.proofs.Cond.{either-false}
 use Rattle.cpu_access.proofs.Ends.{no-writes-end}
 use Rattle.r6501q_mnemonics.specs.Attempts.{Instructed, pushing, storing, Tries, unchanged, whole, failedAttempt}
