@@ -79,7 +79,7 @@ pub record Examples : Type 0 where
       → plains (system Nowhere) 4 (clocks.lineStart register received memory) .state .peripherals .receiver
       ≡ record { subinterval = 0; half = false; left = 0; register = register }
   -- 02, U1: 41h sent with SCCR A0h and latch 0, as port A is driven clock by clock; the next byte taken; SCCR written
-  -- again; and 41h received with SCCR 50h at rises of PA4 (r6501q_step/proofs/ShiftRegister.antt has the rows)
+  -- again; and 41h received with SCCR 50h at rises of PA4 (r6501q_examples/proofs/ShiftRegister.antt has the rows)
   pub shift-register : ShiftRegister
   -- 02, U4, document 01's tape with the halt address 0000h: stop, clock, wait and records written; 12 at clock 12, the
   -- record there, after the leaps to clocks 1, 8, 10 and 12; also where that clock is the run's last; 0 before it, and
@@ -100,7 +100,7 @@ pub record Examples : Type 0 where
   -- 02, U4, JSR with SP 00h: it tells 0000h, then 00FFh
   pub call-told : told (toldBy (clockIn clocks.callingStart)) ≡ writeAt 0x0000 0x00 ∷ writeAt 0x00FF 0x42 ∷ []
   -- 01, One clock, 4, "All its reads and writes happen now": JSR over its own operand, a port's latch and its levels,
-  -- an entry's pushes, RTI's pulls; 02, U6, SMB0 00h over an underflow (r6501q_step/proofs/AccessOrder.antt has the
+  -- an entry's pushes, RTI's pulls; 02, U6, SMB0 00h over an underflow (r6501q_examples/proofs/AccessOrder.antt has the
   -- rows)
   pub access-order : AccessOrder
   -- 02, U5, JMP (02FFh): the low byte of the target is at 02FFh, the high byte at 0200h, and five clocks
