@@ -14,7 +14,8 @@ use Rattle.cpu_opcodes.specs.declared.operation.ReadOperation.the-variants.{Ora
 use Rattle.r6501q_mnemonics.specs.Attempts.{unchanged}
 use Rattle.r6501q_opcodes.proofs.Opcodes.{opcode-01, opcode-05, opcode-06, opcode-07, opcode-08, opcode-09}
 use Rattle.r6501q_opcodes.proofs.Opcodes.{opcode-0A, opcode-0D, opcode-0E, opcode-0F}
-use Rattle.r6501q_opcodes.proofs.Tried.{accumulator-tries, bit-branch-tries, change-tries, push-tries, read-tries}
+use Rattle.r6501q_opcodes.proofs.Tried.{accumulator-tries, bit-branch-tries, change-tries, push-tries}
+use Rattle.r6501q_opcodes.proofs.Tried.{read-tries}
 use Rattle.r6501q_opcodes.proofs.opcodes_00.Statement.{statement}
 use Rattle.r6501q_opcodes.proofs.opcodes_00.Tie as tie
 

@@ -14,7 +14,8 @@ use Rattle.cpu_opcodes.specs.declared.operation.ReadOperation.the-variants.{Eor
 use Rattle.r6501q_mnemonics.specs.Attempts.{unchanged}
 use Rattle.r6501q_opcodes.proofs.Opcodes.{opcode-40, opcode-41, opcode-45, opcode-46, opcode-47, opcode-48}
 use Rattle.r6501q_opcodes.proofs.Opcodes.{opcode-49, opcode-4A, opcode-4C, opcode-4D, opcode-4E, opcode-4F}
-use Rattle.r6501q_opcodes.proofs.Tried.{accumulator-tries, bit-branch-tries, change-tries, interrupt-return-tries}
+use Rattle.r6501q_opcodes.proofs.Tried.{accumulator-tries, bit-branch-tries, change-tries}
+use Rattle.r6501q_opcodes.proofs.Tried.{interrupt-return-tries}
 use Rattle.r6501q_opcodes.proofs.Tried.{jump-tries, push-tries, read-tries}
 use Rattle.r6501q_opcodes.proofs.opcodes_40.Statement.{statement}
 use Rattle.r6501q_opcodes.proofs.opcodes_40.Tie as tie

@@ -14,7 +14,8 @@ use Rattle.cpu_opcodes.specs.declared.operation.ReadOperation.the-variants.{Adc
 use Rattle.r6501q_mnemonics.specs.Attempts.{unchanged}
 use Rattle.r6501q_opcodes.proofs.Opcodes.{opcode-60, opcode-61, opcode-65, opcode-66, opcode-67, opcode-68}
 use Rattle.r6501q_opcodes.proofs.Opcodes.{opcode-69, opcode-6A, opcode-6C, opcode-6D, opcode-6E, opcode-6F}
-use Rattle.r6501q_opcodes.proofs.Tried.{accumulator-tries, bit-branch-tries, change-tries, jump-tries, pull-tries}
+use Rattle.r6501q_opcodes.proofs.Tried.{accumulator-tries, bit-branch-tries, change-tries, jump-tries}
+use Rattle.r6501q_opcodes.proofs.Tried.{pull-tries}
 use Rattle.r6501q_opcodes.proofs.Tried.{read-tries, return-tries}
 use Rattle.r6501q_opcodes.proofs.opcodes_60.Statement.{statement}
 use Rattle.r6501q_opcodes.proofs.opcodes_60.Tie as tie
