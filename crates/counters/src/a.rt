@@ -3,7 +3,7 @@ ghost use mathlib.Core.Path.{_≡_};
 ghost use Rattle.counters.specs.Counters.{downA, countsA, clockA, countsThroughA, passA, lowerA, upperA};
 ghost use Rattle.counters.specs.Counters.{loadCounterA};
 use crate::time::Clocks;
-use crate::time::count_after;
+use crate::time::count_after_gap;
 
 // The counter and its latch.
 #[repr(C)]
@@ -75,7 +75,7 @@ impl CounterA {
         ensures { λ r. ⌜ r ≡ passA self counting gap ⌝ }
     {
         if counting {
-            self.count = count_after(self.count, gap);
+            self.count = count_after_gap(self.count, gap);
             return self;
         }
         self

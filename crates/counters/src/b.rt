@@ -3,7 +3,7 @@ ghost use mathlib.Core.Path.{_≡_};
 ghost use Rattle.counters.specs.Counters.{reloadB, downB, clockB, countsThroughB, passB, lowerB, upperB, copyB};
 ghost use Rattle.counters.specs.Counters.{loadCounterB, turnToC};
 use crate::time::Clocks;
-use crate::time::count_after;
+use crate::time::count_after_gap;
 
 // The counter, latches B and C, and whether the next reload in mode 01 takes latch C.
 #[repr(C)]
@@ -95,7 +95,7 @@ impl CounterB {
         ensures { λ r. ⌜ r ≡ passB self counting gap ⌝ }
     {
         if counting {
-            self.count = count_after(self.count, gap);
+            self.count = count_after_gap(self.count, gap);
             return self;
         }
         self

@@ -31,7 +31,7 @@ pub fn toggles_output(mode: u8, underflow: bool) -> bool
 }
 
 // A count after a gap in which each clock counts and none underflows.
-pub fn count_after(count: u16, gap: Clocks) -> u16
+pub fn count_after_gap(count: u16, gap: Clocks) -> u16
     ensures { λ r. ⌜ r ≡ count - gap .0 ⌝ }
 {
     if gap.0 < count as u32 {

@@ -56,7 +56,7 @@ use Rattle.memory.specs.Memory.{isRegister}
 use Rattle.cpu_access.specs.Stack.{noWrites, stackAddress, up, pushAddress, pushInterrupt, pullOf, pullAddress}
 use Rattle.cpu_access.specs.Stack.{writtenOver}
 use Rattle.cpu_access.specs.Stack.{readAfter}
-use Rattle.cpu_modes.specs.Modes.{zeroPageIndexed, zeroPagePointer, secondAddress, indexedBy, relativeTo, locateOf}
+use Rattle.cpu_modes.specs.Modes.{zeroPageAddress, zeroPagePointer, secondAddress, indexedBy, relativeTo, locateOf}
 use Rattle.cpu_operations.specs.declared.Access.{Access}
 use Rattle.cpu_operations.specs.declared.Access.the-variants.{Nothing, Read, Modify, Jsr}
 use Rattle.cpu_effects.specs.declared.Worked.{Worked}
@@ -482,7 +482,7 @@ module _ (answers memory : List ℕ) (given : Bytes answers) (bytes : Bytes memo
       indexed-fits (r .y) (f .value) (f .pc) (f .bus) (fetch-address-pc (r .pc) b)
   locate-fits IndexedIndirect r b i =
       let f = fetchOf answers memory (r .pc) b in
-      record { address = pointer-lt (zeroPageIndexed (f .value) (r .x)) (f .bus); pc = fetch-pc (r .pc) b }
+      record { address = pointer-lt (zeroPageAddress (f .value) (r .x)) (f .bus); pc = fetch-pc (r .pc) b }
   locate-fits IndirectIndexed r b i =
       let f = fetchOf answers memory (r .pc) b in
       let w = zeroPagePointer answers memory (f .value) (f .bus) in

@@ -59,7 +59,7 @@ impl Status {
     }
 
     // N and Z of a value: loads, transfers and pulls.
-    pub fn loaded(self, value: u8) -> Status
+    pub fn with_nz(self, value: u8) -> Status
         ensures { λ r. ⌜ r ≡ withNZ value self ⌝ }
     {
         Status {
@@ -128,6 +128,6 @@ fn resulting(value: u8, status: Status) -> Computed
 {
     Computed {
         value: value,
-        status: status.loaded(value),
+        status: status.with_nz(value),
     }
 }

@@ -110,7 +110,7 @@ pub fn load_a(registers: CpuRegisters, value: u8) -> CpuRegisters
         y: registers.y,
         sp: registers.sp,
         pc: registers.pc,
-        status: same_flags(before.loaded(value)),
+        status: same_flags(before.with_nz(value)),
     }
 }
 
@@ -124,7 +124,7 @@ pub fn load_x(registers: CpuRegisters, value: u8) -> CpuRegisters
         y: registers.y,
         sp: registers.sp,
         pc: registers.pc,
-        status: same_flags(before.loaded(value)),
+        status: same_flags(before.with_nz(value)),
     }
 }
 
@@ -138,6 +138,6 @@ pub fn load_y(registers: CpuRegisters, value: u8) -> CpuRegisters
         y: value,
         sp: registers.sp,
         pc: registers.pc,
-        status: same_flags(before.loaded(value)),
+        status: same_flags(before.with_nz(value)),
     }
 }

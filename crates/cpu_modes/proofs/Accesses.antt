@@ -17,7 +17,7 @@ use Rattle.cpu_access.specs.declared.stack.Writes.{Writes}
 use Rattle.cpu_access.specs.Bus.{memoryByte, got, askOf, readOf, readAddress, fetchOf, fetchAddress}
 use Rattle.memory.specs.Memory.{isRegister}
 use Rattle.cpu_access.specs.Stack.{stackAddress, up, pullOf, pullAddress, writtenOver, readAfter}
-use Rattle.cpu_modes.specs.Modes.{zeroPageIndexed, zeroPagePointer, secondAddress, indexedBy, relativeTo}
+use Rattle.cpu_modes.specs.Modes.{zeroPageAddress, zeroPagePointer, secondAddress, indexedBy, relativeTo}
 use Rattle.cpu_modes.specs.Modes.{locateOf}
 
 -- the reads so far, with those of an addressing mode
@@ -111,7 +111,7 @@ module _ (P : ℕ → Bus → Type 0) (answers memory : List ℕ)
       indexed-keeps (suc (suc k)) (r .y) (f .value) (f .pc) (f .bus) (fetch-address-keeps k (r .pc) b h)
   locate-keeps IndexedIndirect k r b h =
       let f = fetchOf answers memory (r .pc) b in
-      pointer-keeps (suc k) (zeroPageIndexed (f .value) (r .x)) (f .bus) (fetch-keeps k (r .pc) b h)
+      pointer-keeps (suc k) (zeroPageAddress (f .value) (r .x)) (f .bus) (fetch-keeps k (r .pc) b h)
   locate-keeps IndirectIndexed k r b h =
       let f = fetchOf answers memory (r .pc) b in
       let w = zeroPagePointer answers memory (f .value) (f .bus) in

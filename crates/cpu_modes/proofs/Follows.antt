@@ -15,7 +15,7 @@ use Rattle.cpu_access.specs.declared.stack.Write.{Write}
 use Rattle.cpu_access.specs.declared.stack.Writes.{Writes}
 use Rattle.cpu_access.specs.Bus.{memoryByte, nextAddress, readOf, readAddress, fetchOf, fetchAddress}
 use Rattle.cpu_access.specs.Stack.{stackAddress, up, pullOf, pullAddress, writtenOver, readAfter}
-use Rattle.cpu_modes.specs.Modes.{zeroPageIndexed, zeroPagePointer, secondAddress, indexedBy, relativeTo}
+use Rattle.cpu_modes.specs.Modes.{zeroPageAddress, zeroPagePointer, secondAddress, indexedBy, relativeTo}
 use Rattle.cpu_modes.specs.Modes.{locateOf}
 use Rattle.cpu_access.specs.Accesses.{Accesses, ends, reads, writes, _>>=_, byteAt, addressAt, byteAfter}
 use Rattle.cpu_modes.specs.ModeAccesses.{Located, operandAt, indexedFrom, pastAddress, located}
@@ -110,7 +110,7 @@ module _ {A : Type 0} (answers memory : List ℕ) where
   locate-on IndexedIndirect r b go =
       let f = fetchOf answers memory (r .pc) b in
       fetch-on (r .pc) b _
-      ∙ pointer-on (zeroPageIndexed (f .value) (r .x)) (f .bus) (λ a. go (operandAt a (nextAddress (r .pc))))
+      ∙ pointer-on (zeroPageAddress (f .value) (r .x)) (f .bus) (λ a. go (operandAt a (nextAddress (r .pc))))
   locate-on IndirectIndexed r b go =
       let f = fetchOf answers memory (r .pc) b in
       fetch-on (r .pc) b _ ∙ pointer-on (f .value) (f .bus) (λ a. go (indexedFrom a (r .y) (nextAddress (r .pc))))

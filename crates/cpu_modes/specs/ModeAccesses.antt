@@ -8,7 +8,7 @@ use Rattle.cpu_opcodes.specs.declared.Mode.the-variants.{ZeroPageY, Absolute, A
 use Rattle.cpu_opcodes.specs.declared.Mode.the-variants.{IndirectIndexed, Indirect, Relative, ZeroPageRelative}
 use Rattle.cpu_access.specs.declared.CpuRegisters.{CpuRegisters}
 use Rattle.cpu_access.specs.Bus.{nextAddress}
-use Rattle.cpu_modes.specs.Modes.{otherPage, zeroPageIndexed, secondAddress, displacement}
+use Rattle.cpu_modes.specs.Modes.{otherPage, zeroPageAddress, secondAddress, displacement}
 use Rattle.cpu_access.specs.Accesses.{Accesses, ends, _>>=_, byteAt, addressAt}
 
 -- where the operand lies, whether finding it crossed a page, whether it is the accumulator, and PC past the operand
@@ -58,10 +58,10 @@ located ZeroPage r = do
   ends (operandAt z (nextAddress (r .pc)))
 located ZeroPageX r = do
   z ← byteAt (r .pc)
-  ends (operandAt (zeroPageIndexed z (r .x)) (nextAddress (r .pc)))
+  ends (operandAt (zeroPageAddress z (r .x)) (nextAddress (r .pc)))
 located ZeroPageY r = do
   z ← byteAt (r .pc)
-  ends (operandAt (zeroPageIndexed z (r .y)) (nextAddress (r .pc)))
+  ends (operandAt (zeroPageAddress z (r .y)) (nextAddress (r .pc)))
 located Absolute r = do
   a ← operandAddress (r .pc)
   ends (operandAt a (pastAddress (r .pc)))
@@ -73,7 +73,7 @@ located AbsoluteY r = do
   ends (indexedFrom base (r .y) (pastAddress (r .pc)))
 located IndexedIndirect r = do
   z ← byteAt (r .pc)
-  a ← pointerAt (zeroPageIndexed z (r .x))
+  a ← pointerAt (zeroPageAddress z (r .x))
   ends (operandAt a (nextAddress (r .pc)))
 located IndirectIndexed r = do
   z ← byteAt (r .pc)

@@ -30,14 +30,14 @@ abbrev pub otherPage : ℕ → ℕ → Bool
 otherPage a b = not (eqb (a / 256) (b / 256))
 
 -- 01, Machine state: "zero-page indexing and SP wrap within 8 bits"
-abbrev pub zeroPageIndexed : ℕ → ℕ → ℕ
-zeroPageIndexed z i = wrapping8 z i
+abbrev pub zeroPageAddress : ℕ → ℕ → ℕ
+zeroPageAddress z i = wrapping8 z i
 
 abbrev pub atZeroPage : Fetched → Place
 atZeroPage f = placeAt (f .value) (f .pc) (f .bus)
 
 abbrev pub atZeroPageIndexed : ℕ → Fetched → Place
-atZeroPageIndexed i f = placeAt (zeroPageIndexed (f .value) i) (f .pc) (f .bus)
+atZeroPageIndexed i f = placeAt (zeroPageAddress (f .value) i) (f .pc) (f .bus)
 
 abbrev pub atAbsolute : FetchedAddress → Place
 atAbsolute f = placeAt (f .value) (f .pc) (f .bus)
@@ -65,7 +65,7 @@ pointedIndexed i pc w = indexedBy i (w .value) pc (w .bus)
 -- (zp,X): the pointer stands at the indexed address
 abbrev pub atIndexedIndirect : List ℕ → List ℕ → ℕ → Fetched → Place
 atIndexedIndirect answers memory x f =
-    pointed (f .pc) (zeroPagePointer answers memory (zeroPageIndexed (f .value) x) (f .bus))
+    pointed (f .pc) (zeroPagePointer answers memory (zeroPageAddress (f .value) x) (f .bus))
 
 -- (zp),Y: what the pointer gives is indexed
 abbrev pub atIndirectIndexed : List ℕ → List ℕ → ℕ → Fetched → Place

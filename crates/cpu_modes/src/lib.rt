@@ -1,6 +1,6 @@
 // Addressing modes: where the operand lies, whether finding it crossed a page, and PC past the operand bytes.
 ghost use mathlib.Core.Path.{_≡_};
-ghost use Rattle.cpu_modes.specs.Modes.{placeAt, noPlace, otherPage, zeroPageIndexed, atZeroPage};
+ghost use Rattle.cpu_modes.specs.Modes.{placeAt, noPlace, otherPage, zeroPageAddress, atZeroPage};
 ghost use Rattle.cpu_modes.specs.Modes.{atZeroPageIndexed, atAbsolute, atIndexed, atIndexedIndirect};
 ghost use Rattle.cpu_modes.specs.Modes.{atIndirectIndexed, atIndirect, crossing, indexedBy, zeroPagePointer};
 ghost use Rattle.cpu_modes.specs.Modes.{secondAddress, displacement, relativeTo, locateOf};
@@ -76,8 +76,8 @@ fn indexed_by(index: u8, base: u16, pc: u16, bus: Bus) -> Place
     )
 }
 
-fn zero_page_indexed(z: u8, index: u8) -> u8
-    ensures { λ r. ⌜ r ≡ zeroPageIndexed z index ⌝ }
+fn zero_page_address(z: u8, index: u8) -> u8
+    ensures { λ r. ⌜ r ≡ zeroPageAddress z index ⌝ }
 {
     std::num::wrapping_add_u8(z, index)
 }
@@ -129,7 +129,7 @@ pub fn at_zero_page_indexed(index: u8, operand: Fetched) -> Place
     ensures { λ r. ⌜ r ≡ atZeroPageIndexed index operand ⌝ }
 {
     let bus = operand.bus;
-    let z = zero_page_indexed(operand.value, index);
+    let z = zero_page_address(operand.value, index);
     place_at(z as u16, operand.pc, bus)
 }
 
@@ -151,7 +151,7 @@ pub fn at_indexed_indirect(answers: &[u8], memory: &[u8], x: u8, operand: Fetche
     ensures { λ r. ⌜ r ≡ atIndexedIndirect (now (answers .entry)) (now (memory .entry)) x operand ⌝ }
 {
     let before = operand.bus;
-    let z = zero_page_indexed(operand.value, x);
+    let z = zero_page_address(operand.value, x);
     let pointer = zero_page_pointer(answers, memory, z, before);
     let bus = pointer.bus;
     place_at(pointer.value, operand.pc, bus)

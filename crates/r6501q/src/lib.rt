@@ -28,7 +28,7 @@ use r6501q_host::host_load_result;
 use r6501q_host::host_result;
 use r6501q_host::host_state;
 use r6501q_host::host_total_result;
-use r6501q_host::state_of;
+use r6501q_host::state_from;
 use r6501q_state::state::fresh_state;
 use r6501q_state::state::well_formed;
 use r6501q_step::limits;
@@ -94,7 +94,7 @@ pub extern "C" fn r6501q_fresh() -> HostState
 pub extern "C" fn r6501q_well_formed(state: HostState) -> u8
     ensures { λ r. ⌜ r ≡ oneWhere (hostWellFormed state) ⌝ }
 {
-    let fit = flags_fit(state) & well_formed(state_of(state));
+    let fit = flags_fit(state) & well_formed(state_from(state));
     one_where(fit)
 }
 
@@ -125,7 +125,7 @@ pub extern "C" fn r6501q_step(
         );
     }
     let result = r6501q_step::step(
-        state_of(state),
+        state_from(state),
         memory,
         inputclocks,
         inputcodes,
@@ -167,7 +167,7 @@ pub extern "C" fn r6501q_run(
         );
     }
     let result = r6501q_run::run(
-        state_of(state),
+        state_from(state),
         memory,
         inputclocks,
         inputcodes,
@@ -220,7 +220,7 @@ pub extern "C" fn r6501q_step_with_sums(
         );
     }
     let result = r6501q_step::step_with_sums(
-        state_of(state),
+        state_from(state),
         memory,
         sums,
         inputclocks,
@@ -268,7 +268,7 @@ pub extern "C" fn r6501q_run_with_sums(
         );
     }
     let result = r6501q_run::run_with_sums(
-        state_of(state),
+        state_from(state),
         memory,
         sums,
         inputclocks,

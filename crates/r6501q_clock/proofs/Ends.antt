@@ -22,9 +22,9 @@ use Rattle.r6501q_cpu.proofs.Ranges.{Ends, processor-formed, processor-clock}
 use Rattle.r6501q_clock.specs.declared.Ended.{Ended}
 use Rattle.r6501q_clock.specs.declared.Clocked.{Clocked}
 use Rattle.r6501q_clock.specs.declared.Clocked.the-variants.{Stopped, Done}
-use Rattle.r6501q_clock.specs.Clock.{fullStop, endedWith, finished, recorded, readyOf, clockOf}
+use Rattle.r6501q_clock.specs.Clock.{fullStop, endedWith, finished, recorded, beforeCpu, clockOf}
 use Rattle.r6501q_clock.specs.Commit.{putWrite, committed}
-use Rattle.r6501q_clock.proofs.Ranges.{ready-formed, ready-clock}
+use Rattle.r6501q_clock.proofs.Ranges.{before-cpu-formed, before-cpu-clock}
 
 -- of a clock that is done
 abbrev pub Finishes : (Ended → Type 0) → Clocked → Type 0
@@ -41,10 +41,10 @@ module _ (P : State → Type 0) where
   finish-ends next word false free h = (h, λ e. absurd (false≢true e))
 
   clock-ends : (s : State) (codes memory : List ℕ) (free : Bool)
-      → Ends (λ n. P (n .state)) (processorOf (readyOf s codes) memory)
+      → Ends (λ n. P (n .state)) (processorOf (beforeCpu s codes) memory)
       → Finishes (λ e. P (e .state) × (e .differs ≡ true → free ≡ true)) (clockOf s codes memory free)
   unfolding clockOf
-  clock-ends s codes memory free h = by-processed (processorOf (readyOf s codes) memory) h
+  clock-ends s codes memory free h = by-processed (processorOf (beforeCpu s codes) memory) h
     where
       by-processed : (x : Processed) → Ends (λ n. P (n .state)) x
           → Finishes (λ e. P (e .state) × (e .differs ≡ true → free ≡ true))
@@ -57,19 +57,19 @@ pub done-clock : (s : State) (codes memory : List ℕ) (free : Bool) (e : Ended)
     → e .state .clock ≡ s .clock + 1
 done-clock s codes memory free e d =
     let m = clock-ends (λ t. t .clock ≡ s .clock + 1) s codes memory free
-    (along (processorOf (readyOf s codes) memory) (processor-clock (readyOf s codes) memory)) in
+    (along (processorOf (beforeCpu s codes) memory) (processor-clock (beforeCpu s codes) memory)) in
     (rw d at m) .0
   where
-    along : (x : Processed) → Ends (λ n. n .state .clock ≡ readyOf s codes .clock) x
+    along : (x : Processed) → Ends (λ n. n .state .clock ≡ beforeCpu s codes .clock) x
         → Ends (λ n. n .state .clock ≡ s .clock + 1) x
     along (processed.Stopped number) h = tt
-    along (processed.Done n) h = h ∙ ready-clock s codes
+    along (processed.Done n) h = h ∙ before-cpu-clock s codes
 
 -- a record that is put has room
 pub done-room : (s : State) (codes memory : List ℕ) (free : Bool) (e : Ended) → clockOf s codes memory free ≡ Done e
     → e .differs ≡ true → free ≡ true
 done-room s codes memory free e d =
-    let m = clock-ends (λ t. Unit {0}) s codes memory free (nothing (processorOf (readyOf s codes) memory)) in
+    let m = clock-ends (λ t. Unit {0}) s codes memory free (nothing (processorOf (beforeCpu s codes) memory)) in
     (rw d at m) .1
   where
     nothing : (x : Processed) → Ends (λ n. Unit {0}) x
@@ -82,7 +82,7 @@ pub done-formed : (s : State) (codes memory : List ℕ) (free : Bool) (e : Ended
     → wellFormed (e .state) ≡ true
 done-formed s codes memory free e f d =
     let m = clock-ends (λ t. wellFormed t ≡ true) s codes memory free
-    (processor-formed (readyOf s codes) memory (ready-formed s codes f)) in
+    (processor-formed (beforeCpu s codes) memory (before-cpu-formed s codes f)) in
     (rw d at m) .0
 
 -- a commit keeps the memory's length
@@ -105,7 +105,7 @@ pub stop-either : (P : ℕ → Type 0) → P undefinedStop → P fullStop
     → (s : State) (codes memory : List ℕ) (free : Bool) (number : ℕ)
     → clockOf s codes memory free ≡ Stopped number → P number
 unfolding clockOf finished
-stop-either P six seven s codes memory free number e = by-processed (processorOf (readyOf s codes) memory) refl e
+stop-either P six seven s codes memory free number e = by-processed (processorOf (beforeCpu s codes) memory) refl e
   where
     Stops : Clocked → Type 0
     Stops (Stopped k) = P k
@@ -118,10 +118,10 @@ stop-either P six seven s codes memory free number e = by-processed (processorOf
     by-stop : (x : Clocked) → Stops x → x ≡ Stopped number → P number
     by-stop x h q = rw q at h
 
-    by-processed : (x : Processed) → processorOf (readyOf s codes) memory ≡ x
+    by-processed : (x : Processed) → processorOf (beforeCpu s codes) memory ≡ x
         → recorded (drivenWord (s .peripherals)) free x ≡ Stopped number → P number
     by-processed (processed.Stopped k) p q =
-        by-stop (Stopped k) (subst P (sym (processor-stop (readyOf s codes) memory k p)) six) q
+        by-stop (Stopped k) (subst P (sym (processor-stop (beforeCpu s codes) memory k p)) six) q
     by-processed (processed.Done next) p q =
         let word = drivenWord (next .state .peripherals) in
         let differs = not (eqb word (drivenWord (s .peripherals))) in

@@ -20,7 +20,7 @@ use Rattle.r6501q_state.specs.Control.{modeA, modeB}
 use Rattle.r6501q_state.proofs.Ranges.{InPeripherals, in-peripherals, fit-peripherals, set-lt, formed, formed-cpu}
 use Rattle.r6501q_state.proofs.Ranges.{formed-peripherals, sensed-formed}
 use Rattle.r6501q_clock.specs.Clock.{inputsSet, countA, countB, sentBy, heardBy, peripheralsClock}
-use Rattle.r6501q_clock.specs.Clock.{withPeripheralsClock, readyOf}
+use Rattle.r6501q_clock.specs.Clock.{withPeripheralsClock, beforeCpu}
 
 counted-a-in : (p : Peripherals) (before now : ℕ) → InPeripherals p → InPeripherals (countA p before now .peripherals)
 unfolding countA
@@ -71,18 +71,18 @@ peripherals-clock-fits p before now e =
     (sent-in _ (a .ticks) (counted-b-in (a .peripherals) before now (counted-a-in p before now (in-peripherals p e)))))
 
 -- steps 1 to 3
-pub ready-formed : (s : State) (codes : List ℕ) → wellFormed s ≡ true → wellFormed (readyOf s codes) ≡ true
-unfolding readyOf
-ready-formed s codes e =
+pub before-cpu-formed : (s : State) (codes : List ℕ) → wellFormed s ≡ true → wellFormed (beforeCpu s codes) ≡ true
+unfolding beforeCpu
+before-cpu-formed s codes e =
     let t = sensed (inputsSet s codes) in
     let f = sensed-formed (inputsSet s codes) (formed (inputsSet s codes) (formed-cpu s e) (formed-peripherals s e)) in
-    formed (readyOf s codes) (formed-cpu t f)
+    formed (beforeCpu s codes) (formed-cpu t f)
     (peripherals-clock-fits (t .peripherals) (s .last .ports) (t .last .ports) (formed-peripherals t f))
 
 -- "Clock plus 1"
-pub ready-clock : (s : State) (codes : List ℕ) → readyOf s codes .clock ≡ s .clock + 1
-unfolding readyOf sensed sensedAt withEdges resetOf
-ready-clock s codes =
+pub before-cpu-clock : (s : State) (codes : List ℕ) → beforeCpu s codes .clock ≡ s .clock + 1
+unfolding beforeCpu sensed sensedAt withEdges resetOf
+before-cpu-clock s codes =
     cond-both (λ (t : State). t .clock ≡ s .clock + 1) (levelsOf (inputsSet s codes) .res)
     (withEdges (inputsSet s codes) (levelsOf (inputsSet s codes)))
     (resetOf (withEdges (inputsSet s codes) (levelsOf (inputsSet s codes)))) (λ _. refl) (λ _. refl)

@@ -84,8 +84,8 @@ abbrev pub withPeripheralsClock : ℕ → State → State
 withPeripheralsClock before s = withPeripherals s (peripheralsClock (s .peripherals) before (s .last .ports))
 
 -- steps 1 to 3, given the codes of this clock's inputs
-unfoldable pub readyOf : State → List ℕ → State
-readyOf s codes = withPeripheralsClock (s .last .ports) (sensed (inputsSet s codes))
+unfoldable pub beforeCpu : State → List ℕ → State
+beforeCpu s codes = withPeripheralsClock (s .last .ports) (sensed (inputsSet s codes))
 
 -- 01, What is handed back: "7 | the next clock needs a record, none free"
 abbrev pub fullStop : ℕ
@@ -113,4 +113,4 @@ recorded before free (processed.Done next) = comparedWith before free next (driv
 
 -- 01, One clock, 1 to 5, given the codes of this clock's inputs and whether an output entry is free
 unfoldable pub clockOf : State → List ℕ → List ℕ → Bool → Clocked
-clockOf s codes memory free = recorded (drivenWord (s .peripherals)) free (processorOf (readyOf s codes) memory)
+clockOf s codes memory free = recorded (drivenWord (s .peripherals)) free (processorOf (beforeCpu s codes) memory)

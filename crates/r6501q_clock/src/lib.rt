@@ -5,7 +5,7 @@ ghost use Prim.Native.Nat.{_<_};
 ghost use Rattle.cpu_opcodes.specs.TableInCode.{opcodeTable};
 ghost use Rattle.refusals.specs.Refusals.{lastClock};
 ghost use Rattle.r6501q_clock.specs.Clock.{withInputs, countA, countB, sentBy, heardBy, peripheralsClock};
-ghost use Rattle.r6501q_clock.specs.Clock.{readyOf};
+ghost use Rattle.r6501q_clock.specs.Clock.{beforeCpu};
 ghost use Rattle.r6501q_clock.specs.Clock.{fullStop, finished, clockOf};
 use counters::time::Ticks;
 use counters::time::ticks_of;
@@ -140,9 +140,9 @@ fn clock_peripherals(p: Peripherals, before: u32, after: u32) -> Peripherals
 }
 
 // Steps 1 to 3 of a clock, given the codes of its inputs.
-pub fn ready(s: State, codes: &[u8]) -> State
+pub fn before_cpu(s: State, codes: &[u8]) -> State
     requires { ⌜ s .clock < 4294967295 ⌝ }
-    ensures { λ r. ⌜ r ≡ readyOf s (now (codes .entry)) ⌝ }
+    ensures { λ r. ⌜ r ≡ beforeCpu s (now (codes .entry)) ⌝ }
 {
     let before = s.last.ports;
     let external = apply_inputs(s.external, codes);
@@ -180,7 +180,7 @@ pub fn clock(s: State, codes: &[u8], memory: &[u8], free: bool, entries: &[u16])
     ensures { λ r. ⌜ r ≡ clockOf s (now (codes .entry)) (now (memory .entry)) free ⌝ }
 {
     let before = s.peripherals.driven_word();
-    let processed = r6501q_cpu::process(ready(s, codes), memory, entries);
+    let processed = r6501q_cpu::process(before_cpu(s, codes), memory, entries);
     match processed {
         Processed::Stopped(number) => Clocked::Stopped(number),
         Processed::Done(next) => {

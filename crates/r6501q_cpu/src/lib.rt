@@ -157,7 +157,7 @@ fn one_round(s: State, p: Peripherals, answers: &[u8], memory: &[u8], entries: &
 }
 
 // One whole instruction: each question is answered in turn.
-fn whole_instruction(s: State, memory: &[u8], entries: &[u16]) -> Processed
+fn answered_instruction(s: State, memory: &[u8], entries: &[u16]) -> Processed
     requires { ⌜ now entries ≡ opcodeTable ⌝ }
     ensures { λ r. ⌜ r ≡ answeredInstruction s (now (memory .entry)) ⌝ }
 {
@@ -230,7 +230,7 @@ fn start(s: State, memory: &[u8], entries: &[u16]) -> Processed
     if irq_due(s) {
         return Processed::Done(start_irq(s, memory));
     }
-    whole_instruction(s, memory, entries)
+    answered_instruction(s, memory, entries)
 }
 
 // Nothing is written.

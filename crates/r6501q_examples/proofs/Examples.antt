@@ -49,7 +49,7 @@ use Rattle.r6501q_state.specs.Pins.{sensedAt, sensed}
 use Rattle.r6501q_state.specs.State.{fresh}
 use Rattle.r6501q_registers.specs.Read.{portValue, registerValue, afterRead}
 use Rattle.r6501q_registers.specs.Write.{startB, startA, entering, keptFlag, keptFlags, writeOf}
-use Rattle.r6501q_clock.specs.Clock.{withInputs, countA, countB, sentBy, heardBy, peripheralsClock, readyOf, finished}
+use Rattle.r6501q_clock.specs.Clock.{withInputs, countA, countB, sentBy, heardBy, peripheralsClock, beforeCpu, finished}
 use Rattle.r6501q_clock.specs.Clock.{clockOf}
 use Rattle.r6501q_clock.specs.Commit.{putWrite, committed}
 use Rattle.r6501q_state.specs.declared.state.Levels.{Levels}
@@ -103,7 +103,7 @@ unfolding withBit setWhere flipWhere inputCount ticksOf inForce downA countsA cl
     wrongParity scsrAfter keptWith frameEnded lookTaken looked receiveTick shiftedAtRise byteEnded receiveRise
     receiverClock receiverWithSccr framed taken idleTick frameEnd nextPhase ticked bitTick sendTick transmitterClock
     line shiftClock transmitterWithSccr flagsOf modeA modeB withInput driveA driveD drivenWord levelsOf rose fell edges
-    withEdges resetOf sensedAt sensed fresh withInputs countA countB sentBy heardBy peripheralsClock readyOf finished
+    withEdges resetOf sensedAt sensed fresh withInputs countA countB sentBy heardBy peripheralsClock beforeCpu finished
     clockOf halts putWrite committed bytePut processorOf plainOf plains putRecord
 p1-cleared clock = refl
 
@@ -116,7 +116,7 @@ unfolding withBit setWhere flipWhere inputCount ticksOf inForce downA countsA cl
     wrongParity scsrAfter keptWith frameEnded lookTaken looked receiveTick shiftedAtRise byteEnded receiveRise
     receiverClock receiverWithSccr framed taken idleTick frameEnd nextPhase ticked bitTick sendTick transmitterClock
     line shiftClock transmitterWithSccr flagsOf modeA modeB withInput driveA driveD drivenWord levelsOf rose fell edges
-    withEdges resetOf sensedAt sensed fresh withInputs countA countB sentBy heardBy peripheralsClock readyOf finished
+    withEdges resetOf sensedAt sensed fresh withInputs countA countB sentBy heardBy peripheralsClock beforeCpu finished
     clockOf halts putWrite committed bytePut processorOf plainOf plains putRecord
 p1-clock clock memory times words = refl
 
@@ -160,7 +160,7 @@ unfolding withBit setWhere flipWhere inputCount ticksOf inForce downA countsA cl
     line shiftClock transmitterWithSccr decodeOf packed unpacked pushed memoryByte displacement flagsOf modeA modeB
     withInput driveA driveD drivenWord levelsOf rose fell edges withEdges resetOf sensedAt sensed fresh portValue
     registerValue afterRead startB startA entering keptFlag keptFlags writeOf wholeInstruction irqDue resetStart
-    nmiStart irqStart startOf bytePut processorOf withInputs countA countB sentBy heardBy peripheralsClock readyOf
+    nmiStart irqStart startOf bytePut processorOf withInputs countA countB sentBy heardBy peripheralsClock beforeCpu
     finished clockOf halts putWrite committed plainOf plains putRecord located byteAfter peripheralsRead
     peripheralsWritten valueRead performed inOrder completion storeAt modifyAccesses branchOn bitBranchAccesses jumpTo
     pushAccesses pullAccesses returnAccesses interruptReturnAccesses entryAccesses breakAccesses jsrAccesses
@@ -180,7 +180,7 @@ unfolding withBit setWhere flipWhere inputCount ticksOf inForce downA countsA cl
     line shiftClock transmitterWithSccr decodeOf packed unpacked pushed memoryByte displacement flagsOf modeA modeB
     withInput driveA driveD drivenWord levelsOf rose fell edges withEdges resetOf sensedAt sensed fresh portValue
     registerValue afterRead startB startA entering keptFlag keptFlags writeOf wholeInstruction irqDue resetStart
-    nmiStart irqStart startOf bytePut processorOf withInputs countA countB sentBy heardBy peripheralsClock readyOf
+    nmiStart irqStart startOf bytePut processorOf withInputs countA countB sentBy heardBy peripheralsClock beforeCpu
     finished clockOf halts putWrite committed plainOf plains putRecord located byteAfter peripheralsRead
     peripheralsWritten valueRead performed inOrder completion storeAt modifyAccesses branchOn bitBranchAccesses jumpTo
     pushAccesses pullAccesses returnAccesses interruptReturnAccesses entryAccesses breakAccesses jsrAccesses
@@ -199,7 +199,7 @@ unfolding withBit setWhere flipWhere inputCount ticksOf inForce downA countsA cl
     line shiftClock transmitterWithSccr decodeOf packed unpacked pushed memoryByte displacement flagsOf modeA modeB
     withInput driveA driveD drivenWord levelsOf rose fell edges withEdges resetOf sensedAt sensed fresh portValue
     registerValue afterRead startB startA entering keptFlag keptFlags writeOf wholeInstruction irqDue resetStart
-    nmiStart irqStart startOf bytePut processorOf withInputs countA countB sentBy heardBy peripheralsClock readyOf
+    nmiStart irqStart startOf bytePut processorOf withInputs countA countB sentBy heardBy peripheralsClock beforeCpu
     finished clockOf halts putWrite committed plainOf plains putRecord located byteAfter peripheralsRead
     peripheralsWritten valueRead performed inOrder completion storeAt modifyAccesses branchOn bitBranchAccesses jumpTo
     pushAccesses pullAccesses returnAccesses interruptReturnAccesses entryAccesses breakAccesses jsrAccesses
@@ -233,7 +233,7 @@ unfolding withBit setWhere flipWhere inputCount ticksOf inForce downA countsA cl
     wrongParity scsrAfter keptWith frameEnded lookTaken looked receiveTick shiftedAtRise byteEnded receiveRise
     receiverClock receiverWithSccr framed taken idleTick frameEnd nextPhase ticked bitTick sendTick transmitterClock
     line shiftClock transmitterWithSccr flagsOf modeA modeB withInput driveA driveD drivenWord levelsOf rose fell edges
-    withEdges resetOf sensedAt sensed fresh withInputs countA countB sentBy heardBy peripheralsClock readyOf finished
+    withEdges resetOf sensedAt sensed fresh withInputs countA countB sentBy heardBy peripheralsClock beforeCpu finished
     clockOf halts putWrite committed bytePut processorOf plainOf plains putRecord
 p6-low register received memory = refl
 
@@ -246,7 +246,7 @@ unfolding withBit setWhere flipWhere inputCount ticksOf inForce downA countsA cl
     wrongParity scsrAfter keptWith frameEnded lookTaken looked receiveTick shiftedAtRise byteEnded receiveRise
     receiverClock receiverWithSccr framed taken idleTick frameEnd nextPhase ticked bitTick sendTick transmitterClock
     line shiftClock transmitterWithSccr flagsOf modeA modeB withInput driveA driveD drivenWord levelsOf rose fell edges
-    withEdges resetOf sensedAt sensed fresh withInputs countA countB sentBy heardBy peripheralsClock readyOf finished
+    withEdges resetOf sensedAt sensed fresh withInputs countA countB sentBy heardBy peripheralsClock beforeCpu finished
     clockOf halts putWrite committed bytePut processorOf plainOf plains putRecord
 p6-none register received memory = refl
 
@@ -258,7 +258,7 @@ unfolding withBit setWhere flipWhere inputCount ticksOf inForce downA countsA cl
     wrongParity scsrAfter keptWith frameEnded lookTaken looked receiveTick shiftedAtRise byteEnded receiveRise
     receiverClock receiverWithSccr framed taken idleTick frameEnd nextPhase ticked bitTick sendTick transmitterClock
     line shiftClock transmitterWithSccr flagsOf modeA modeB withInput driveA driveD drivenWord levelsOf rose fell edges
-    withEdges resetOf sensedAt sensed fresh withInputs countA countB sentBy heardBy peripheralsClock readyOf finished
+    withEdges resetOf sensedAt sensed fresh withInputs countA countB sentBy heardBy peripheralsClock beforeCpu finished
     clockOf halts putWrite committed bytePut processorOf plainOf plains putRecord
 p6-status register received memory = refl
 
@@ -286,7 +286,7 @@ unfolding withBit setWhere flipWhere inputCount ticksOf inForce downA countsA cl
     line shiftClock transmitterWithSccr decodeOf packed unpacked pushed memoryByte displacement flagsOf modeA modeB
     withInput driveA driveD drivenWord levelsOf rose fell edges withEdges resetOf sensedAt sensed fresh portValue
     registerValue afterRead startB startA entering keptFlag keptFlags writeOf wholeInstruction irqDue resetStart
-    nmiStart irqStart startOf bytePut processorOf withInputs countA countB sentBy heardBy peripheralsClock readyOf
+    nmiStart irqStart startOf bytePut processorOf withInputs countA countB sentBy heardBy peripheralsClock beforeCpu
     finished clockOf halts putWrite committed plainOf plains putRecord located byteAfter peripheralsRead
     peripheralsWritten valueRead performed inOrder completion storeAt modifyAccesses branchOn bitBranchAccesses jumpTo
     pushAccesses pullAccesses returnAccesses interruptReturnAccesses entryAccesses breakAccesses jsrAccesses
@@ -305,7 +305,7 @@ unfolding withBit setWhere flipWhere inputCount ticksOf inForce downA countsA cl
     line shiftClock transmitterWithSccr decodeOf packed unpacked pushed memoryByte displacement flagsOf modeA modeB
     withInput driveA driveD drivenWord levelsOf rose fell edges withEdges resetOf sensedAt sensed fresh portValue
     registerValue afterRead startB startA entering keptFlag keptFlags writeOf wholeInstruction irqDue resetStart
-    nmiStart irqStart startOf bytePut processorOf withInputs countA countB sentBy heardBy peripheralsClock readyOf
+    nmiStart irqStart startOf bytePut processorOf withInputs countA countB sentBy heardBy peripheralsClock beforeCpu
     finished clockOf halts putWrite committed plainOf plains putRecord located byteAfter peripheralsRead
     peripheralsWritten valueRead performed inOrder completion storeAt modifyAccesses branchOn bitBranchAccesses jumpTo
     pushAccesses pullAccesses returnAccesses interruptReturnAccesses entryAccesses breakAccesses jsrAccesses
@@ -322,7 +322,7 @@ unfolding withBit setWhere flipWhere inputCount ticksOf inForce downA countsA cl
     line shiftClock transmitterWithSccr decodeOf packed unpacked pushed memoryByte displacement flagsOf modeA modeB
     withInput driveA driveD drivenWord levelsOf rose fell edges withEdges resetOf sensedAt sensed fresh portValue
     registerValue afterRead startB startA entering keptFlag keptFlags writeOf wholeInstruction irqDue resetStart
-    nmiStart irqStart startOf bytePut processorOf withInputs countA countB sentBy heardBy peripheralsClock readyOf
+    nmiStart irqStart startOf bytePut processorOf withInputs countA countB sentBy heardBy peripheralsClock beforeCpu
     finished clockOf halts putWrite committed plainOf plains putRecord located byteAfter peripheralsRead
     peripheralsWritten valueRead performed inOrder completion storeAt modifyAccesses branchOn bitBranchAccesses jumpTo
     pushAccesses pullAccesses returnAccesses interruptReturnAccesses entryAccesses breakAccesses jsrAccesses
@@ -339,7 +339,7 @@ unfolding withBit setWhere flipWhere inputCount ticksOf inForce downA countsA cl
     line shiftClock transmitterWithSccr decodeOf packed unpacked pushed memoryByte displacement flagsOf modeA modeB
     withInput driveA driveD drivenWord levelsOf rose fell edges withEdges resetOf sensedAt sensed fresh portValue
     registerValue afterRead startB startA entering keptFlag keptFlags writeOf wholeInstruction irqDue resetStart
-    nmiStart irqStart startOf bytePut processorOf withInputs countA countB sentBy heardBy peripheralsClock readyOf
+    nmiStart irqStart startOf bytePut processorOf withInputs countA countB sentBy heardBy peripheralsClock beforeCpu
     finished clockOf halts putWrite committed plainOf plains putRecord located byteAfter peripheralsRead
     peripheralsWritten valueRead performed inOrder completion storeAt modifyAccesses branchOn bitBranchAccesses jumpTo
     pushAccesses pullAccesses returnAccesses interruptReturnAccesses entryAccesses breakAccesses jsrAccesses
@@ -372,7 +372,7 @@ unfolding withBit setWhere flipWhere inputCount ticksOf inForce downA countsA cl
     line shiftClock transmitterWithSccr decodeOf packed unpacked pushed memoryByte displacement flagsOf modeA modeB
     withInput driveA driveD drivenWord levelsOf rose fell edges withEdges resetOf sensedAt sensed fresh portValue
     registerValue afterRead startB startA entering keptFlag keptFlags writeOf wholeInstruction irqDue resetStart
-    nmiStart irqStart startOf bytePut processorOf withInputs countA countB sentBy heardBy peripheralsClock readyOf
+    nmiStart irqStart startOf bytePut processorOf withInputs countA countB sentBy heardBy peripheralsClock beforeCpu
     finished clockOf isWritten halts putWrite committed plainOf plains putRecord located byteAfter peripheralsRead
     peripheralsWritten valueRead performed inOrder completion storeAt modifyAccesses branchOn bitBranchAccesses jumpTo
     pushAccesses pullAccesses returnAccesses interruptReturnAccesses entryAccesses breakAccesses jsrAccesses
@@ -390,7 +390,7 @@ unfolding withBit setWhere flipWhere inputCount ticksOf inForce downA countsA cl
     line shiftClock transmitterWithSccr decodeOf packed unpacked pushed memoryByte displacement flagsOf modeA modeB
     withInput driveA driveD drivenWord levelsOf rose fell edges withEdges resetOf sensedAt sensed fresh portValue
     registerValue afterRead startB startA entering keptFlag keptFlags writeOf wholeInstruction irqDue resetStart
-    nmiStart irqStart startOf bytePut processorOf withInputs countA countB sentBy heardBy peripheralsClock readyOf
+    nmiStart irqStart startOf bytePut processorOf withInputs countA countB sentBy heardBy peripheralsClock beforeCpu
     finished clockOf isWritten halts putWrite committed plainOf plains putRecord eventsIn quietEnd trace leapCount
     doneIn eventIn hasInput sameLevels levelsChange underflowsA underflowsB portsFresh controlFresh transmitterIdle
     receiverIdle isReset resetChanges cpuStarts putsByte byteWaits eventOf located byteAfter peripheralsRead
@@ -410,7 +410,7 @@ unfolding withBit setWhere flipWhere inputCount ticksOf inForce downA countsA cl
     line shiftClock transmitterWithSccr decodeOf packed unpacked pushed memoryByte displacement flagsOf modeA modeB
     withInput driveA driveD drivenWord levelsOf rose fell edges withEdges resetOf sensedAt sensed fresh portValue
     registerValue afterRead startB startA entering keptFlag keptFlags writeOf wholeInstruction irqDue resetStart
-    nmiStart irqStart startOf bytePut processorOf withInputs countA countB sentBy heardBy peripheralsClock readyOf
+    nmiStart irqStart startOf bytePut processorOf withInputs countA countB sentBy heardBy peripheralsClock beforeCpu
     finished clockOf isWritten halts putWrite committed plainOf plains putRecord located byteAfter peripheralsRead
     peripheralsWritten valueRead performed inOrder completion storeAt modifyAccesses branchOn bitBranchAccesses jumpTo
     pushAccesses pullAccesses returnAccesses interruptReturnAccesses entryAccesses breakAccesses jsrAccesses
@@ -427,7 +427,7 @@ unfolding withBit setWhere flipWhere inputCount ticksOf inForce downA countsA cl
     line shiftClock transmitterWithSccr decodeOf packed unpacked pushed memoryByte displacement flagsOf modeA modeB
     withInput driveA driveD drivenWord levelsOf rose fell edges withEdges resetOf sensedAt sensed fresh portValue
     registerValue afterRead startB startA entering keptFlag keptFlags writeOf wholeInstruction irqDue resetStart
-    nmiStart irqStart startOf bytePut processorOf withInputs countA countB sentBy heardBy peripheralsClock readyOf
+    nmiStart irqStart startOf bytePut processorOf withInputs countA countB sentBy heardBy peripheralsClock beforeCpu
     finished clockOf isWritten halts putWrite committed plainOf plains putRecord located byteAfter peripheralsRead
     peripheralsWritten valueRead performed inOrder completion storeAt modifyAccesses branchOn bitBranchAccesses jumpTo
     pushAccesses pullAccesses returnAccesses interruptReturnAccesses entryAccesses breakAccesses jsrAccesses
@@ -445,7 +445,7 @@ unfolding withBit setWhere flipWhere inputCount ticksOf inForce downA countsA cl
     line shiftClock transmitterWithSccr decodeOf packed unpacked pushed memoryByte displacement flagsOf modeA modeB
     withInput driveA driveD drivenWord levelsOf rose fell edges withEdges resetOf sensedAt sensed fresh portValue
     registerValue afterRead startB startA entering keptFlag keptFlags writeOf wholeInstruction irqDue resetStart
-    nmiStart irqStart startOf bytePut processorOf withInputs countA countB sentBy heardBy peripheralsClock readyOf
+    nmiStart irqStart startOf bytePut processorOf withInputs countA countB sentBy heardBy peripheralsClock beforeCpu
     finished clockOf isWritten halts putWrite committed plainOf plains putRecord located byteAfter peripheralsRead
     peripheralsWritten valueRead performed inOrder completion storeAt modifyAccesses branchOn bitBranchAccesses jumpTo
     pushAccesses pullAccesses returnAccesses interruptReturnAccesses entryAccesses breakAccesses jsrAccesses
@@ -463,7 +463,7 @@ unfolding withBit setWhere flipWhere inputCount ticksOf inForce downA countsA cl
     line shiftClock transmitterWithSccr decodeOf packed unpacked pushed memoryByte displacement flagsOf modeA modeB
     withInput driveA driveD drivenWord levelsOf rose fell edges withEdges resetOf sensedAt sensed fresh portValue
     registerValue afterRead startB startA entering keptFlag keptFlags writeOf wholeInstruction irqDue resetStart
-    nmiStart irqStart startOf bytePut processorOf withInputs countA countB sentBy heardBy peripheralsClock readyOf
+    nmiStart irqStart startOf bytePut processorOf withInputs countA countB sentBy heardBy peripheralsClock beforeCpu
     finished clockOf isWritten halts putWrite committed plainOf plains putRecord located byteAfter peripheralsRead
     peripheralsWritten valueRead performed inOrder completion storeAt modifyAccesses branchOn bitBranchAccesses jumpTo
     pushAccesses pullAccesses returnAccesses interruptReturnAccesses entryAccesses breakAccesses jsrAccesses
@@ -480,7 +480,7 @@ unfolding withBit setWhere flipWhere inputCount ticksOf inForce downA countsA cl
     line shiftClock transmitterWithSccr decodeOf packed unpacked pushed memoryByte displacement flagsOf modeA modeB
     withInput driveA driveD drivenWord levelsOf rose fell edges withEdges resetOf sensedAt sensed fresh portValue
     registerValue afterRead startB startA entering keptFlag keptFlags writeOf wholeInstruction irqDue resetStart
-    nmiStart irqStart startOf bytePut processorOf withInputs countA countB sentBy heardBy peripheralsClock readyOf
+    nmiStart irqStart startOf bytePut processorOf withInputs countA countB sentBy heardBy peripheralsClock beforeCpu
     finished clockOf isWritten halts putWrite committed plainOf plains putRecord located byteAfter peripheralsRead
     peripheralsWritten valueRead performed inOrder completion storeAt modifyAccesses branchOn bitBranchAccesses jumpTo
     pushAccesses pullAccesses returnAccesses interruptReturnAccesses entryAccesses breakAccesses jsrAccesses
@@ -499,7 +499,7 @@ unfolding withBit setWhere flipWhere inputCount ticksOf inForce downA countsA cl
     line shiftClock transmitterWithSccr decodeOf packed unpacked pushed memoryByte displacement flagsOf modeA modeB
     withInput driveA driveD drivenWord levelsOf rose fell edges withEdges resetOf sensedAt sensed fresh portValue
     registerValue afterRead startB startA entering keptFlag keptFlags writeOf wholeInstruction irqDue resetStart
-    nmiStart irqStart startOf bytePut processorOf withInputs countA countB sentBy heardBy peripheralsClock readyOf
+    nmiStart irqStart startOf bytePut processorOf withInputs countA countB sentBy heardBy peripheralsClock beforeCpu
     finished clockOf isWritten halts putWrite committed plainOf plains putRecord located byteAfter peripheralsRead
     peripheralsWritten valueRead performed inOrder completion storeAt modifyAccesses branchOn bitBranchAccesses jumpTo
     pushAccesses pullAccesses returnAccesses interruptReturnAccesses entryAccesses breakAccesses jsrAccesses
@@ -516,7 +516,7 @@ unfolding withBit setWhere flipWhere inputCount ticksOf inForce downA countsA cl
     line shiftClock transmitterWithSccr decodeOf packed unpacked pushed memoryByte displacement flagsOf modeA modeB
     withInput driveA driveD drivenWord levelsOf rose fell edges withEdges resetOf sensedAt sensed fresh portValue
     registerValue afterRead startB startA entering keptFlag keptFlags writeOf wholeInstruction irqDue resetStart
-    nmiStart irqStart startOf bytePut processorOf withInputs countA countB sentBy heardBy peripheralsClock readyOf
+    nmiStart irqStart startOf bytePut processorOf withInputs countA countB sentBy heardBy peripheralsClock beforeCpu
     finished clockOf isWritten halts putWrite committed plainOf plains putRecord located byteAfter peripheralsRead
     peripheralsWritten valueRead performed inOrder completion storeAt modifyAccesses branchOn bitBranchAccesses jumpTo
     pushAccesses pullAccesses returnAccesses interruptReturnAccesses entryAccesses breakAccesses jsrAccesses
@@ -537,7 +537,7 @@ unfolding withBit setWhere flipWhere inputCount ticksOf inForce downA countsA cl
     line shiftClock transmitterWithSccr decodeOf packed unpacked pushed memoryByte displacement flagsOf modeA modeB
     withInput driveA driveD drivenWord levelsOf rose fell edges withEdges resetOf sensedAt sensed fresh portValue
     registerValue afterRead startB startA entering keptFlag keptFlags writeOf wholeInstruction irqDue resetStart
-    nmiStart irqStart startOf bytePut processorOf withInputs countA countB sentBy heardBy peripheralsClock readyOf
+    nmiStart irqStart startOf bytePut processorOf withInputs countA countB sentBy heardBy peripheralsClock beforeCpu
     finished clockOf isWritten halts putWrite committed plainOf plains putRecord located byteAfter peripheralsRead
     peripheralsWritten valueRead performed inOrder completion storeAt modifyAccesses branchOn bitBranchAccesses jumpTo
     pushAccesses pullAccesses returnAccesses interruptReturnAccesses entryAccesses breakAccesses jsrAccesses
@@ -568,7 +568,7 @@ unfolding withBit setWhere flipWhere inputCount ticksOf inForce downA countsA cl
     line shiftClock transmitterWithSccr decodeOf packed unpacked pushed memoryByte displacement flagsOf modeA modeB
     withInput driveA driveD drivenWord levelsOf rose fell edges withEdges resetOf sensedAt sensed fresh portValue
     registerValue afterRead startB startA entering keptFlag keptFlags writeOf wholeInstruction irqDue resetStart
-    nmiStart irqStart startOf bytePut processorOf withInputs countA countB sentBy heardBy peripheralsClock readyOf
+    nmiStart irqStart startOf bytePut processorOf withInputs countA countB sentBy heardBy peripheralsClock beforeCpu
     finished clockOf isWritten halts putWrite committed plainOf plains putRecord located byteAfter peripheralsRead
     peripheralsWritten valueRead performed inOrder completion storeAt modifyAccesses branchOn bitBranchAccesses jumpTo
     pushAccesses pullAccesses returnAccesses interruptReturnAccesses entryAccesses breakAccesses jsrAccesses

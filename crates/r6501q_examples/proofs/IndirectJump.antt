@@ -47,7 +47,7 @@ use Rattle.r6501q_state.specs.Pins.{sensedAt, sensed}
 use Rattle.r6501q_state.specs.State.{fresh}
 use Rattle.r6501q_registers.specs.Read.{portValue, registerValue, afterRead}
 use Rattle.r6501q_registers.specs.Write.{startB, startA, entering, keptFlag, keptFlags, writeOf}
-use Rattle.r6501q_clock.specs.Clock.{withInputs, countA, countB, sentBy, heardBy, peripheralsClock, readyOf, finished}
+use Rattle.r6501q_clock.specs.Clock.{withInputs, countA, countB, sentBy, heardBy, peripheralsClock, beforeCpu, finished}
 use Rattle.r6501q_clock.specs.Clock.{clockOf}
 use Rattle.r6501q_clock.specs.Commit.{putWrite, committed}
 use Rattle.r6501q_state.specs.declared.state.Levels.{Levels}
@@ -84,7 +84,7 @@ unfolding withBit setWhere flipWhere inputCount ticksOf inForce downA countsA cl
     line shiftClock transmitterWithSccr decodeOf packed unpacked pushed memoryByte displacement flagsOf modeA modeB
     withInput driveA driveD drivenWord levelsOf rose fell edges withEdges resetOf sensedAt sensed fresh portValue
     registerValue afterRead startB startA entering keptFlag keptFlags writeOf wholeInstruction irqDue resetStart
-    nmiStart irqStart startOf bytePut processorOf withInputs countA countB sentBy heardBy peripheralsClock readyOf
+    nmiStart irqStart startOf bytePut processorOf withInputs countA countB sentBy heardBy peripheralsClock beforeCpu
     finished clockOf halts putWrite committed plainOf plains putRecord located byteAfter peripheralsRead
     peripheralsWritten valueRead performed inOrder completion storeAt modifyAccesses branchOn bitBranchAccesses jumpTo
     pushAccesses pullAccesses returnAccesses interruptReturnAccesses entryAccesses breakAccesses jsrAccesses

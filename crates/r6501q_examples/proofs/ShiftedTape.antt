@@ -36,7 +36,7 @@ use Rattle.r6501q_cpu.specs.declared.Processed.the-variants as processed
 use Rattle.r6501q_cpu.specs.Processor.{registersOf, performedIn, processedBy, irqDue, wholeInstruction, resetStart}
 use Rattle.r6501q_cpu.specs.Processor.{nmiStart, irqStart, startOf, withoutWrites, bytePut, waitedBy, processorOf}
 use Rattle.r6501q_clock.specs.declared.Clocked.the-variants.{Stopped, Done}
-use Rattle.r6501q_clock.specs.Clock.{inputsSet, readyOf, fullStop, endedWith, finished, recorded, clockOf}
+use Rattle.r6501q_clock.specs.Clock.{inputsSet, beforeCpu, fullStop, endedWith, finished, recorded, clockOf}
 use Rattle.r6501q_gaps.specs.Events.{levelsChange, underflowsA, underflowsB, resetChanges, cpuStarts, putsByte, isReset}
 use Rattle.r6501q_gaps.specs.Events.{eventOf}
 use Rattle.r6501q_gaps.specs.Gaps.{toInput, toChange, toUnderflowA, toUnderflowB, toReset, toCpu, gapOf, passOf}

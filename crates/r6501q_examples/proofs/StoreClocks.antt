@@ -24,13 +24,13 @@ use Rattle.r6501q_cpu.specs.declared.Processed.the-variants as processed
 use Rattle.r6501q_cpu.specs.Processor.{irqDue, opcodeAt, bytePut, processorOf}
 use Rattle.r6501q_cpu.proofs.Stores.{instruction-starts, instruction-begun, clock-waits, waited-less, byte-put}
 use Rattle.r6501q_cpu.proofs.Stores.{held-writes}
-use Rattle.r6501q_clock.specs.Clock.{readyOf, finished, recorded, clockOf}
+use Rattle.r6501q_clock.specs.Clock.{beforeCpu, finished, recorded, clockOf}
 use Rattle.r6501q_step.specs.R6501q.{World}
 use Rattle.r6501q_step.proofs.Halted.{toldBy, clockIn}
 
 -- the state that steps 1 to 3 of the next clock leave
 abbrev pub readyIn : World → State
-readyIn w = readyOf (w .state) (take (inputCount (w .state .clock + 1) (w .inputClocks)) (w .inputCodes))
+readyIn w = beforeCpu (w .state) (take (inputCount (w .state .clock + 1) (w .inputClocks)) (w .inputCodes))
 
 -- the clock needs a record and none is free: 7, and it is not done
 abbrev pub fullIn : World → Next → Bool

@@ -15,7 +15,7 @@ use Rattle.counters.specs.declared.time.Clocks.{Clocks}
 use Rattle.counters.specs.Counters.{passA, passB}
 use Rattle.r6501q_state.specs.declared.state.State.{State}
 use Rattle.r6501q_state.specs.Pins.{levelsOf}
-use Rattle.r6501q_clock.specs.Clock.{readyOf}
+use Rattle.r6501q_clock.specs.Clock.{beforeCpu}
 use Rattle.r6501q_cpu.specs.Processor.{processorOf, withoutWrites}
 use Rattle.r6501q_state.specs.Inputs.{lastPin}
 use Rattle.pin_lists.specs.PinLists.{pinsRight, inputCount}
@@ -99,7 +99,7 @@ module _ (n : ℕ) (s : State) (clocks : List ℕ) (h : 0 < gapOf n s clocks .0)
   gap-no-input = no-input-next n (s .clock) clocks (omega arith)
 
   -- the clock is done, writes nothing, and is a gap of one clock passed
-  pub gap-clock : (memory : List ℕ) → processorOf (readyOf s []) memory ≡ withoutWrites (passOf s (clocksOf 1))
+  pub gap-clock : (memory : List ℕ) → processorOf (beforeCpu s []) memory ≡ withoutWrites (passOf s (clocksOf 1))
   gap-clock memory = clock-quiet s memory (gap-quiet n s clocks h)
 
   -- and it is no event clock

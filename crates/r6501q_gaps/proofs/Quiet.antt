@@ -22,7 +22,8 @@ use Rattle.r6501q_state.specs.declared.state.State.{State}
 use Rattle.r6501q_state.specs.Copies.{withCounterA, withCounterB}
 use Rattle.r6501q_state.specs.Pins.{levelsOf, rose, fell, edges, withEdges, resetOf, sensedAt, sensed}
 use Rattle.r6501q_state.specs.Control.{modeA, modeB}
-use Rattle.r6501q_clock.specs.Clock.{withInputs, inputsSet, countA, countB, sentBy, heardBy, peripheralsClock, readyOf}
+use Rattle.r6501q_clock.specs.Clock.{withInputs, inputsSet, countA, countB, sentBy, heardBy, peripheralsClock}
+use Rattle.r6501q_clock.specs.Clock.{beforeCpu}
 use Rattle.r6501q_cpu.specs.Processor.{processorOf, withoutWrites}
 use Rattle.r6501q_cpu.proofs.Stores.{clock-waits, waited-less}
 use Rattle.r6501q_gaps.specs.Events.{hasInput, levelsChange, underflowsA, underflowsB, isReset, resetChanges}
@@ -232,20 +233,20 @@ peripheralsTo s p =
     record { cpu = s .cpu; due = s .due; peripherals = p; external = s .external; last = s .last; clock = s .clock }
 
 -- steps 1 to 3, where the levels are the last ones
-pub ready-peripherals : (s : State) → levelsOf s ≡ s .last → (s .last .res ≡ false → isReset s ≡ true)
-    → readyOf s [] ≡ peripheralsTo (ahead s) (peripheralsClock (s .peripherals) (s .last .ports) (s .last .ports))
-unfolding readyOf
-ready-peripherals s levels reset = rw (inputsSet-ahead s, sensed-ahead s levels reset)
+pub before-cpu-peripherals : (s : State) → levelsOf s ≡ s .last → (s .last .res ≡ false → isReset s ≡ true)
+    → beforeCpu s [] ≡ peripheralsTo (ahead s) (peripheralsClock (s .peripherals) (s .last .ports) (s .last .ports))
+unfolding beforeCpu
+before-cpu-peripherals s levels reset = rw (inputsSet-ahead s, sensed-ahead s levels reset)
 
-pub ready-still : (s : State) → Still s
-    → readyOf s [] ≡ peripheralsTo (ahead s) (passCounters (s .peripherals) (s .last .ports) (clocksOf 1))
-ready-still s q =
-    ready-peripherals s (q .levels) (q .reset)
+pub before-cpu-still : (s : State) → Still s
+    → beforeCpu s [] ≡ peripheralsTo (ahead s) (passCounters (s .peripherals) (s .last .ports) (clocksOf 1))
+before-cpu-still s q =
+    before-cpu-peripherals s (q .levels) (q .reset)
     ∙ rw (peripherals-quiet (s .peripherals) (s .last .ports) (q .above-a) (q .above-b))
 
-ready-quiet : (s : State) → Quiet s
-    → readyOf s [] ≡ peripheralsTo (ahead s) (passCounters (s .peripherals) (s .last .ports) (clocksOf 1))
-ready-quiet s q = ready-still s (q .still)
+before-cpu-quiet : (s : State) → Quiet s
+    → beforeCpu s [] ≡ peripheralsTo (ahead s) (passCounters (s .peripherals) (s .last .ports) (clocksOf 1))
+before-cpu-quiet s q = before-cpu-still s (q .still)
 
 -- the CPU neither starts nor puts a byte: it waits, and where a byte waits for more than a clock
 pub not-put : (r b : Bool) (wait : ℕ) → (r ≡ true → 0 < wait - oneWhere b) → (r && b && eqb wait 1) ≡ false
@@ -264,9 +265,9 @@ acts-later false b wait e f z = absurd (false≢true z)
 
 -- steps 1 to 4 of a clock without inputs
 pub clock-quiet : (s : State) (memory : List ℕ) → Quiet s
-    → processorOf (readyOf s []) memory ≡ withoutWrites (passOf s (clocksOf 1))
+    → processorOf (beforeCpu s []) memory ≡ withoutWrites (passOf s (clocksOf 1))
 unfolding processorOf passOf waitAfter untilCpu
-clock-quiet s memory q = rw (ready-quiet s q) (by-res (s .last .res) refl)
+clock-quiet s memory q = rw (before-cpu-quiet s q) (by-res (s .last .res) refl)
   where
     ready : State
     ready = peripheralsTo (ahead s) (passCounters (s .peripherals) (s .last .ports) (clocksOf 1))

@@ -154,7 +154,7 @@ fn cpu_from(h: HostCpu) -> Cpu
     }
 }
 
-fn due_of(h: HostDue) -> Due
+fn due_from(h: HostDue) -> Due
     ensures { λ r. ⌜ r ≡ dueFromHost h ⌝ }
 {
     Due {
@@ -163,7 +163,7 @@ fn due_of(h: HostDue) -> Due
     }
 }
 
-fn counter_b_of(h: HostCounterB) -> CounterB
+fn counter_b_from(h: HostCounterB) -> CounterB
     ensures { λ r. ⌜ r ≡ counterBFromHost h ⌝ }
 {
     CounterB {
@@ -174,7 +174,7 @@ fn counter_b_of(h: HostCounterB) -> CounterB
     }
 }
 
-fn receiver_of(h: HostReceiver) -> Receiver
+fn receiver_from(h: HostReceiver) -> Receiver
     ensures { λ r. ⌜ r ≡ receiverFromHost h ⌝ }
 {
     Receiver {
@@ -185,7 +185,7 @@ fn receiver_of(h: HostReceiver) -> Receiver
     }
 }
 
-fn levels_of(h: HostLevels) -> Levels
+fn levels_from(h: HostLevels) -> Levels
     ensures { λ r. ⌜ r ≡ levelsFromHost h ⌝ }
 {
     Levels {
@@ -195,7 +195,7 @@ fn levels_of(h: HostLevels) -> Levels
     }
 }
 
-fn peripherals_of(h: HostPeripherals) -> Peripherals
+fn peripherals_from(h: HostPeripherals) -> Peripherals
     ensures { λ r. ⌜ r ≡ peripheralsFromHost h ⌝ }
 {
     let ports = h.ports;
@@ -206,24 +206,24 @@ fn peripherals_of(h: HostPeripherals) -> Peripherals
     Peripherals {
         ports: ports,
         countera: countera,
-        counterb: counter_b_of(h.counterb),
+        counterb: counter_b_from(h.counterb),
         control: control,
         serial: serial,
         transmitter: transmitter,
-        receiver: receiver_of(h.receiver),
+        receiver: receiver_from(h.receiver),
     }
 }
 
 // The host's state as the library's.
-pub fn state_of(h: HostState) -> State
+pub fn state_from(h: HostState) -> State
     ensures { λ r. ⌜ r ≡ stateFromHost h ⌝ }
 {
     State {
         cpu: cpu_from(h.cpu),
-        due: due_of(h.due),
-        peripherals: peripherals_of(h.peripherals),
-        external: levels_of(h.external),
-        last: levels_of(h.last),
+        due: due_from(h.due),
+        peripherals: peripherals_from(h.peripherals),
+        external: levels_from(h.external),
+        last: levels_from(h.last),
         clock: h.clock,
     }
 }

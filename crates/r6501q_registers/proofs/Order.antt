@@ -9,7 +9,7 @@ use Rattle.bits.proofs.Cond.{cond-along}
 use Rattle.bits.proofs.Bits.{put-swap}
 use Rattle.counters.specs.Counters.{lowerA, upperA, lowerB, upperB, copyB}
 use Rattle.r6501q_state.specs.declared.state.Peripherals.{Peripherals}
-use Rattle.r6501q_state.specs.Copies.{withCounterA, withCounterB, withControl, withSent, flagged, statused, latchedA}
+use Rattle.r6501q_state.specs.Copies.{withCounterA, withCounterB, withControl, withSent, flagged, scsrSet, latchedA}
 use Rattle.r6501q_state.specs.Control.{modeB}
 use Rattle.r6501q_registers.specs.Copies.{latchedB, latchedC, latchedD, withIer}
 use Rattle.r6501q_registers.specs.Read.{receivedRead, afterRead}
@@ -60,7 +60,7 @@ along f p q at v r =
 
 -- flags and status made anew, each from what it was: the effect of any read is of this kind
 abbrev renewed : (ℕ → ℕ) → (ℕ → ℕ) → Peripherals → Peripherals
-renewed flags status p = statused (flagged p (flags (p .control .ifr))) (status (p .control .scsr))
+renewed flags status p = scsrSet (flagged p (flags (p .control .ifr))) (status (p .control .scsr))
 
 -- what writes do to flags and status may come before that or after it
 record Commuting (flags status : ℕ → ℕ) : Type 0 where
@@ -95,8 +95,8 @@ module _ (flags status : ℕ → ℕ) (k : Commuting flags status) where
     at-1A = start-a-order p v;
     at-19 = refl;
     at-18 = refl;
-    at-17 = ap (λ s. withSent (statused (renew p) s) v) (k .sent (p .control .scsr));
-    at-16 = ap (statused (renew p)) (k .written (p .control .scsr) (bit 5 v) (bit 4 v));
+    at-17 = ap (λ s. withSent (scsrSet (renew p) s) v) (k .sent (p .control .scsr));
+    at-16 = ap (scsrSet (renew p)) (k .written (p .control .scsr) (bit 5 v) (bit 4 v));
     at-15 = refl;
     at-14 = refl;
     at-12 = refl;
@@ -174,5 +174,5 @@ read-write-commute p a v b =
     (sym (write-order _ _ clear-b p a v))
     (cond-along write (eqb b 0x18) (flagged p (withBit 4 false (p .control .ifr))) _
     (sym (write-order _ _ clear-a p a v))
-    (cond-along write (eqb b 0x17) (statused p (receivedRead (p .control .scsr))) p
+    (cond-along write (eqb b 0x17) (scsrSet p (receivedRead (p .control .scsr))) p
     (sym (write-order _ _ clear-received p a v)) refl)))

@@ -12,7 +12,7 @@ use Rattle.counters.specs.Counters.{lowerA, upperA, lowerB, upperB, copyB}
 use Rattle.serial.proofs.Ranges.{transmitter-under-fits, receiver-under-fits}
 use Rattle.r6501q_state.specs.declared.state.Peripherals.{Peripherals}
 use Rattle.r6501q_state.specs.State.{peripheralsFit}
-use Rattle.r6501q_state.specs.Copies.{withCounterA, withCounterB, withControl, flagged, statused, latchedA}
+use Rattle.r6501q_state.specs.Copies.{withCounterA, withCounterB, withControl, flagged, scsrSet, latchedA}
 use Rattle.r6501q_state.specs.Control.{modeB}
 use Rattle.r6501q_state.proofs.Ranges.{InPeripherals, in-peripherals, fit-peripherals, flagged-in}
 use Rattle.r6501q_registers.specs.Copies.{latchedB, latchedC, latchedD, withIer}
@@ -50,7 +50,7 @@ read-fits p at e =
     (λ _. flagged-in p _ (cleared-lt 5 _ (i .ifr)) i)
     (λ _. cond-both InPeripherals (eqb at 0x18) (flagged p (withBit 4 false (p .control .ifr))) _
     (λ _. flagged-in p _ (cleared-lt 4 _ (i .ifr)) i)
-    (λ _. cond-both InPeripherals (eqb at 0x17) (statused p (receivedRead (p .control .scsr))) p
+    (λ _. cond-both InPeripherals (eqb at 0x17) (scsrSet p (receivedRead (p .control .scsr))) p
     (λ _. same-in p _ refl refl refl i) (λ _. i))))
 
 start-b-in : (p : Peripherals) (v : ℕ) → InPeripherals p → InPeripherals (startB p v)

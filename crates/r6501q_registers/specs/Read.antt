@@ -4,7 +4,7 @@ use Prim.Native.Nat.{ℕ, _/_, _%_}
 use lib.Dec.{eqb}
 use Rattle.bits.specs.Bits.{lowByte, highByte, withBit}
 use Rattle.r6501q_state.specs.declared.state.Peripherals.{Peripherals}
-use Rattle.r6501q_state.specs.Copies.{flagged, statused}
+use Rattle.r6501q_state.specs.Copies.{flagged, scsrSet}
 use Rattle.r6501q_state.specs.Control.{flagsOf}
 use Rattle.r6501q_registers.specs.Addresses.{portAAddress, portBAddress, portCAddress, portDAddress}
 use Rattle.r6501q_registers.specs.Addresses.{flagClearAddress, interruptFlagsAddress, interruptEnableAddress}
@@ -48,5 +48,5 @@ unfoldable pub afterRead : Peripherals → ℕ → Peripherals
 afterRead p at =
     cond (eqb at lowerBAddress) (flagged p (withBit 5 false (p .control .ifr)))  -- 1Ch
     (cond (eqb at lowerAAddress) (flagged p (withBit 4 false (p .control .ifr)))  -- 18h
-    (cond (eqb at serialDataAddress) (statused p (receivedRead (p .control .scsr)))  -- 17h
+    (cond (eqb at serialDataAddress) (scsrSet p (receivedRead (p .control .scsr)))  -- 17h
     p))

@@ -9,7 +9,7 @@ use Rattle.serial.specs.Receiver.{receiverWithSccr}
 use Rattle.r6501q_state.specs.declared.state.Control.{Control}
 use Rattle.r6501q_state.specs.declared.state.Peripherals.{Peripherals}
 use Rattle.r6501q_state.specs.Copies.{withCounterA, withCounterB, withControl, withSent, withProgress, flagged}
-use Rattle.r6501q_state.specs.Copies.{statused, latchedA}
+use Rattle.r6501q_state.specs.Copies.{scsrSet, latchedA}
 use Rattle.r6501q_state.specs.Control.{modeInForce, modeB}
 use Rattle.r6501q_registers.specs.Addresses.{portAAddress, portBAddress, portCAddress, portDAddress}
 use Rattle.r6501q_registers.specs.Addresses.{flagClearAddress, interruptEnableAddress, modeControlAddress}
@@ -39,11 +39,11 @@ startA p v =
 -- 17h, "writing clears SCSR6, SCSR7"; 001, 5.3, SCSR 5: cleared "upon writing a new data word into the Transmitter
 -- Data Register"
 abbrev pub writeData : Peripherals → ℕ → Peripherals
-writeData p v = withSent (statused p (withBit 7 false (withBit 6 false (withBit 5 false (p .control .scsr))))) v
+writeData p v = withSent (scsrSet p (withBit 7 false (withBit 6 false (withBit 5 false (p .control .scsr))))) v
 
 -- 16h, "bits 4, 5 can be written"
 abbrev pub writeScsr : Peripherals → ℕ → Peripherals
-writeScsr p v = statused p (withBit 5 (bit 5 v) (withBit 4 (bit 4 v) (p .control .scsr)))
+writeScsr p v = scsrSet p (withBit 5 (bit 5 v) (withBit 4 (bit 4 v) (p .control .scsr)))
 
 -- 001, 6.1.2: "The CA output is initialized high when entering the mode": pulse mode is in force and was not before
 unfoldable pub entering : Peripherals → Control → Peripherals

@@ -48,10 +48,10 @@ use Rattle.r6501q_gaps.specs.Gaps.{clocksOf, countingA, countingB, toInput, toC
 use Rattle.r6501q_gaps.specs.Gaps.{toReset}
 use Rattle.r6501q_gaps.specs.Gaps.{untilCpu, toCpu, gapOf, waitAfter, passCounters, passOf}
 use Rattle.r6501q_gaps.proofs.Same.{same-levels}
-use Rattle.r6501q_gaps.proofs.Quiet.{not-put, not-over, ready-peripherals}
+use Rattle.r6501q_gaps.proofs.Quiet.{not-put, not-over, before-cpu-peripherals}
 use Rattle.r6501q_gaps.proofs.Gaps.{no-event, no-input-next}
 use Rattle.r6501q_clock.specs.declared.Clocked.the-variants.{Done}
-use Rattle.r6501q_clock.specs.Clock.{readyOf, peripheralsClock, endedWith, finished, clockOf}
+use Rattle.r6501q_clock.specs.Clock.{beforeCpu, peripheralsClock, endedWith, finished, clockOf}
 use Rattle.r6501q_unseen.specs.Unseen.{peripheralsClocks, ticksIn, SameSeen, Unseen}
 use Rattle.r6501q_unseen.proofs.TickClocks.{peripherals-add}
 use Rattle.r6501q_unseen.proofs.Laws.{peripherals-one, none-ticks, unseen-left-b, peripherals-pass}
@@ -163,9 +163,9 @@ module _ (n : ℕ) (s : State) (clocks : List ℕ) (span : ℕ) (a : AloneSeen n
       ticked-levels n s clocks span a v (omega arith) ∙ same-levels (levelsOf s) (s .last) (not-false _ (a .change))
 
   -- steps 1 to 3
-  ticked-ready : readyOf (tickedState s v) [] ≡ tickedState s (counted v)
+  ticked-ready : beforeCpu (tickedState s v) [] ≡ tickedState s (counted v)
   ticked-ready =
-      ready-peripherals (tickedState s v) levels-last (λ e. absurd (false≢true (sym e ∙ a .res)))
+      before-cpu-peripherals (tickedState s v) levels-last (λ e. absurd (false≢true (sym e ∙ a .res)))
       ∙ rw (
         ← peripherals-one (v .work .gone .0) (s .last .ports) (s .peripherals),
         add-assoc (s .clock) (v .work .gone .0) 1,

@@ -5,9 +5,9 @@ use lib.Bits.{bitAnd}
 use lib.Dec.{eqb}
 use Rattle.bits.specs.Bits.{bit, withBit}
 use Rattle.counters.specs.Counters.{inForce}
-use Rattle.serial_format.specs.Status.{receiverFull, overrun, parityError, framingError, endOfTransmission}
-use Rattle.serial_format.specs.Status.{transmitterEmpty}
-use Rattle.serial_format.specs.Status.{underrun}
+use Rattle.serial_format.specs.ScsrBits.{receiverFull, overrun, parityError, framingError, endOfTransmission}
+use Rattle.serial_format.specs.ScsrBits.{transmitterEmpty}
+use Rattle.serial_format.specs.ScsrBits.{underrun}
 use Rattle.serial_format.specs.Format.{holdsA}
 use Rattle.r6501q_state.specs.declared.state.Control.{Control}
 

@@ -98,8 +98,8 @@ withProgress p t r = record {
 abbrev pub flagged : Peripherals → ℕ → Peripherals
 flagged p v = withControl p (withIfr (p .control) v)
 
-abbrev pub statused : Peripherals → ℕ → Peripherals
-statused p v = withControl p (withScsr (p .control) v)
+abbrev pub scsrSet : Peripherals → ℕ → Peripherals
+scsrSet p v = withControl p (withScsr (p .control) v)
 
 abbrev pub latchedA : Peripherals → ℕ → Peripherals
 latchedA p v = withPorts p (withPortA (p .ports) v)

@@ -4,13 +4,13 @@ ghost use Rattle.r6501q_state.specs.Control.{receiverFlag, transmitterFl
 use crate::state::Control;
 use counters::time::in_force;
 use serial_format::holds_counter;
-use serial_format::status::END_OF_TRANSMISSION_WEIGHT;
-use serial_format::status::FRAMING_ERROR_WEIGHT;
-use serial_format::status::OVERRUN_WEIGHT;
-use serial_format::status::PARITY_ERROR_WEIGHT;
-use serial_format::status::RECEIVER_FULL_WEIGHT;
-use serial_format::status::TRANSMITTER_EMPTY_WEIGHT;
-use serial_format::status::UNDERRUN_WEIGHT;
+use serial_format::scsr::END_OF_TRANSMISSION_WEIGHT;
+use serial_format::scsr::FRAMING_ERROR_WEIGHT;
+use serial_format::scsr::OVERRUN_WEIGHT;
+use serial_format::scsr::PARITY_ERROR_WEIGHT;
+use serial_format::scsr::RECEIVER_FULL_WEIGHT;
+use serial_format::scsr::TRANSMITTER_EMPTY_WEIGHT;
+use serial_format::scsr::UNDERRUN_WEIGHT;
 
 // IFR6.
 fn receiver_flag(scsr: u8) -> bool

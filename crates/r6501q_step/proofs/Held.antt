@@ -25,7 +25,8 @@ use Rattle.r6501q_state.specs.Control.{modeA, modeB}
 use Rattle.r6501q_state.specs.Pins.{driveA, driveD, drivenWord, levelsOf, rose, fell, edges, withEdges, resetOf}
 use Rattle.r6501q_state.specs.Pins.{sensedAt, sensed}
 use Rattle.r6501q_cpu.specs.Processor.{processorOf}
-use Rattle.r6501q_clock.specs.Clock.{withInputs, inputsSet, countA, countB, sentBy, heardBy, peripheralsClock, readyOf}
+use Rattle.r6501q_clock.specs.Clock.{withInputs, inputsSet, countA, countB, sentBy, heardBy, peripheralsClock}
+use Rattle.r6501q_clock.specs.Clock.{beforeCpu}
 use Rattle.r6501q_clock.specs.Clock.{finished}
 use Rattle.r6501q_clock.specs.Clock.{clockOf}
 use Rattle.r6501q_clock.specs.Commit.{putWrite, committed}
@@ -104,7 +105,7 @@ module _ (halt : Halt) (memory times words : List ℕ) where
   unfolding withBit setWhere flipWhere inputCount ticksOf inForce downA countsA clockA reloadB downB clockB
       transmitterAsynchronous receiverAsynchronous receiverShifting holdsA receiverClock transmitterClock modeA modeB
       driveA driveD drivenWord levelsOf rose fell edges withEdges resetOf sensedAt sensed withInputs countA countB
-      sentBy heardBy peripheralsClock readyOf finished clockOf putWrite committed processorOf plainOf putRecord
+      sentBy heardBy peripheralsClock beforeCpu finished clockOf putWrite committed processorOf plainOf putRecord
       byteWaits
   at-underflow ifr clock = rw (unwritten halt noWrites refl)
 
@@ -113,7 +114,7 @@ module _ (halt : Halt) (memory times words : List ℕ) where
   unfolding withBit setWhere flipWhere inputCount ticksOf inForce downA countsA clockA reloadB downB clockB
       transmitterAsynchronous receiverAsynchronous receiverShifting holdsA receiverClock transmitterClock modeA modeB
       driveA driveD drivenWord levelsOf rose fell edges withEdges resetOf sensedAt sensed withInputs countA countB
-      sentBy heardBy peripheralsClock readyOf finished clockOf putWrite committed processorOf plainOf putRecord
+      sentBy heardBy peripheralsClock beforeCpu finished clockOf putWrite committed processorOf plainOf putRecord
       byteWaits
   counted-down count ifr clock some = rw (some, unwritten halt noWrites refl)
 
@@ -170,7 +171,7 @@ module _ (halt : Halt) (memory times words : List ℕ) where
       receiverIdle isReset resetChanges cpuStarts putsByte eventOf withBit setWhere flipWhere inputCount ticksOf inForce
       downA countsA clockA reloadB downB clockB transmitterAsynchronous receiverAsynchronous receiverShifting holdsA
       receiverClock transmitterClock modeA modeB driveA driveD drivenWord levelsOf rose fell edges withEdges resetOf
-      sensedAt sensed withInputs countA countB sentBy heardBy peripheralsClock readyOf finished clockOf putWrite
+      sensedAt sensed withInputs countA countB sentBy heardBy peripheralsClock beforeCpu finished clockOf putWrite
       committed processorOf plainOf putRecord byteWaits
   event-at ifr clock = refl
 
@@ -179,7 +180,7 @@ module _ (halt : Halt) (memory times words : List ℕ) where
       receiverIdle isReset resetChanges cpuStarts putsByte eventOf withBit setWhere flipWhere inputCount ticksOf inForce
       downA countsA clockA reloadB downB clockB transmitterAsynchronous receiverAsynchronous receiverShifting holdsA
       receiverClock transmitterClock modeA modeB driveA driveD drivenWord levelsOf rose fell edges withEdges resetOf
-      sensedAt sensed withInputs countA countB sentBy heardBy peripheralsClock readyOf finished clockOf putWrite
+      sensedAt sensed withInputs countA countB sentBy heardBy peripheralsClock beforeCpu finished clockOf putWrite
       committed processorOf plainOf putRecord byteWaits
   event-after clock = refl
 
@@ -191,7 +192,7 @@ module _ (halt : Halt) (memory times words : List ℕ) where
       countsA
       clockA reloadB downB clockB transmitterAsynchronous receiverAsynchronous receiverShifting holdsA receiverClock
       transmitterClock modeA modeB driveA driveD drivenWord levelsOf rose fell edges withEdges resetOf sensedAt sensed
-      withInputs countA countB sentBy heardBy peripheralsClock readyOf finished clockOf putWrite committed processorOf
+      withInputs countA countB sentBy heardBy peripheralsClock beforeCpu finished clockOf putWrite committed processorOf
       plainOf putRecord byteWaits
   in-gap count clock some = omega (arith, some)
 
@@ -203,7 +204,7 @@ module _ (halt : Halt) (memory times words : List ℕ) where
   unfolding doneIn withBit setWhere flipWhere inputCount ticksOf inForce downA countsA clockA reloadB downB clockB
       transmitterAsynchronous receiverAsynchronous receiverShifting holdsA receiverClock transmitterClock modeA modeB
       driveA driveD drivenWord levelsOf rose fell edges withEdges resetOf sensedAt sensed withInputs countA countB
-      sentBy heardBy peripheralsClock readyOf finished clockOf putWrite committed processorOf plainOf putRecord
+      sentBy heardBy peripheralsClock beforeCpu finished clockOf putWrite committed processorOf plainOf putRecord
       byteWaits
   done-at count ifr clock = by-test (eqb count 0) refl
     where

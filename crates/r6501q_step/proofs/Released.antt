@@ -30,7 +30,7 @@ use Rattle.r6501q_state.specs.Control.{modeA, modeB}
 use Rattle.r6501q_state.specs.Pins.{driveA, driveD, drivenWord, levelsOf, rose, fell, edges, withEdges, resetOf}
 use Rattle.r6501q_state.specs.Pins.{sensedAt, sensed}
 use Rattle.r6501q_clock.specs.Clock.{withInputs, countA, countB, sentBy, heardBy, peripheralsClock}
-use Rattle.r6501q_clock.specs.Clock.{withPeripheralsClock, readyOf}
+use Rattle.r6501q_clock.specs.Clock.{withPeripheralsClock, beforeCpu}
 use Rattle.r6501q_clock.specs.Clock.{finished, recorded, clockOf}
 use Rattle.r6501q_clock.specs.Copies.{withExternal}
 use Rattle.r6501q_clock.specs.declared.Clocked.{Clocked}
@@ -124,12 +124,12 @@ firstClock l memory free =
 
 first-fresh : (codes memory : List ℕ) (free : Bool)
     → clockOf fresh codes memory free ≡ firstClock (withInputs freshLevels codes) memory free
-unfolding clockOf readyOf fresh sensed sensedAt withEdges resetOf levelsOf byteWaits
+unfolding clockOf beforeCpu fresh sensed sensedAt withEdges resetOf levelsOf byteWaits
 first-fresh codes memory free = refl
 
 first-old : (codes memory : List ℕ) (free : Bool)
     → clockOf released codes memory free ≡ firstClock (withInputs highLevels codes) memory free
-unfolding clockOf readyOf
+unfolding clockOf beforeCpu
 first-old codes memory free = refl
 
 clock-same : (codes codes' memory : List ℕ) (free : Bool) → withInputs freshLevels codes ≡ withInputs highLevels codes'

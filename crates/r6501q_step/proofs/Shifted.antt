@@ -36,7 +36,7 @@ use Rattle.r6501q_cpu.specs.declared.Processed.the-variants as processed
 use Rattle.r6501q_cpu.specs.Processor.{registersOf, performedIn, processedBy, irqDue, wholeInstruction, resetStart}
 use Rattle.r6501q_cpu.specs.Processor.{nmiStart, irqStart, startOf, withoutWrites, bytePut, waitedBy, processorOf}
 use Rattle.r6501q_clock.specs.declared.Clocked.the-variants.{Stopped, Done}
-use Rattle.r6501q_clock.specs.Clock.{inputsSet, readyOf, fullStop, endedWith, finished, recorded, clockOf}
+use Rattle.r6501q_clock.specs.Clock.{inputsSet, beforeCpu, fullStop, endedWith, finished, recorded, clockOf}
 use Rattle.r6501q_gaps.specs.Events.{levelsChange, underflowsA, underflowsB, resetChanges, cpuStarts, putsByte, isReset}
 use Rattle.r6501q_gaps.specs.Events.{eventOf}
 use Rattle.r6501q_gaps.specs.Gaps.{toInput, toChange, toUnderflowA, toUnderflowB, toReset, toCpu, gapOf, passOf}
@@ -54,9 +54,10 @@ module _ (k : ℕ) where
       → inputsSet (shiftedState k s) codes ≡ shiftedState k (inputsSet s codes)
   inputs-shifted s codes = let e : s .clock + k + 1 ≡ s .clock + 1 + k = omega arith in rw e
 
-  ready-shifted : (s : State) (codes : List ℕ) → readyOf (shiftedState k s) codes ≡ shiftedState k (readyOf s codes)
-  unfolding readyOf
-  ready-shifted s codes = rw (inputs-shifted s codes, sensed-shifted (inputsSet s codes))
+  before-cpu-shifted : (s : State) (codes : List ℕ)
+      → beforeCpu (shiftedState k s) codes ≡ shiftedState k (beforeCpu s codes)
+  unfolding beforeCpu
+  before-cpu-shifted s codes = rw (inputs-shifted s codes, sensed-shifted (inputsSet s codes))
 
   -- ---- step 4
 
@@ -126,8 +127,9 @@ module _ (k : ℕ) where
   outcome-shifted halt s codes memory free =
       let word = drivenWord (s .peripherals) in
       ap (λ (x : Processed). clockOutcome halt memory (recorded word free x))
-      (ap (λ (t : State). processorOf t memory) (ready-shifted s codes) ∙ processor-shifted (readyOf s codes) memory)
-      ∙ recorded-shifted halt memory word free (processorOf (readyOf s codes) memory)
+      (ap (λ (t : State). processorOf t memory) (before-cpu-shifted s codes) ∙ processor-shifted
+      (beforeCpu s codes) memory)
+      ∙ recorded-shifted halt memory word free (processorOf (beforeCpu s codes) memory)
 
   event-shifted : (halt : Halt) (s : State) (codes : List ℕ)
       → r6501q halt .event (shiftedState k s) codes ≡ r6501q halt .event s codes

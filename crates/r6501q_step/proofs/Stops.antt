@@ -24,7 +24,7 @@ use Rattle.cpu_access.specs.declared.waiting.Waiting.the-variants.{Nothing, Byt
 use Rattle.r6501q_cpu.specs.Processor.{waitedBy, wholeInstruction, opcodeAt, irqDue, startOf, processorOf}
 use Rattle.r6501q_cpu.proofs.Undefined.{undefined-opcode, defined-opcode}
 use Rattle.r6501q_clock.specs.declared.Clocked.{Clocked}
-use Rattle.r6501q_clock.specs.Clock.{haltStop, readyOf, finished, recorded, clockOf}
+use Rattle.r6501q_clock.specs.Clock.{haltStop, beforeCpu, finished, recorded, clockOf}
 use Rattle.r6501q_step.specs.R6501q.{World, clockOutcome, r6501q, plain}
 
 abbrev pub isUndefined : Decoded → Bool
@@ -102,12 +102,12 @@ by-end halt w inputs free (processed.Done n) = by-record halt w inputs n _ _ fre
 -- A plain clock stops with 6 just where its steps 1 to 3 leave such a state.
 pub stop-six : (halt : Halt) (w : World) → w .stop ≡ 0
     → eqb (plain halt w .stop) 6
-    ≡ startsUndefined (readyOf (w .state) (take (inputCountIn (r6501q halt) w) (w .inputCodes))) (w .memory)
+    ≡ startsUndefined (beforeCpu (w .state) (take (inputCountIn (r6501q halt) w) (w .inputCodes))) (w .memory)
 unfolding plainOf clockOf
 stop-six halt w running =
     let inputs = inputCountIn (r6501q halt) w in
     let free = ltb (w .written) (length (w .outputClocks)) in
-    let s = readyOf (w .state) (take inputs (w .inputCodes)) in
+    let s = beforeCpu (w .state) (take inputs (w .inputCodes)) in
     let clocked = clockOf (w .state) (take inputs (w .inputCodes)) (w .memory) free in
     ap (λ (v : World). eqb (v .stop) 6) (cond-yes (runningIn w)
     (after (r6501q halt) w inputs (clockOutcome halt (w .memory) clocked)) w (eq-eqb (w .stop) 0 running))

@@ -21,7 +21,7 @@ use Rattle.r6501q_cpu.specs.Processor.{registersOf, registerFile, performedIn, 
 use Rattle.r6501q_cpu.specs.Processor.{irqStart, startOf, processorOf}
 use Rattle.r6501q_clock.specs.declared.Clocked.{Clocked}
 use Rattle.r6501q_clock.specs.declared.Clocked.the-variants.{Stopped, Done}
-use Rattle.r6501q_clock.specs.Clock.{readyOf, recorded, clockOf}
+use Rattle.r6501q_clock.specs.Clock.{beforeCpu, recorded, clockOf}
 use Rattle.r6501q_clock.specs.Commit.{putWrite, committed}
 use Rattle.leaps.specs.World.{after, inputCountIn, runningIn, plainOf}
 use Rattle.leaps.proofs.Along.{Unaffected}
@@ -51,7 +51,7 @@ module _ (m m' : List ℕ) (same : SameAbove m m') where
   -- what a clock comes to, its writes among it
   pub clock-same : (s : State) (codes : List ℕ) (free : Bool) → clockOf s codes m' free ≡ clockOf s codes m free
   unfolding clockOf
-  clock-same s codes free = ap (recorded (drivenWord (s .peripherals)) free) (processor-same (readyOf s codes))
+  clock-same s codes free = ap (recorded (drivenWord (s .peripherals)) free) (processor-same (beforeCpu s codes))
 
 -- ---- the first 40h bytes replaced
 

@@ -9,7 +9,7 @@ use Rattle.counters.specs.Counters.{atA}
 use Rattle.serial.specs.declared.transmitter.Transmitter.{Transmitter}
 use Rattle.serial.specs.declared.receiver.Receiver.{Receiver}
 use Rattle.serial_format.specs.Format.{transmitterShifts, receiverAsynchronous}
-use Rattle.serial_format.specs.Status.{transmitterEmpty}
+use Rattle.serial_format.specs.ScsrBits.{transmitterEmpty}
 use Rattle.serial.specs.Receiver.{withLevel}
 use Rattle.r6501q_state.specs.declared.state.Control.{Control}
 use Rattle.r6501q_state.specs.declared.state.Peripherals.{Peripherals}

@@ -5,7 +5,7 @@ ghost use Prim.Native.Nat.{_-_, _≤_};
 ghost use Rattle.r6501q_unseen.specs.Ticks.{mostTicks, unseenSends, sends, sentAfter};
 use crate::receiver::MOST_TICKS;
 use serial::transmitter::Transmitter;
-use serial_format::status::TRANSMITTER_EMPTY_WEIGHT;
+use serial_format::scsr::TRANSMITTER_EMPTY_WEIGHT;
 use serial_format::transmitter_on;
 use serial_format::transmitter_shifts;
 

@@ -6,7 +6,7 @@ use Rattle.bits.specs.Bits.{bit, oneWhere, setWhere}
 use Rattle.counters.specs.declared.time.Ticks.{Ticks}
 use Rattle.serial.specs.declared.receiver.Receiver.{Receiver}
 use Rattle.serial.specs.declared.receiver.Receiving.{Receiving}
-use Rattle.serial_format.specs.Status.{receiverFull, overrun, parityError, framingError}
+use Rattle.serial_format.specs.ScsrBits.{receiverFull, overrun, parityError, framingError}
 use Rattle.serial_format.specs.Format.{receiverAsynchronous, receiverShifting, keepsReceiver, width, hasParity}
 use Rattle.serial_format.specs.Format.{parityBit, dataBits}
 
@@ -21,11 +21,11 @@ abbrev pub atSub : Receiver → ℕ → Receiver
 atSub r n = record { subinterval = n; half = r .half; left = r .left; register = r .register }
 
 -- "bits left data + parity + one stop"
-abbrev pub frameSize : ℕ → ℕ
-frameSize sccr = width sccr + oneWhere (hasParity sccr) + 1
+abbrev pub bitsAfterStart : ℕ → ℕ
+bitsAfterStart sccr = width sccr + oneWhere (hasParity sccr) + 1
 
 abbrev pub started : Receiver → ℕ → Receiver
-started r sccr = record { subinterval = 0; half = r .half; left = frameSize sccr; register = r .register }
+started r sccr = record { subinterval = 0; half = r .half; left = bitsAfterStart sccr; register = r .register }
 
 -- "With no bits left, sub-interval counts lows running, a high zeroes it; a low at 3 or more makes a start"
 unfoldable pub startDetected : Receiver → ℕ → Bool → Receiver

@@ -9,7 +9,7 @@ use Rattle.bits.specs.Lists.{bitsOf, numberOfBits}
 use Rattle.counters.specs.declared.time.Ticks.{Ticks}
 use Rattle.serial.specs.declared.transmitter.Transmitter.{Transmitter}
 use Rattle.serial.specs.declared.transmitter.Sending.{Sending}
-use Rattle.serial_format.specs.Status.{transmitterEmpty, underrun}
+use Rattle.serial_format.specs.ScsrBits.{transmitterEmpty, underrun}
 use Rattle.serial_format.specs.Format.{transmitterShifts, keepsTransmitter, frameBits, pace}
 
 -- what the transmitter sends of a byte; 02, U1, in shift-register mode: "its frame the byte alone"

@@ -3,7 +3,7 @@ ghost use mathlib.Core.Path.{_≡_};
 ghost use Prim.Native.Nat.{_-_};
 ghost use Rattle.bits.specs.Bits.{oneWhere};
 ghost use Rattle.serial_format.specs.Format.{width, hasParity};
-ghost use Rattle.serial.specs.Receiver.{idleReceiver, frameSize, startDetected, receivedByte, wrongParity};
+ghost use Rattle.serial.specs.Receiver.{idleReceiver, bitsAfterStart, startDetected, receivedByte, wrongParity};
 ghost use Rattle.serial.specs.Receiver.{scsrAfter, withLevel, keptWith, frameEnded, lookTaken, looked};
 ghost use Rattle.serial.specs.Receiver.{receiveTick, shiftedAtRise, byteEnded, receiveRise, receiverClock};
 ghost use Rattle.serial.specs.Receiver.{receiverWithSccr};
@@ -17,16 +17,16 @@ use serial_format::parity_bit;
 use serial_format::parity_size;
 use serial_format::receiver_asynchronous;
 use serial_format::receiver_shifting;
-use serial_format::status::FRAMING_ERROR;
-use serial_format::status::OVERRUN;
-use serial_format::status::PARITY_ERROR;
-use serial_format::status::RECEIVER_FULL;
-use serial_format::status::RECEIVER_FULL_WEIGHT;
+use serial_format::scsr::FRAMING_ERROR;
+use serial_format::scsr::OVERRUN;
+use serial_format::scsr::PARITY_ERROR;
+use serial_format::scsr::RECEIVER_FULL;
+use serial_format::scsr::RECEIVER_FULL_WEIGHT;
 
 // The places of stop and parity in a whole frame, by weight.
 const STOP: u16 = 1024;
 
-const PARITY: u16 = 512;
+const PARITY_PLACE: u16 = 512;
 
 // The place of the lowest bit of a byte that came at rises of PA4, by weight.
 const BYTE: u16 = 8;
@@ -60,8 +60,8 @@ pub fn idle_receiver() -> Receiver
 }
 
 // The bits of a frame after its start.
-fn frame_size(sccr: u8) -> u8
-    ensures { λ r. ⌜ r ≡ frameSize sccr ⌝ }
+fn bits_after_start(sccr: u8) -> u8
+    ensures { λ r. ⌜ r ≡ bitsAfterStart sccr ⌝ }
 {
     data_width(sccr) + parity_size(sccr) + 1
 }
@@ -87,7 +87,7 @@ fn parity_is_wrong(sccr: u8, register: u16) -> bool
     ensures { λ r. ⌜ r ≡ wrongParity sccr register ⌝ }
 {
     let right = parity_bit(sccr, byte_of(sccr, register));
-    let found = register / PARITY % 2 == 1;
+    let found = register / PARITY_PLACE % 2 == 1;
     has_parity(sccr) & (found != right)
 }
 
@@ -136,7 +136,7 @@ impl Receiver {
             return self;
         }
         self.subinterval = 0;
-        self.left = frame_size(sccr);
+        self.left = bits_after_start(sccr);
         self
     }
 

@@ -10,9 +10,9 @@ use serial_format::ends_bit;
 use serial_format::frame;
 use serial_format::frame_length;
 use serial_format::keeps_transmitter;
-use serial_format::status::TRANSMITTER_EMPTY;
-use serial_format::status::TRANSMITTER_EMPTY_WEIGHT;
-use serial_format::status::UNDERRUN;
+use serial_format::scsr::TRANSMITTER_EMPTY;
+use serial_format::scsr::TRANSMITTER_EMPTY_WEIGHT;
+use serial_format::scsr::UNDERRUN;
 use serial_format::transmitter_on;
 use serial_format::transmitter_shifts;
 

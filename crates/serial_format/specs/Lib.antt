@@ -1,2 +1,2 @@
 pub mod Format
-pub mod Status
+pub mod ScsrBits

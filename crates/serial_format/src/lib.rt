@@ -12,7 +12,7 @@ ghost use Rattle.serial_format.specs.Format.{parityBit};
 ghost use Rattle.serial_format.specs.Format.{parityAndStops, frameBits, pace};
 
 // What SCSR says: its bits.
-pub mod status;
+pub mod scsr;
 
 // The bits of SCCR, by weight.
 const TRANSMITTER_ON: u8 = 128;

@@ -5,7 +5,7 @@ use Rattle.cpu_modes.proofs.at_indexed_indirect.Tie as tie
 returns : tie.Need-returns
 returns c =
     rw (
-      ← (c .before .before .before .zero-page-indexed .ensures),
+      ← (c .before .before .before .zero-page-address .ensures),
       ← (c .before .before .zero-page-pointer .ensures),
       ← (c .place-at .ensures),
     )

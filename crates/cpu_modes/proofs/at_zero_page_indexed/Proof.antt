@@ -3,7 +3,7 @@ use Rattle.cpu_modes.proofs.at_zero_page_indexed.Statement.{statement}
 use Rattle.cpu_modes.proofs.at_zero_page_indexed.Tie as tie
 
 returns : tie.Need-returns
-returns c = rw (← (c .before .zero-page-indexed .ensures), ← (c .place-at .ensures))
+returns c = rw (← (c .before .zero-page-address .ensures), ← (c .place-at .ensures))
 
 pub at-zero-page-indexed-spec : {M : Type 1} → statement M
 at-zero-page-indexed-spec =

@@ -37,7 +37,7 @@ returns-2 c =
     (c .before .before .before .before .before .before .before .before .before .before .before .before .before .if1
     .left) in
     let state =
-    c .before .before .before .before .before .before .before .before .before .before .before .before .state-of in
+    c .before .before .before .before .before .before .before .before .before .before .before .before .state-from in
     let halt = c .before .before .before .before .before .before .before .before .halt-of in
     let run = c .before .before .before .before .before .before .before .run in (
       host-called (λ h. runOf (machine h) (at .n)) (at .n) (now (at .memory)) (now (at .inputclocks))

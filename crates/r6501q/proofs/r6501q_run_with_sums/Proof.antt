@@ -66,7 +66,7 @@ returns-3 c =
     let start : HostWorld = callStart (at .state) (now (at .memory)) (now (at .inputclocks)) (now (at .inputcodes))
     (now (at .outputclocks)) (now (at .outputwords)) in
     let library : World = callStart (c .before .before .before .before .before .before .before .before .before
-    .before .before .before .before .before .before .state-of .result) (now (at .memory)) (now (at .inputclocks))
+    .before .before .before .before .before .before .state-from .result) (now (at .memory)) (now (at .inputclocks))
     (now (at .inputcodes)) (now (at .outputclocks)) (now (at .outputwords)) in
     let told :
     c .before .before .before .before .before .before .before .before .before .before .before .before .before .before
@@ -98,7 +98,7 @@ returns-3 c =
         ← (c .before .before .before .before .before .before .before .before .before .before .before .before .before
             .before .before .before .before .flags-fit .ensures),
         ← (c .before .before .before .before .before .before .before .before .before .before .before .before .before
-            .before .before .state-of .ensures),
+            .before .before .state-from .ensures),
         ← (c .before .before .before .before .before .before .before .before .before .before .halt-of .ensures),
         ← leapt,
         c .host-result .ensures,
@@ -110,7 +110,7 @@ returns-3 c =
           ← (c .before .before .before .before .before .before .before .before .before .before .before .before
               .before .before .before .before .before .flags-fit .ensures),
           ← (c .before .before .before .before .before .before .before .before .before .before .before .before
-              .before .before .before .state-of .ensures),
+              .before .before .before .state-from .ensures),
           ← (c .before .before .before .before .before .before .before .before .before .before .halt-of .ensures),
           ← plainly,
           c .host-result .ensures,

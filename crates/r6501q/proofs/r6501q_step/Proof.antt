@@ -31,7 +31,7 @@ returns-2 c =
     (c .before .before .before .before .before .before .before .before .before .before .before .before .before .if1
     .left) in
     let state =
-    c .before .before .before .before .before .before .before .before .before .before .before .before .state-of in
+    c .before .before .before .before .before .before .before .before .before .before .before .before .state-from in
     let halt = c .before .before .before .before .before .before .before .before .halt-of in
     let step = c .before .before .before .before .before .before .before .step in
     host-called (λ h. stepOf (machine h)) 1 (now (at .memory)) (now (at .inputclocks)) (now (at .inputcodes))

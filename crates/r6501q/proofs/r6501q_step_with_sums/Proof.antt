@@ -61,7 +61,7 @@ returns-3 c =
     let start : HostWorld = callStart (at .state) (now (at .memory)) (now (at .inputclocks)) (now (at .inputcodes))
     (now (at .outputclocks)) (now (at .outputwords)) in
     let library : World = callStart (c .before .before .before .before .before .before .before .before .before
-    .before .before .before .before .before .before .state-of .result) (now (at .memory)) (now (at .inputclocks))
+    .before .before .before .before .before .before .state-from .result) (now (at .memory)) (now (at .inputclocks))
     (now (at .inputcodes)) (now (at .outputclocks)) (now (at .outputwords)) in
     let told :
     c .before .before .before .before .before .before .before .before .before .before .before .before .before .before
@@ -86,7 +86,7 @@ returns-3 c =
         ← (c .before .before .before .before .before .before .before .before .before .before .before .before .before
             .before .before .before .before .flags-fit .ensures),
         ← (c .before .before .before .before .before .before .before .before .before .before .before .before .before
-            .before .before .state-of .ensures),
+            .before .before .state-from .ensures),
         ← (c .before .before .before .before .before .before .before .before .before .before .halt-of .ensures),
         ← went,
         c .host-result .ensures,

@@ -7,7 +7,7 @@ returns c =
     rw (
       c .one-where .ensures,
       c .before .well-formed .ensures,
-      c .before .before .state-of .ensures,
+      c .before .before .state-from .ensures,
       c .before .before .before .flags-fit .ensures,
     )
 

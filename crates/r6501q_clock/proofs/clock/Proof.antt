@@ -9,7 +9,7 @@ unfolding clockOf
 returns c =
     rw (
       ← (c .before .before .before .before .before .driven-word .ensures),
-      ← (c .before .before .before .before .ready .ensures),
+      ← (c .before .before .before .before .before-cpu .ensures),
       ← (c .before .before .before .process .ensures),
       c .before .processed .given .1,
     ) refl
@@ -21,7 +21,7 @@ returns-2 c =
     ∙ rw (
       c .before .driven-word2 .ensures,
       ← (c .before .before .before .before .before .before .before .driven-word .ensures),
-      ← (c .before .before .before .before .before .before .ready .ensures),
+      ← (c .before .before .before .before .before .before .before-cpu .ensures),
       ← (c .before .before .before .before .before .process .ensures),
       c .before .before .before .processed2 .given .1,
     ) refl

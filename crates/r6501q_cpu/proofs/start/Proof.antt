@@ -33,7 +33,7 @@ returns-4 c =
     rw (
       ← (c .before .before .irq-due .ensures),
       instruction-answered,
-      ← (c .whole-instruction .ensures),
+      ← (c .answered-instruction .ensures),
       c .before .if3 .left,
       c .before .before .before .if2 .left,
       c .before .before .before .before .if1 .left,

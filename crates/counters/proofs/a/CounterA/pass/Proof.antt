@@ -6,7 +6,7 @@ use Rattle.counters.proofs.a.CounterA.pass.Tie as tie
 
 returns : tie.Need-returns
 unfolding passA
-returns c = rw (c .count-after .ensures, c .before .if1 .taken) refl
+returns c = rw (c .count-after-gap .ensures, c .before .if1 .taken) refl
 
 returns-2 : tie.Need-returns-2
 unfolding passA

@@ -22,7 +22,7 @@ returns-3 : tie.Need-returns-3
 unfolding startDetected
 returns-3 c =
     rw (
-      c .frame-size .ensures,
+      c .bits-after-start .ensures,
       le-ltb (c .before .before .before .before .args .self .subinterval) 3 (omega arith),
       c .before .before .before .if1 .left,
     ) refl

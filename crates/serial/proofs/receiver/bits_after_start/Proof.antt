@@ -2,8 +2,8 @@ use Rattle.serial_format.specs.Format.{hasParity}
 use Rattle.bits.proofs.Cond.{one-where-le}
 use native.Mathlib.Omega.{arith}
 use borrow.Author.Needs.{needs}
-use Rattle.serial.proofs.receiver.frame_size.Statement.{statement}
-use Rattle.serial.proofs.receiver.frame_size.Tie as tie
+use Rattle.serial.proofs.receiver.bits_after_start.Statement.{statement}
+use Rattle.serial.proofs.receiver.bits_after_start.Tie as tie
 
 add-result : tie.Need-add-result
 add-result c = rw (c .parity-size .ensures) (omega (arith, one-where-le (hasParity (c .before .before .args .sccr))))
@@ -11,6 +11,6 @@ add-result c = rw (c .parity-size .ensures) (omega (arith, one-where-le (hasPari
 add-result-2 : tie.Need-add-result-2
 add-result-2 c = rw (c .parity-size .ensures) (omega (arith, one-where-le (hasParity (c .before .before .args .sccr))))
 
-pub frame-size-spec : {M : Type 1} → statement M
-frame-size-spec =
+pub bits-after-start-spec : {M : Type 1} → statement M
+bits-after-start-spec =
     tie.close (tie.spec (λ c κs. search needs) (λ c κs. search needs) add-result add-result-2 (λ c. search needs))

@@ -1,10 +1,10 @@
-use Rattle.r6501q_clock.specs.Clock.{readyOf}
+use Rattle.r6501q_clock.specs.Clock.{beforeCpu}
 use borrow.Author.Needs.{needs}
-use Rattle.r6501q_clock.proofs.ready.Statement.{statement}
-use Rattle.r6501q_clock.proofs.ready.Tie as tie
+use Rattle.r6501q_clock.proofs.before_cpu.Statement.{statement}
+use Rattle.r6501q_clock.proofs.before_cpu.Tie as tie
 
 returns : tie.Need-returns
-unfolding readyOf
+unfolding beforeCpu
 returns c =
     rw (
       ← (c .before .before .before .apply-inputs .ensures),
@@ -12,7 +12,7 @@ returns c =
       ← (c .clock-peripherals .ensures),
     )
 
-pub ready-spec : {M : Type 1} → statement M
-ready-spec =
+pub before-cpu-spec : {M : Type 1} → statement M
+before-cpu-spec =
     tie.close
     (tie.spec (λ c κs. search needs) (λ c. search needs) (λ c κs. search needs) (λ c κs. search needs) returns)

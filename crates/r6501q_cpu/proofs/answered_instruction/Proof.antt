@@ -9,8 +9,8 @@ use Rattle.cpu.specs.InstructionAccesses.{undefinedStop}
 use Rattle.r6501q_cpu.specs.declared.Processed.the-variants.{Stopped}
 use Rattle.r6501q_cpu.specs.Asking.{instructionFrom, answeredInstruction}
 use Rattle.r6501q_cpu.proofs.Asks.{round-over, round-answered}
-use Rattle.r6501q_cpu.proofs.whole_instruction.Statement.{statement}
-use Rattle.r6501q_cpu.proofs.whole_instruction.Tie as tie
+use Rattle.r6501q_cpu.proofs.answered_instruction.Statement.{statement}
+use Rattle.r6501q_cpu.proofs.answered_instruction.Tie as tie
 
 abbrev Inv-loop : tie.InvT-loop
 Inv-loop s memory entries answers₀ peripherals₀ count₀ answers peripherals count =
@@ -64,8 +64,8 @@ returns-2 : tie.Need-returns-2 Inv-loop μ-loop
 unfolding instructionFrom
 returns-2 c = let none : 6 - c .before .loop .count ≡ 0 = omega arith in rw (none) at (c .before .loop .inv .2)
 
-pub whole-instruction-spec : {M : Type 1} → statement M
-whole-instruction-spec =
+pub answered-instruction-spec : {M : Type 1} → statement M
+answered-instruction-spec =
     tie.close
     (tie.spec
     Inv-loop
