@@ -178,7 +178,7 @@ fn list<T, const N: usize>(
     let file = File::open(&path).and_then(|file| if partial { whole_lines(file) } else { Ok(file.take(u64::MAX)) });
     let mut rows = Rows::plain(file.map_err(|error| failed(&path, error))?);
     match rows.next() {
-        Ok(Some((1, row))) if row.iter().eq(heading) => {}
+        Ok(Some((1, row))) if fields(row, &heading) == Ok(heading) => {}
         _ => return Err(failed(&path, format!("the first line is not `{}`", heading.join(",")))),
     }
     Ok(std::iter::from_fn(move || match rows.next() {

@@ -34,7 +34,7 @@ pub fn list_beside(line_pin: Option<Pin>, text: &str) -> Result<Vec<Input>, Stri
     let mut inputs: Vec<Input> = Vec::new();
     let mut rows = Rows::quoted(text.as_bytes());
     while let Some((number, row)) = rows.next().map_err(|error| error.to_string())? {
-        if number == 1 && row.iter().eq(HEADING) {
+        if number == 1 && fields(row, &HEADING) == Ok(HEADING) {
             continue;
         }
         let checked = parsed(row).and_then(|input| in_order(inputs.last(), input));

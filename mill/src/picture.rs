@@ -20,8 +20,8 @@ const COLOURS: [RGBColor; 7] = [
 /// The lines behind the curves.
 const GRID: RGBColor = RGBColor(0xDD, 0xDD, 0xDD);
 
-/// The font: 13 pixels, to which this size is made by the SVG back end.
-const FONT: (&str, f64) = ("sans-serif", 13.0 * 1.24);
+/// The font, of some 13 pixels: the SVG back end divides this size by 1.24.
+const FONT: (&str, u32) = ("sans-serif", 16);
 
 /// What surrounds the curves, in pixels: for numbers, labels and names.
 const LEFT: u32 = 80;
@@ -34,11 +34,11 @@ const EDGE: u32 = 10;
 const NAME: u32 = 20;
 const SAMPLE: i32 = 24;
 
-/// Pixels of a name's character, some.
+/// Pixels of a character, some.
 const CHARACTER: f64 = 7.5;
 
 /// Pixels from one number of an axis to the next, at least.
-const ACROSS: u32 = 100;
+const ACROSS: f64 = 80.0;
 const UPWARDS: u32 = 45;
 
 type Area<'a> = DrawingArea<SVGBackend<'a>, Shift>;
@@ -89,15 +89,14 @@ fn chart(area: &Area, curves: &[(String, Curve)], (from, to): (f64, f64)) -> Dra
         .x_label_area_size(BOTTOM)
         .y_label_area_size(LEFT - EDGE)
         .build_cartesian_2d(from..to, low..high)?;
-    let numbers = (columns(width) / ACROSS).max(2) as usize;
-    let decimals = decimals((to - from) / numbers as f64);
+    let (numbers, decimals) = numbers((from, to), columns(width).into());
     let steps = f64::from(height.saturating_sub(BOTTOM + 2 * EDGE) / UPWARDS).min(high - low).max(1.0);
     chart
         .configure_mesh()
         .max_light_lines(0)
         .bold_line_style(GRID)
         .label_style(FONT)
-        .x_labels(numbers)
+        .x_labels(numbers as usize)
         .x_label_formatter(&|seconds| format!("{seconds:.decimals$}"))
         .x_desc("time (s)")
         .y_labels(steps as usize)
@@ -110,9 +109,12 @@ fn chart(area: &Area, curves: &[(String, Curve)], (from, to): (f64, f64)) -> Dra
     Ok(())
 }
 
-/// The decimals that tell numbers of this distance apart.
-fn decimals(distance: f64) -> usize {
-    (-distance.log10().floor()).max(0.0) as usize
+/// How many numbers the axis of time has at most, and the decimals that tell them apart.
+fn numbers((from, to): (f64, f64), pixels: f64) -> (f64, usize) {
+    let decimals = |numbers: f64| (-((to - from) / numbers).log10().floor()).max(0.0) as usize;
+    let widest = format!("{to:.*}", decimals(pixels / ACROSS)).len() + 3;
+    let numbers = (pixels / ACROSS.max(CHARACTER * widest as f64)).floor().max(2.0);
+    (numbers, decimals(numbers))
 }
 
 /// The positions that are shown: all of the curves, and a little more.
@@ -174,7 +176,9 @@ mod tests {
 
     #[test]
     fn numbers_have_decimals_enough() {
-        assert_eq!([decimals(1_000.0), decimals(1.0), decimals(0.2), decimals(0.00001)], [0, 0, 1, 5]);
+        assert_eq!([numbers((0.0, 8.0), 640.0), numbers((0.0, 1.2), 640.0)], [(8.0, 0), (8.0, 1)]);
+        assert_eq!([numbers((0.0, 0.0001), 850.0), numbers((1e6, 1e6 + 2e-4), 850.0)], [(10.0, 5), (7.0, 5)]);
+        assert_eq!(numbers((0.0, 7_200.0), 90.0), (2.0, 0));
     }
 
     #[test]

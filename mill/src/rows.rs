@@ -1,9 +1,9 @@
 //! Lists as CSV: the rows of a text, each with its line.
-use csv::{Reader, ReaderBuilder, StringRecord, Terminator, Trim};
+use csv::{Reader, ReaderBuilder, StringRecord, Terminator};
 use std::io::{Chain, Read};
 
-/// The rows of a text, one after the other. Spaces around a field, empty lines and a byte order mark at the start are
-/// skipped; the last line may lack its end.
+/// The rows of a text, one after the other. Empty lines and a byte order mark at the start are skipped; the last line
+/// may lack its end.
 pub struct Rows<R: Read> {
     reader: Reader<Chain<R, &'static [u8]>>,
     row: StringRecord,
@@ -22,8 +22,8 @@ impl<R: Read> Rows<R> {
     }
 
     fn of(text: R, builder: &mut ReaderBuilder) -> Rows<R> {
-        // A carriage return before a line's end is a space, and counts for no line.
-        builder.has_headers(false).flexible(true).terminator(Terminator::Any(b'\n')).trim(Trim::All);
+        // A carriage return before a line's end is a space of the last field, and counts for no line.
+        builder.has_headers(false).flexible(true).terminator(Terminator::Any(b'\n'));
         Rows { reader: builder.from_reader(text.chain(b"\n")), row: StringRecord::new() }
     }
 
@@ -35,17 +35,20 @@ impl<R: Read> Rows<R> {
             }
             // A row's own position is that of the empty lines before it. Here the reader stands behind the row's end.
             let line = self.reader.position().line() - 1;
-            if self.row.iter().ne([""]) {
+            if self.row.iter().map(str::trim).ne([""]) {
                 return Ok(Some((line, &self.row)));
             }
         }
     }
 }
 
-/// A row's fields, as many as a heading has.
+/// A row's fields without the spaces around them, as many as a heading has.
 pub fn fields<'a, const N: usize>(row: &'a StringRecord, heading: &[&str; N]) -> Result<[&'a str; N], String> {
-    let fields: Vec<&str> = row.iter().collect();
-    fields.try_into().map_err(|fields: Vec<&str>| format!("`{}` is not {}", fields.join(","), heading.join(",")))
+    let mut fields = row.iter().map(str::trim);
+    if row.len() != N {
+        return Err(format!("`{}` is not {}", fields.collect::<Vec<_>>().join(","), heading.join(",")));
+    }
+    Ok(std::array::from_fn(|_| fields.next().unwrap_or_default()))
 }
 
 #[cfg(test)]
@@ -55,7 +58,7 @@ mod tests {
     fn read(mut rows: Rows<&[u8]>) -> Vec<(u64, String)> {
         let mut read = Vec::new();
         while let Some((number, row)) = rows.next().unwrap() {
-            read.push((number, row.iter().collect::<Vec<_>>().join("|")));
+            read.push((number, row.iter().map(str::trim).collect::<Vec<_>>().join("|")));
         }
         read
     }
@@ -79,7 +82,7 @@ mod tests {
 
     #[test]
     fn a_row_has_as_many_fields_as_its_heading() {
-        let row = StringRecord::from(vec!["1", "2"]);
+        let row = StringRecord::from(vec![" 1", "2\r"]);
         assert_eq!(fields(&row, &["clock", "word"]), Ok(["1", "2"]));
         assert_eq!(fields(&row, &["a", "b", "c"]), Err("`1,2` is not a,b,c".to_string()));
     }
