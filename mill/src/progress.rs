@@ -1,6 +1,7 @@
 //! The bar that a run shows on a terminal.
 use indicatif::{ProgressBar, ProgressDrawTarget, ProgressState, ProgressStyle};
 use std::fmt;
+use std::time::Duration;
 
 /// Drawings a second, at most.
 const DRAWINGS: u8 = 5;
@@ -32,20 +33,21 @@ impl Progress {
 /// A bar as wide as the terminal leaves it, and the words behind it.
 fn style(rate: u32) -> ProgressStyle {
     let words = move |state: &ProgressState, out: &mut dyn fmt::Write| {
-        let end = state.len().unwrap_or(0);
-        let _ = out.write_str(&words(state.pos(), end, f64::from(rate), state.per_sec()));
-        // a text takes all
+        let words = words(state.pos(), state.len().unwrap_or(0), f64::from(rate), state.elapsed());
+        let _ = out.write_str(&words); // a text takes all
     };
     let style = ProgressStyle::with_template("[{wide_bar}] {words}").unwrap_or_else(|_| ProgressStyle::default_bar());
     style.with_key("words", words).progress_chars("#..")
 }
 
-/// The mill's seconds; how much faster than the mill it goes, and the time left, as soon as that is known.
-fn words(clock: u64, end: u64, rate: f64, clocks_a_second: f64) -> String {
+/// The mill's seconds; how much faster than the mill it goes, and the time left, as soon as that is known. The speed is
+/// that of the whole run so far: indicatif's own, of the last few drawings, goes up and down with the chip's work.
+fn words(clock: u64, end: u64, rate: f64, taken: Duration) -> String {
     let (done, all) = (clock as f64 / rate, end as f64 / rate);
-    let speed = clocks_a_second / rate;
+    let taken = taken.as_secs_f64();
+    let speed = if taken > 0.0 { done / taken } else { 0.0 };
     let known = format!(", {speed:.1} times its speed, {:.0} s left", (all - done) / speed);
-    let known = if speed > 0.0 && speed.is_finite() { known } else { String::new() };
+    let known = if speed > 0.0 { known } else { String::new() };
     format!("{done:.1} of {all:.1} s of the mill{known}")
 }
 
@@ -55,11 +57,9 @@ mod tests {
 
     #[test]
     fn a_bar_has_seconds_speed_and_time_left() {
-        let half = words(30_000_000, 60_000_000, 1e6, 10e6);
+        let half = words(30_000_000, 60_000_000, 1e6, Duration::from_secs(3));
         assert_eq!(half, "30.0 of 60.0 s of the mill, 10.0 times its speed, 3 s left");
-        for unknown in [0.0, f64::INFINITY, f64::NAN] {
-            assert_eq!(words(0, 60_000_000, 1e6, unknown), "0.0 of 60.0 s of the mill");
-        }
-        assert_eq!(words(0, 0, 1e6, 0.0), "0.0 of 0.0 s of the mill");
+        assert_eq!(words(0, 60_000_000, 1e6, Duration::from_millis(1)), "0.0 of 60.0 s of the mill");
+        assert_eq!(words(0, 0, 1e6, Duration::ZERO), "0.0 of 0.0 s of the mill");
     }
 }
