@@ -1,6 +1,7 @@
 //! A picture of positions over time, as SVG.
 use crate::curve::Curve;
 use crate::failure::Failure;
+use plotters::coord::types::RangedCoordf64;
 use plotters::coord::Shift;
 use plotters::prelude::*;
 use plotters::style::text_anchor::{HPos, Pos, VPos};
@@ -42,6 +43,7 @@ const ACROSS: f64 = 80.0;
 const UPWARDS: u32 = 45;
 
 type Area<'a> = DrawingArea<SVGBackend<'a>, Shift>;
+type Chart<'a, 'b> = ChartContext<'a, SVGBackend<'b>, Cartesian2d<RangedCoordf64, RangedCoordf64>>;
 type Drawn = Result<(), DrawingAreaErrorKind<io::Error>>;
 
 /// The pixels that are left for curves, of a picture's width.
@@ -53,10 +55,10 @@ pub fn columns(width: u32) -> u32 {
 pub fn drawn(curves: &[(String, Curve)], time: (f64, f64), size: (u32, u32)) -> Result<String, Failure> {
     let mut svg = String::new();
     let whole = SVGBackend::with_string(&mut svg, size).into_drawing_area();
-    let names = TOP + NAME * curves.len() as u32;
+    let names = named(curves, size.1);
     let parts = whole.fill(&WHITE).and_then(|()| {
-        let (head, body) = whole.split_vertically(names);
-        legend(&head, curves)?;
+        let (head, body) = whole.split_vertically(TOP + NAME * names.len() as u32);
+        legend(&head, &names)?;
         chart(&body, curves, time)?;
         whole.present()
     });
@@ -64,22 +66,36 @@ pub fn drawn(curves: &[(String, Curve)], time: (f64, f64), size: (u32, u32)) -> 
     parts.map(|()| svg).map_err(|error| Failure::File(format!("picture: {error}")))
 }
 
-/// The names of the curves, each behind a piece of its line.
-fn legend(area: &Area, curves: &[(String, Curve)]) -> Drawn {
+/// The names of the curves with their colours. Where half of a picture's height does not hold them, the last one says
+/// how many more there are.
+fn named(curves: &[(String, Curve)], height: u32) -> Vec<(String, Option<RGBColor>)> {
+    let most = ((height / 2).saturating_sub(TOP) / NAME).max(1) as usize;
+    let colours = COLOURS.into_iter().cycle().map(Some);
+    let mut names: Vec<_> = curves.iter().map(|(name, _)| name.clone()).zip(colours).collect();
+    if names.len() > most {
+        let more = names.split_off(most - 1).len();
+        names.push((format!("{more} more"), None));
+    }
+    names
+}
+
+/// Names, each behind a piece of its curve.
+fn legend(area: &Area, names: &[(String, Option<RGBColor>)]) -> Drawn {
     let (width, _) = area.dim_in_pixel();
     let (left, font) = (LEFT as i32, TextStyle::from(FONT).pos(Pos::new(HPos::Left, VPos::Center)));
-    for ((name, _), (place, colour)) in curves.iter().zip((0..).zip(COLOURS.iter().cycle())) {
+    for (place, (name, colour)) in (0..).zip(names) {
         let y = (TOP + NAME * place + NAME / 2) as i32;
-        area.draw(&PathElement::new([(left, y), (left + SAMPLE, y)], colour.stroke_width(3)))?;
-        let name = ending(name, f64::from(width) - f64::from(LEFT + RIGHT) - f64::from(SAMPLE + 8));
+        if let Some(colour) = colour {
+            area.draw(&PathElement::new([(left, y), (left + SAMPLE, y)], colour.stroke_width(3)))?;
+        }
+        let name = ending(name, f64::from(columns(width)) - f64::from(SAMPLE + 8));
         area.draw(&Text::new(name, (left + SAMPLE + 8, y), font.clone()))?;
     }
     Ok(())
 }
 
-/// The axes with their numbers and labels, and the curves.
+/// The axes and the curves.
 fn chart(area: &Area, curves: &[(String, Curve)], (from, to): (f64, f64)) -> Drawn {
-    let (width, height) = area.dim_in_pixel();
     let (low, high) = positions(curves);
     let mut chart = ChartBuilder::on(area)
         .margin_right(RIGHT)
@@ -89,8 +105,17 @@ fn chart(area: &Area, curves: &[(String, Curve)], (from, to): (f64, f64)) -> Dra
         .x_label_area_size(BOTTOM)
         .y_label_area_size(LEFT - EDGE)
         .build_cartesian_2d(from..to, low..high)?;
-    let (numbers, decimals) = numbers((from, to), columns(width).into());
-    let steps = f64::from(height.saturating_sub(BOTTOM + 2 * EDGE) / UPWARDS).min(high - low).max(1.0);
+    axes(&mut chart, (from, to), high - low)?;
+    for ((_, curve), colour) in curves.iter().zip(COLOURS.iter().cycle()) {
+        chart.draw_series(LineSeries::new(points(curve, from), colour.mix(0.9).stroke_width(2)))?;
+    }
+    Ok(())
+}
+
+/// The axes with their numbers and labels, for a time and so many positions.
+fn axes(chart: &mut Chart, time: (f64, f64), positions: f64) -> Drawn {
+    let (width, height) = chart.plotting_area().dim_in_pixel();
+    let (numbers, decimals) = numbers(time, width.into());
     chart
         .configure_mesh()
         .max_light_lines(0)
@@ -99,14 +124,10 @@ fn chart(area: &Area, curves: &[(String, Curve)], (from, to): (f64, f64)) -> Dra
         .x_labels(numbers as usize)
         .x_label_formatter(&|seconds| format!("{seconds:.decimals$}"))
         .x_desc("time (s)")
-        .y_labels(steps as usize)
+        .y_labels(f64::from(height / UPWARDS).min(positions).max(1.0) as usize) // positions are whole numbers
         .y_label_formatter(&|position| format!("{}", position.round() as i64))
         .y_desc("position (steps)")
-        .draw()?;
-    for ((_, curve), colour) in curves.iter().zip(COLOURS.iter().cycle()) {
-        chart.draw_series(LineSeries::new(points(curve, from), colour.mix(0.9).stroke_width(2)))?;
-    }
-    Ok(())
+        .draw()
 }
 
 /// How many numbers the axis of time has at most, and the decimals that tell them apart.
@@ -179,6 +200,16 @@ mod tests {
         assert_eq!([numbers((0.0, 8.0), 640.0), numbers((0.0, 1.2), 640.0)], [(8.0, 0), (8.0, 1)]);
         assert_eq!([numbers((0.0, 0.0001), 850.0), numbers((1e6, 1e6 + 2e-4), 850.0)], [(10.0, 5), (7.0, 5)]);
         assert_eq!(numbers((0.0, 7_200.0), 90.0), (2.0, 0));
+    }
+
+    #[test]
+    fn names_leave_half_of_the_height() {
+        let curves =
+            ["a", "b", "c", "d", "e"].map(|name| (name.to_string(), Curve { start: 0, end: 1.0, columns: vec![] }));
+        let names = |height| named(&curves, height).into_iter().map(|(name, _)| name).collect::<Vec<_>>();
+        assert_eq!(names(480), ["a", "b", "c", "d", "e"]);
+        assert_eq!(names(200), ["a", "b", "c", "2 more"]);
+        assert!(drawn(&curves, (0.0, 1.0), (200, 200)).is_ok());
     }
 
     #[test]

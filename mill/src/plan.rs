@@ -1,4 +1,5 @@
 //! What a run is to do, from the command line.
+use crate::commands::clocks;
 use crate::commands::run::{Arguments, ParityBit};
 use crate::failure::Failure;
 use crate::files::{bytes, failed};
@@ -6,7 +7,7 @@ use crate::input::{list_beside, Input};
 use crate::line::Line;
 use crate::session::Sizes;
 use crate::tape::loaded;
-use crate::units::{grouped, Time, HIGHEST_TIME};
+use crate::units::{grouped, HIGHEST_TIME};
 use r6501q::{Frame, Level, Parity, Pin};
 use serde_json::{json, Value};
 use sha2::{Digest, Sha256};
@@ -107,12 +108,6 @@ impl Plan {
 
 fn milliseconds(number: u64, rate: u32) -> u64 {
     number * u64::from(rate) / 1_000
-}
-
-/// An option's time in clocks.
-fn clocks(name: &str, time: Option<Time>, rate: u32) -> Result<Option<u64>, Failure> {
-    let clocks = time.map(|time| time.clocks(rate)).transpose();
-    clocks.map_err(|words| Failure::Usage(format!("{name}: {words}")))
 }
 
 /// The line that sends a path.

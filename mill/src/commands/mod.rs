@@ -11,6 +11,7 @@ use crate::failure::{Failure, Verdict};
 use crate::files::note;
 use crate::folder::Folder;
 use crate::steps::{direction, edge, Axis, DIRECTION, STEP};
+use crate::units::Time;
 use clap::{Args, Parser, Subcommand};
 use r6501q::{Level, Pin};
 
@@ -70,6 +71,12 @@ impl AxisArguments {
     fn axis(&self) -> Result<Axis, Failure> {
         Axis::of(self.step, self.direction).map_err(Failure::Usage)
     }
+}
+
+/// An option's time in clocks.
+pub fn clocks(name: &str, time: Option<Time>, rate: u32) -> Result<Option<u64>, Failure> {
+    let clocks = time.map(|time| time.clocks(rate)).transpose();
+    clocks.map_err(|words| Failure::Usage(format!("{name}: {words}")))
 }
 
 /// Opens a run's folder; that the run was cut short, or ended by an undefined opcode, is said on standard error.

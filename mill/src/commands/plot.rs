@@ -1,5 +1,5 @@
 //! `mill plot`: the positions of runs over time, as a picture.
-use super::{opened, AxisArguments, CODES};
+use super::{clocks, opened, AxisArguments, CODES};
 use crate::curve::{Curve, Window};
 use crate::failure::{Failure, Verdict};
 use crate::files::output;
@@ -62,9 +62,7 @@ fn end(folder: &Folder) -> f64 {
 fn shown(arguments: &Arguments, folders: &[Folder]) -> Result<(f64, f64), Failure> {
     let rate = folders.first().map_or(1, |folder| folder.rate);
     let asked = |name: &str, time: Option<Time>| {
-        let clocks = time.map(|time| time.clocks(rate)).transpose();
-        let clocks = clocks.map_err(|words| Failure::Usage(format!("{name}: {words}")))?;
-        Ok(clocks.map(|clocks| clocks as f64 / f64::from(rate)))
+        clocks(name, time, rate).map(|clocks| clocks.map(|clocks| clocks as f64 / f64::from(rate)))
     };
     let longest = folders.iter().map(end).fold(0.0, f64::max);
     let from = asked("--from", arguments.from)?.unwrap_or(0.0);
@@ -72,7 +70,7 @@ fn shown(arguments: &Arguments, folders: &[Folder]) -> Result<(f64, f64), Failur
     if to - from > NEAREST * to {
         Ok((from, to))
     } else {
-        Err(Failure::Usage("--to does not come behind --from, or too near to it".to_string()))
+        Err(Failure::Usage("--to does not come behind --from, or is too near to it".to_string()))
     }
 }
 
