@@ -10,8 +10,8 @@ pub struct Rows<R: Read> {
 }
 
 impl<R: Read> Rows<R> {
-    /// Of a text that this program has written: a quote is a character as others are, and a damaged one ends with its
-    /// line.
+    /// Of a text that this program has written: a quote is a character as others are, so that a damaged row ends with
+    /// its line.
     pub fn plain(text: R) -> Rows<R> {
         Rows::of(text, ReaderBuilder::new().quoting(false))
     }
@@ -78,6 +78,8 @@ mod tests {
         let text = b"\"1\",\"2\"\n";
         assert_eq!(read(Rows::quoted(text)), [(1, "1|2".to_string())]);
         assert_eq!(read(Rows::plain(text)), [(1, "\"1\"|\"2\"".to_string())]);
+        assert_eq!(read(Rows::quoted(b"1\n\"2")), [(1, "1".to_string()), (2, "2".to_string())]);
+        // one has no end
     }
 
     #[test]

@@ -80,18 +80,18 @@ pub struct Time {
 impl Time {
     /// What is no time is said.
     pub fn parsed(text: &str) -> Result<Time, String> {
+        let wrong = || format!("`{text}` is no time, as 30us, 2ms, 1.5s, 5min, 2h, or a number of clocks");
         let (number, unit) = split(text);
         let unit = match unit {
-            "" => Some(None),
-            "us" => Some(Some((1, 1_000_000))),
-            "ms" => Some(Some((1, 1_000))),
-            "s" => Some(Some((1, 1))),
-            "min" => Some(Some((60, 1))),
-            "h" => Some(Some((3_600, 1))),
-            _ => None,
+            "" => None,
+            "us" => Some((1, 1_000_000)),
+            "ms" => Some((1, 1_000)),
+            "s" => Some((1, 1)),
+            "min" => Some((60, 1)),
+            "h" => Some((3_600, 1)),
+            _ => return Err(wrong()),
         };
-        let time = Decimal::parsed(number).zip(unit).map(|(number, unit)| Time { number, unit });
-        time.ok_or_else(|| format!("`{text}` is no time, as 30us, 2ms, 1.5s, 5min, 2h, or a number of clocks"))
+        Ok(Time { number: Decimal::parsed(number).ok_or_else(wrong)?, unit })
     }
 
     /// In clocks, to the nearest.
