@@ -1,22 +1,29 @@
 //! Why a command ends without its work done, and the exit code of each cause.
-use std::fmt;
+use thiserror::Error;
 
 /// A cause with its words: place first, then what was found.
-#[derive(Clone, PartialEq, Eq, Debug)]
+#[derive(Clone, PartialEq, Eq, Debug, Error)]
 pub enum Failure {
     /// A wrong command line.
+    #[error("{0}")]
     Usage(String),
     /// A file that cannot be read or written, or that holds something else than it should.
+    #[error("{0}")]
     File(String),
     /// A tape that the loader refuses: 8, 9 or 10.
+    #[error("{0}")]
     Tape(String),
     /// An input list that breaks its rule: 5.
+    #[error("{0}")]
     Inputs(String),
     /// A run that an undefined opcode stopped: 6.
+    #[error("{0}")]
     Opcode(String),
     /// The line and the chip's receiver do not fit together, under `--strict`.
+    #[error("{0}")]
     Line(String),
     /// A signal ended the run; what was done is there.
+    #[error("{0}")]
     Interrupted(String),
 }
 
@@ -31,20 +38,6 @@ impl Failure {
             Failure::Opcode(_) => 6,
             Failure::Line(_) => 7,
             Failure::Interrupted(_) => 130,
-        }
-    }
-}
-
-impl fmt::Display for Failure {
-    fn fmt(&self, f: &mut fmt::Formatter<'_>) -> fmt::Result {
-        match self {
-            Failure::Usage(words)
-            | Failure::File(words)
-            | Failure::Tape(words)
-            | Failure::Inputs(words)
-            | Failure::Opcode(words)
-            | Failure::Line(words)
-            | Failure::Interrupted(words) => f.write_str(words),
         }
     }
 }

@@ -3,6 +3,7 @@ use crate::failure::Failure;
 use std::fs::File;
 use std::io::{self, BufWriter, Write};
 use std::path::Path;
+use thiserror::Error;
 
 /// A failure of a file, with its name first.
 pub fn failed(path: &Path, what: impl std::fmt::Display) -> Failure {
@@ -20,8 +21,8 @@ pub fn text(path: &Path) -> Result<String, Failure> {
 }
 
 /// A new file, or an old one emptied.
-pub fn created(path: &Path) -> Result<BufWriter<File>, Failure> {
-    File::create(path).map(BufWriter::new).map_err(|error| failed(path, error))
+pub fn created(path: &Path) -> Result<File, Failure> {
+    File::create(path).map_err(|error| failed(path, error))
 }
 
 /// Writes a whole text in the place of an old one, which stays as it is until the new one is there.
@@ -37,7 +38,7 @@ pub fn replace(path: &Path, text: &str) -> Result<(), Failure> {
 pub fn output(name: Option<&str>, write: impl FnOnce(&mut dyn Write) -> Result<(), Failed>) -> Result<(), Failure> {
     let result = match name {
         Some(name) => {
-            let mut file = created(Path::new(name))?;
+            let mut file = BufWriter::new(created(Path::new(name))?);
             write(&mut file).and_then(|()| Ok(file.flush()?))
         }
         None => {
@@ -64,23 +65,19 @@ pub fn note(text: &str) {
 }
 
 /// What can fail while one file is written from others.
-#[derive(Debug)]
+#[derive(Debug, Error)]
 pub enum Failed {
     /// A file that is read.
-    Input(Failure),
+    #[error(transparent)]
+    Input(#[from] Failure),
     /// The file that is written.
-    Output(io::Error),
+    #[error(transparent)]
+    Output(#[from] io::Error),
 }
 
-impl From<Failure> for Failed {
-    fn from(failure: Failure) -> Failed {
-        Failed::Input(failure)
-    }
-}
-
-impl From<io::Error> for Failed {
-    fn from(error: io::Error) -> Failed {
-        Failed::Output(error)
+impl From<csv::Error> for Failed {
+    fn from(error: csv::Error) -> Failed {
+        Failed::Output(error.into())
     }
 }
 

@@ -2,12 +2,14 @@
 use crate::failure::Failure;
 use crate::files::{created, failed, replace, text};
 use crate::input::{in_order, parsed, Input, HEADING};
-use crate::json::{self, Json};
+use crate::rows::{fields, Rows};
 use crate::session::Sink;
 use crate::units::grouped;
+use csv::StringRecord;
 use r6501q::Number;
+use serde_json::Value;
 use std::fs::File;
-use std::io::{BufRead, BufReader, BufWriter, ErrorKind, Read, Seek, SeekFrom, Write};
+use std::io::{self, ErrorKind, Read, Seek, SeekFrom, Take};
 use std::path::{Path, PathBuf};
 
 const RECORDS: &str = "records.csv";
@@ -17,8 +19,8 @@ const SUMMARY: &str = "summary.json";
 /// Beside the files of an earlier run: why a later one was refused. While it is there, the folder is not read.
 const REFUSED: &str = "refused";
 
-/// The first line of a record list.
-const RECORDS_HEADING: &str = "clock,word";
+/// The first row of a record list.
+const RECORDS_HEADING: [&str; 2] = ["clock", "word"];
 
 /// A change of the driven word, with a clock of 64 bits.
 #[derive(Clone, Copy, PartialEq, Eq, Debug)]
@@ -30,8 +32,8 @@ pub struct Record {
 /// A folder that is being written.
 pub struct Writer {
     folder: PathBuf,
-    records: BufWriter<File>,
-    inputs: BufWriter<File>,
+    records: csv::Writer<File>,
+    inputs: csv::Writer<File>,
     /// The records written.
     pub count: u64,
     /// The last one's clock.
@@ -43,21 +45,21 @@ impl Writer {
     pub fn create(folder: &Path) -> Result<Writer, Failure> {
         std::fs::create_dir_all(folder).map_err(|error| failed(folder, error))?;
         let folder = folder.to_path_buf();
-        let headed = |name: &str, heading: &str| {
+        let headed = |name: &str, heading: &[&str]| {
             let path = folder.join(name);
-            let mut file = created(&path)?;
-            writeln!(file, "{heading}").map_err(|error| failed(&path, error))?;
-            Ok(file)
+            let mut list = csv::Writer::from_writer(created(&path)?);
+            list.write_record(heading).map_err(|error| failed(&path, error))?;
+            Ok(list)
         };
-        let (records, inputs) = (headed(RECORDS, RECORDS_HEADING)?, headed(INPUTS, HEADING)?);
+        let (records, inputs) = (headed(RECORDS, &RECORDS_HEADING)?, headed(INPUTS, &HEADING)?);
         Ok(Writer { folder, records, inputs, count: 0, last: None })
     }
 
     /// Writes the summary in the place of an earlier one, behind all records so far. No refused run's words stay.
-    pub fn summarize(&mut self, summary: &Json) -> Result<(), Failure> {
+    pub fn summarize(&mut self, summary: &Value) -> Result<(), Failure> {
         self.records.flush().map_err(|error| failed(&self.folder.join(RECORDS), error))?;
         self.inputs.flush().map_err(|error| failed(&self.folder.join(INPUTS), error))?;
-        replace(&self.folder.join(SUMMARY), &format!("{summary}\n"))?;
+        replace(&self.folder.join(SUMMARY), &format!("{summary:#}\n"))?;
         let words = self.folder.join(REFUSED);
         match std::fs::remove_file(&words) {
             Err(error) if error.kind() != ErrorKind::NotFound => Err(failed(&words, error)),
@@ -68,13 +70,14 @@ impl Writer {
 
 impl Sink for Writer {
     fn input(&mut self, input: Input) -> Result<(), Failure> {
-        writeln!(self.inputs, "{input}").map_err(|error| failed(&self.folder.join(INPUTS), error))
+        self.inputs.write_record(input.fields()).map_err(|error| failed(&self.folder.join(INPUTS), error))
     }
 
     fn record(&mut self, clock: u64, word: u32) -> Result<(), Failure> {
         self.count += 1;
         self.last = Some(clock);
-        writeln!(self.records, "{clock},{word:08X}").map_err(|error| failed(&self.folder.join(RECORDS), error))
+        let fields = [clock.to_string(), format!("{word:08X}")];
+        self.records.write_record(fields).map_err(|error| failed(&self.folder.join(RECORDS), error))
     }
 }
 
@@ -115,15 +118,13 @@ impl Folder {
             return Err(Failure::File(format!("{name}: {what}: delete {words} to read it; {}", why.trim_end())));
         }
         let file = path.join(SUMMARY);
-        let summary = json::read(&text(&file)?).map_err(|words| failed(&file, words))?;
+        let summary: Value = serde_json::from_str(&text(&file)?).map_err(|error| failed(&file, error))?;
         let missing = |field: &str| failed(&file, format!("`{field}` is missing or wrong"));
-        let rate = summary.get("options").and_then(|options| options.get("clock")).and_then(Json::count);
-        let rate = rate.and_then(|rate| u32::try_from(rate).ok()).filter(|rate| *rate > 0);
-        let rate = rate.ok_or_else(|| missing("options.clock"))?;
-        let last_clock = summary.get("last_clock").and_then(Json::count).ok_or_else(|| missing("last_clock"))?;
-        let partial = summary.get("partial") != Some(&Json::Bool(false));
-        let number = summary.get("number").and_then(Json::count);
-        let undefined = number == Some(u64::from(u8::from(Number::UndefinedOpcode)));
+        let rate = summary["options"]["clock"].as_u64().and_then(|rate| u32::try_from(rate).ok());
+        let rate = rate.filter(|rate| *rate > 0).ok_or_else(|| missing("options.clock"))?;
+        let last_clock = summary["last_clock"].as_u64().ok_or_else(|| missing("last_clock"))?;
+        let partial = summary["partial"] != false;
+        let undefined = summary["number"] == u8::from(Number::UndefinedOpcode);
         // The summary of a run that goes on, or was killed, is that of its start.
         let recorded = if partial { last_recorded(&path.join(RECORDS)) } else { None };
         Ok(Folder { path, rate, last_clock: last_clock.max(recorded.unwrap_or(0)), partial, undefined })
@@ -153,81 +154,83 @@ impl Folder {
     /// The records, in order.
     pub fn records(&self) -> Result<impl Iterator<Item = Result<Record, Failure>>, Failure> {
         let mut last = 0;
-        Ok(lines(self.path.join(RECORDS), RECORDS_HEADING, self.partial)?
-            .map(move |line| line.and_then(|line| line.parsed(|text| record(text, &mut last)))))
+        list(self.path.join(RECORDS), RECORDS_HEADING, self.partial, move |row| record(row, &mut last))
     }
 
     /// The inputs that the run read, in order.
     pub fn inputs(&self) -> Result<impl Iterator<Item = Result<Input, Failure>>, Failure> {
         let mut last: Option<Input> = None;
-        Ok(lines(self.path.join(INPUTS), HEADING, self.partial)?.map(move |line| {
-            let input = line?.parsed(|text| parsed(text).and_then(|input| in_order(last.as_ref(), input)))?;
+        list(self.path.join(INPUTS), HEADING, self.partial, move |row| {
+            let input = parsed(row).and_then(|input| in_order(last.as_ref(), input))?;
             last = Some(input);
             Ok(input)
-        }))
+        })
     }
 }
 
-/// A line of a file.
-struct Line {
+/// The rows of a list behind its heading, as a reader takes them; what is wrong is said with file and line.
+fn list<T, const N: usize>(
     path: PathBuf,
-    number: usize,
-    text: String,
-}
-
-impl Line {
-    /// What a reader makes of it; what is wrong is said with file and line.
-    fn parsed<T>(self, reader: impl FnOnce(&str) -> Result<T, String>) -> Result<T, Failure> {
-        let place = format!("{}:{}", self.path.display(), self.number);
-        reader(&self.text).map_err(|words| Failure::File(format!("{place}: {words}")))
+    heading: [&str; N],
+    partial: bool,
+    mut reader: impl FnMut(&StringRecord) -> Result<T, String>,
+) -> Result<impl Iterator<Item = Result<T, Failure>>, Failure> {
+    let file = File::open(&path).and_then(|file| if partial { whole_lines(file) } else { Ok(file.take(u64::MAX)) });
+    let mut rows = Rows::plain(file.map_err(|error| failed(&path, error))?);
+    match rows.next() {
+        Ok(Some((1, row))) if fields(row, &heading) == Ok(heading) => {}
+        _ => return Err(failed(&path, format!("the first line is not `{}`", heading.join(",")))),
     }
-}
-
-/// The lines of a file behind its heading. Where the run is not complete, a last line without its end is left out: it
-/// is half written.
-fn lines(path: PathBuf, heading: &str, partial: bool) -> Result<impl Iterator<Item = Result<Line, Failure>>, Failure> {
-    let file = File::open(&path).map_err(|error| failed(&path, error))?;
-    let mut file = BufReader::new(file);
-    let mut lines = std::iter::from_fn(move || whole_line(&mut file, partial).transpose());
-    match lines.next() {
-        Some(Ok(first)) if first == heading => {}
-        _ => return Err(failed(&path, format!("the first line is not `{heading}`"))),
-    }
-    Ok((2..).zip(lines).map(move |(number, line)| {
-        let text = line.map_err(|error| failed(&path, format!("line {number}: {error}")))?;
-        Ok(Line { path: path.clone(), number, text })
+    Ok(std::iter::from_fn(move || match rows.next() {
+        Ok(None) => None,
+        Ok(Some((number, row))) => {
+            Some(reader(row).map_err(|words| Failure::File(format!("{}:{number}: {words}", path.display()))))
+        }
+        Err(error) => Some(Err(failed(&path, error))),
     }))
 }
 
-/// The next line without its end; none behind the last one, and none for one that has no end where that is left out.
-fn whole_line(file: &mut impl BufRead, partial: bool) -> std::io::Result<Option<String>> {
-    let mut line = Vec::new();
-    file.read_until(b'\n', &mut line)?;
-    let ended = line.pop_if(|byte| *byte == b'\n').is_some();
-    if !ended && (partial || line.is_empty()) {
-        return Ok(None);
+/// The lines of a list that have their end, as it is now: what stands behind them is half written.
+fn whole_lines(mut file: File) -> io::Result<Take<File>> {
+    let length = whole_length(&mut file)?;
+    file.rewind()?;
+    Ok(file.take(length))
+}
+
+/// The bytes up to the last line's end, which is looked for from behind.
+fn whole_length(file: &mut File) -> io::Result<u64> {
+    const CHUNK: u64 = 4_096;
+    let mut end = file.metadata()?.len();
+    while end > 0 {
+        let start = end.saturating_sub(CHUNK);
+        file.seek(SeekFrom::Start(start))?;
+        let mut chunk = Vec::new();
+        file.take(end - start).read_to_end(&mut chunk)?;
+        if let Some(place) = chunk.iter().rposition(|byte| *byte == b'\n') {
+            return Ok(start + place as u64 + 1);
+        }
+        end = start;
     }
-    line.pop_if(|byte| *byte == b'\r');
-    let no_text = |error| std::io::Error::new(std::io::ErrorKind::InvalidData, error);
-    String::from_utf8(line).map(Some).map_err(no_text)
+    Ok(0)
 }
 
 /// The clock of the last whole line of a record list, if it has one.
 fn last_recorded(path: &Path) -> Option<u64> {
     const LINES: u64 = 256; // bytes that hold more than two lines
     let mut file = File::open(path).ok()?;
-    let length = file.metadata().ok()?.len();
-    file.seek(SeekFrom::Start(length.saturating_sub(LINES))).ok()?;
-    let mut end = Vec::new();
-    file.take(LINES).read_to_end(&mut end).ok()?;
-    let whole = end.iter().rposition(|byte| *byte == b'\n')?;
-    let line = end[..whole].rsplit(|byte| *byte == b'\n').next()?;
-    record(std::str::from_utf8(line).ok()?, &mut 0).ok().map(|record| record.clock)
+    let whole = whole_length(&mut file).ok()?;
+    file.seek(SeekFrom::Start(whole.saturating_sub(LINES))).ok()?;
+    let mut rows = Rows::plain(file.take(LINES.min(whole)));
+    let mut last = None;
+    while let Some((_, row)) = rows.next().ok()? {
+        last = record(row, &mut 0).ok().map(|record| record.clock);
+    }
+    last
 }
 
-/// A record as a line has it, behind one of an earlier clock.
-fn record(text: &str, last: &mut u64) -> Result<Record, String> {
-    let (clock, word) = text.split_once(',').ok_or_else(|| format!("`{text}` is not {RECORDS_HEADING}"))?;
+/// A record as a row has it, behind one of an earlier clock.
+fn record(row: &StringRecord, last: &mut u64) -> Result<Record, String> {
+    let [clock, word] = fields(row, &RECORDS_HEADING)?;
     let clock = clock.parse().map_err(|_| format!("`{clock}` is no clock"))?;
     let digits = word.len() == 8 && word.bytes().all(|byte| byte.is_ascii_hexdigit());
     let word = u32::from_str_radix(word, 16).ok().filter(|_| digits).ok_or_else(|| format!("`{word}` is no word"))?;
@@ -242,18 +245,18 @@ fn record(text: &str, last: &mut u64) -> Result<Record, String> {
 mod tests {
     use super::*;
     use r6501q::{Level, Pin};
+    use serde_json::json;
 
     fn scratch(name: &str) -> PathBuf {
         std::env::temp_dir().join(format!("mill_{}_{name}", std::process::id()))
     }
 
-    fn summary() -> Json {
+    fn summary() -> Value {
         summary_of(100, false)
     }
 
-    fn summary_of(last_clock: u32, partial: bool) -> Json {
-        let options = Json::object([("clock", 1_000_000u32.into())]);
-        Json::object([("options", options), ("last_clock", last_clock.into()), ("partial", partial.into())])
+    fn summary_of(last_clock: u32, partial: bool) -> Value {
+        json!({ "options": { "clock": 1_000_000 }, "last_clock": last_clock, "partial": partial })
     }
 
     #[test]
@@ -347,11 +350,12 @@ mod tests {
     #[test]
     fn damaged_records_are_refused() {
         let mut last = 0;
-        assert_eq!(record("10,FFFFFF55", &mut last), Ok(Record { clock: 10, word: 0xFFFF_FF55 }));
-        assert_eq!(record("10,FFFFFF55", &mut last), Err("clock 10 does not come behind 10".into()));
-        assert_eq!(record("12", &mut last), Err("`12` is not clock,word".into()));
-        assert_eq!(record("12,+FFFFF55", &mut last), Err("`+FFFFF55` is no word".into()));
-        assert_eq!(record("x,FFFFFF55", &mut last), Err("`x` is no clock".into()));
+        let mut record = |fields: &[&str]| record(&StringRecord::from(fields), &mut last);
+        assert_eq!(record(&["10", "FFFFFF55"]), Ok(Record { clock: 10, word: 0xFFFF_FF55 }));
+        assert_eq!(record(&["10", "FFFFFF55"]), Err("clock 10 does not come behind 10".into()));
+        assert_eq!(record(&["12"]), Err("`12` is not clock,word".into()));
+        assert_eq!(record(&["12", "+FFFFF55"]), Err("`+FFFFF55` is no word".into()));
+        assert_eq!(record(&["x", "FFFFFF55"]), Err("`x` is no clock".into()));
     }
 
     #[test]

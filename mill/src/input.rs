@@ -1,7 +1,8 @@
 //! Inputs: on this clock this pin gets this level. Clocks have 64 bits here.
+use crate::rows::{fields, Rows};
 use crate::units::{grouped, HIGHEST_TIME};
+use csv::StringRecord;
 use r6501q::{Level, Pin};
-use std::fmt;
 
 /// An input.
 #[derive(Clone, Copy, PartialEq, Eq, Debug)]
@@ -16,29 +17,27 @@ impl Input {
     pub fn place(&self) -> (u64, Pin) {
         (self.clock, self.pin)
     }
-}
 
-impl fmt::Display for Input {
-    fn fmt(&self, f: &mut fmt::Formatter<'_>) -> fmt::Result {
-        write!(f, "{},{},{}", self.clock, self.pin, u8::from(self.level == Level::High))
+    /// The fields of its row.
+    pub fn fields(&self) -> [String; 3] {
+        [self.clock.to_string(), self.pin.to_string(), u8::from(self.level == Level::High).to_string()]
     }
 }
 
-/// The first line of an input list.
-pub const HEADING: &str = "clock,pin,level";
+/// The first row of an input list.
+pub const HEADING: [&str; 3] = ["clock", "pin", "level"];
 
 /// The inputs of a text, a line each: `clock,pin,level`. A first line of these words, and empty lines, are skipped, and
 /// so is a byte order mark at the start. Where there is a line, its pin is not the text's. What is wrong is said with
 /// its line and number, as `LINE: what (5)`.
 pub fn list_beside(line_pin: Option<Pin>, text: &str) -> Result<Vec<Input>, String> {
-    let text = text.strip_prefix('\u{FEFF}').unwrap_or(text);
     let mut inputs: Vec<Input> = Vec::new();
-    for (number, line) in (1..).zip(text.lines()) {
-        let line = line.trim();
-        if line.is_empty() || (number == 1 && line == HEADING) {
+    let mut rows = Rows::quoted(text.as_bytes());
+    while let Some((number, row)) = rows.next().map_err(|error| error.to_string())? {
+        if number == 1 && fields(row, &HEADING) == Ok(HEADING) {
             continue;
         }
-        let checked = parsed(line).and_then(|input| in_order(inputs.last(), input));
+        let checked = parsed(row).and_then(|input| in_order(inputs.last(), input));
         let checked = checked.and_then(|input| free(line_pin, input));
         inputs.push(checked.map_err(|words| format!("{number}: {words} (5)"))?);
     }
@@ -59,12 +58,9 @@ fn free(line_pin: Option<Pin>, input: Input) -> Result<Input, String> {
     }
 }
 
-/// An input as a line has it.
-pub fn parsed(line: &str) -> Result<Input, String> {
-    let fields: Vec<&str> = line.split(',').map(str::trim).collect();
-    let [clock, pin, level] = fields[..] else {
-        return Err(format!("`{line}` is not {HEADING}"));
-    };
+/// An input as a row has it.
+pub fn parsed(row: &StringRecord) -> Result<Input, String> {
+    let [clock, pin, level] = fields(row, &HEADING)?;
     let number = clock.parse().ok().filter(|number| *number <= HIGHEST_TIME);
     let clock = number.ok_or_else(|| format!("`{clock}` is no clock"))?;
     let pin = pin.parse().map_err(|error| format!("{error}"))?;
@@ -102,9 +98,9 @@ mod tests {
     fn a_list_is_read_and_written_alike() {
         let text = "clock,pin,level\n5,PA7,0\n5,RES,1\n\n 7200000000 , PD0 , 1 \n";
         let inputs = list(text).unwrap();
-        let lines: Vec<String> = inputs.iter().map(Input::to_string).collect();
+        let lines: Vec<String> = inputs.iter().map(|input| input.fields().join(",")).collect();
         assert_eq!(lines, ["5,PA7,0", "5,RES,1", "7200000000,PD0,1"]);
-        assert_eq!((list(""), list(HEADING)), (Ok(vec![]), Ok(vec![])));
+        assert_eq!((list(""), list("clock,pin,level")), (Ok(vec![]), Ok(vec![])));
     }
 
     #[test]

@@ -1,32 +1,27 @@
-//! Ctrl-C and the wish to end: a run stops behind its piece. The only unsafe code of this program is here.
-#![allow(unsafe_code)]
+//! Ctrl-C and the wish to end: a run stops behind its piece.
+use signal_hook::consts::{SIGINT, SIGTERM};
+use signal_hook::flag;
+use std::io;
 use std::sync::atomic::{AtomicBool, Ordering};
+use std::sync::Arc;
 
-static ASKED: AtomicBool = AtomicBool::new(false);
-
-// Of Linux.
-const SIGINT: i32 = 2;
-const SIGTERM: i32 = 15;
-
-extern "C" {
-    fn signal(number: i32, handler: extern "C" fn(i32)) -> usize;
+/// Whether a signal has come that asks for the end.
+pub struct Interrupt {
+    asked: Arc<AtomicBool>,
 }
 
-extern "C" fn note(_number: i32) {
-    ASKED.store(true, Ordering::Relaxed);
-}
-
-/// From now on SIGINT and SIGTERM are noted.
-pub fn noted() {
-    for number in [SIGINT, SIGTERM] {
-        // SAFETY: the handler stores into an atomic and does nothing else, which a handler may do at any time.
-        unsafe {
-            signal(number, note);
+impl Interrupt {
+    /// From now on SIGINT and SIGTERM are noted. SIGHUP is left as it is, for runs under nohup.
+    pub fn noted() -> io::Result<Interrupt> {
+        let asked = Arc::new(AtomicBool::new(false));
+        for signal in [SIGINT, SIGTERM] {
+            flag::register(signal, Arc::clone(&asked))?;
         }
+        Ok(Interrupt { asked })
     }
-}
 
-/// Whether one has come.
-pub fn asked() -> bool {
-    ASKED.load(Ordering::Relaxed)
+    /// Whether one has come.
+    pub fn asked(&self) -> bool {
+        self.asked.load(Ordering::Relaxed)
+    }
 }

@@ -37,7 +37,7 @@ mod tests {
         let first = list("1,PA7,0\n5,PA7,1").unwrap();
         let second = list("1,RES,1\n4,PB0,0\n5,PA0,0\n9,PA0,1").unwrap();
         let merged: Vec<String> =
-            Merged::of(first.into_iter(), second.into_iter()).map(|input| input.to_string()).collect();
+            Merged::of(first.into_iter(), second.into_iter()).map(|input| input.fields().join(",")).collect();
         assert_eq!(merged, ["1,PA7,0", "1,RES,1", "4,PB0,0", "5,PA0,0", "5,PA7,1", "9,PA0,1"]);
         assert!(list(&merged.join("\n")).is_ok());
     }

@@ -1,15 +1,16 @@
 //! What a run is to do, from the command line.
-use crate::arguments::Arguments;
-use crate::digest::sha256;
+use crate::commands::clocks;
+use crate::commands::run::{Arguments, ParityBit};
 use crate::failure::Failure;
 use crate::files::{bytes, failed};
 use crate::input::{list_beside, Input};
-use crate::json::Json;
 use crate::line::Line;
 use crate::session::Sizes;
 use crate::tape::loaded;
-use crate::units::{bit_rate, grouped, rate, time, HIGHEST_TIME};
+use crate::units::{grouped, HIGHEST_TIME};
 use r6501q::{Frame, Level, Parity, Pin};
+use serde_json::{json, Value};
+use sha2::{Digest, Sha256};
 use std::path::Path;
 
 /// A file that goes into a run.
@@ -24,10 +25,9 @@ impl Source {
     }
 
     /// Its name, length and digest.
-    pub fn json(&self) -> Json {
-        let length = self.bytes.len() as u64;
-        let (name, digest) = (self.name.as_str().into(), sha256(&self.bytes).into());
-        Json::object([("file", name), ("bytes", length.into()), ("sha256", digest)])
+    pub fn json(&self) -> Value {
+        let digest = format!("{:x}", Sha256::digest(&self.bytes));
+        json!({ "file": self.name, "bytes": self.bytes.len(), "sha256": digest })
     }
 }
 
@@ -54,22 +54,22 @@ pub struct Plan {
 impl Plan {
     /// The plan that a command line gives, with its files read and checked.
     pub fn read(arguments: &Arguments) -> Result<Plan, Failure> {
-        let rate = arguments.required("--clock", rate)?;
-        let clocks = |name: &str| arguments.read(name, |text| time(text, rate));
-        let (tail, length) = (clocks("--tail")?.unwrap_or(milliseconds(200, rate)), clocks("--for")?);
-        let sizes = sizes(arguments)?;
-        let path = arguments.others().get(1).map(|name| Source::read(name)).transpose()?;
-        let line = path.as_ref().map(|path| line(arguments, rate, &path.bytes, &path.name)).transpose()?;
-        let tape = Source::read(&arguments.others()[0])?;
+        let rate = arguments.clock;
+        let tail = clocks("--tail", arguments.tail, rate)?.unwrap_or(milliseconds(200, rate));
+        let length = clocks("--for", arguments.length, rate)?;
+        let path = arguments.path.as_deref().map(Source::read).transpose()?;
+        let line = path.as_ref().zip(arguments.baud).map(|(path, baud)| line(arguments, baud, path)).transpose()?;
+        let tape = Source::read(&arguments.tape)?;
         let memory = loaded(&tape.name, &tape.bytes)?;
-        let pins = arguments.value("--inputs").map(Source::read).transpose()?;
+        let pins = arguments.inputs.as_deref().map(Source::read).transpose()?;
         let inputs = inputs(pins.as_ref(), line.is_some())?;
         let path_end = path.as_ref().zip(line).and_then(|(path, line)| line.end(path.bytes.len() as u64));
         let last_input = pins.as_ref().and_then(|_| inputs.last()).map(|input| input.clock);
         let behind = path_end.max(last_input).map(|last| last + tail);
         let missing = || Failure::Usage("--for is missing: neither a path nor an input gives an end".to_string());
         let end = length.or(behind).ok_or_else(missing)?;
-        let strict = arguments.flag("--strict");
+        let &Arguments { strict, piece, space, set_back, .. } = arguments;
+        let sizes = Sizes { piece, space, set_back };
         Ok(Plan { tape, memory, path, pins, inputs, rate, line, tail, length, path_end, end, strict, sizes })
     }
 
@@ -84,25 +84,25 @@ impl Plan {
     }
 
     /// The options, with what is used where none is given; times are clocks.
-    pub fn options(&self) -> Json {
+    pub fn options(&self) -> Value {
         let line = self.line.as_ref();
         let parity = |line: &Line| match line.frame.parity {
             None => "none",
             Some(Parity::Even) => "even",
             Some(Parity::Odd) => "odd",
         };
-        Json::object([
-            ("clock", self.rate.into()),
-            ("baud", line.map(|line| line.baud).into()),
-            ("bits", line.map(|line| u32::from(line.frame.data_bits)).into()),
-            ("parity", line.map(parity).into()),
-            ("stops", line.map(|line| line.stops).into()),
-            ("start", line.map(|line| line.start).into()),
-            ("every", line.and_then(|line| line.every).into()),
-            ("tail", self.tail.into()),
-            ("for", self.length.into()),
-            ("strict", self.strict.into()),
-        ])
+        json!({
+            "clock": self.rate,
+            "baud": line.map(|line| line.baud),
+            "bits": line.map(|line| line.frame.data_bits),
+            "parity": line.map(parity),
+            "stops": line.map(|line| line.stops),
+            "start": line.map(|line| line.start),
+            "every": line.and_then(|line| line.every),
+            "tail": self.tail,
+            "for": self.length,
+            "strict": self.strict,
+        })
     }
 }
 
@@ -110,37 +110,23 @@ fn milliseconds(number: u64, rate: u32) -> u64 {
     number * u64::from(rate) / 1_000
 }
 
-/// A whole number within limits.
-fn within(text: &str, least: u32, most: u32) -> Result<u32, String> {
-    let number = text.parse().ok().filter(|number| (least..=most).contains(number));
-    number.ok_or_else(|| format!("`{text}` is no number from {} to {}", grouped(least), grouped(most)))
-}
-
-fn sizes(arguments: &Arguments) -> Result<Sizes, Failure> {
-    let number = |name: &str, most: u32, or: u32| Ok(arguments.read(name, |text| within(text, 1, most))?.unwrap_or(or));
-    let sizes = Sizes::default();
-    Ok(Sizes {
-        piece: number("--piece", 1 << 30, sizes.piece)?,
-        space: number("--space", 1 << 24, sizes.space as u32)? as usize,
-        set_back: number("--set-back", 1 << 31, sizes.set_back)?,
-    })
-}
-
 /// The line that sends a path.
-fn line(arguments: &Arguments, rate: u32, path: &[u8], name: &str) -> Result<Line, Failure> {
-    let baud = arguments.required("--baud", bit_rate)?;
-    let data_bits = arguments.read("--bits", |text| within(text, 5, 8))?.unwrap_or(8) as u8;
-    let parity = arguments.read("--parity", parity)?.flatten();
-    let stops = arguments.read("--stops", |text| within(text, 1, 2))?.unwrap_or(2);
-    let start = arguments.read("--start", |text| time(text, rate))?.unwrap_or(milliseconds(2, rate).max(1));
-    let every = arguments.read("--every", |text| time(text, rate))?;
-    let line = Line { rate, baud, frame: Frame { data_bits, parity }, stops, start, every };
-    if let Some(words) = impossible(&line, path.len()) {
+fn line(arguments: &Arguments, baud: u32, path: &Source) -> Result<Line, Failure> {
+    let (rate, data_bits) = (arguments.clock, arguments.bits);
+    let parity = match arguments.parity {
+        ParityBit::None => None,
+        ParityBit::Even => Some(Parity::Even),
+        ParityBit::Odd => Some(Parity::Odd),
+    };
+    let start = clocks("--start", arguments.start, rate)?.unwrap_or(milliseconds(2, rate).max(1));
+    let every = clocks("--every", arguments.every, rate)?;
+    let line = Line { rate, baud, frame: Frame { data_bits, parity }, stops: arguments.stops, start, every };
+    if let Some(words) = impossible(&line, path.bytes.len()) {
         return Err(Failure::Usage(words));
     }
-    match line.too_wide(path) {
+    match line.too_wide(&path.bytes) {
         Some((place, byte)) => Err(failed(
-            Path::new(name),
+            Path::new(&path.name),
             format!("byte {place} is {byte:02X}h, which {data_bits} data bits do not hold"),
         )),
         None => Ok(line),
@@ -163,15 +149,6 @@ fn impossible(line: &Line, frames: usize) -> Option<String> {
     }
 }
 
-fn parity(text: &str) -> Result<Option<Parity>, String> {
-    match text {
-        "none" => Ok(None),
-        "even" => Ok(Some(Parity::Even)),
-        "odd" => Ok(Some(Parity::Odd)),
-        _ => Err(format!("`{text}` is none of none, even, odd")),
-    }
-}
-
 /// The pin list, and RES high on clock 1 where it does not say otherwise. PA7 is the line's, where there is one.
 fn inputs(pins: Option<&Source>, line: bool) -> Result<Vec<Input>, Failure> {
     let released = Input { clock: 1, pin: Pin::RES, level: Level::High };
@@ -189,14 +166,14 @@ fn inputs(pins: Option<&Source>, line: bool) -> Result<Vec<Input>, Failure> {
 #[cfg(test)]
 mod tests {
     use super::*;
-    use crate::commands::run::COMMAND;
+    use clap::Parser;
 
     fn plan(options: &str) -> Result<Plan, Failure> {
         let examples = concat!(env!("CARGO_MANIFEST_DIR"), "/../examples");
         let words = options.replace("TAPE", &format!("{examples}/mill.tape"));
         let words = words.replace("PATH", &format!("{examples}/mill.path"));
-        let words: Vec<String> = words.split_whitespace().map(String::from).collect();
-        Plan::read(&Arguments::sorted(&words, &COMMAND.form)?)
+        let arguments = Arguments::try_parse_from(format!("run {words} -o folder").split_whitespace());
+        Plan::read(&arguments.map_err(|error| Failure::Usage(error.to_string()))?)
     }
 
     #[test]
@@ -214,7 +191,7 @@ mod tests {
     fn res_goes_high_on_clock_1_but_where_the_list_says_otherwise() {
         let lines = |text: &str| {
             let pins = Source { name: "pins".into(), bytes: text.as_bytes().to_vec() };
-            inputs(Some(&pins), false).map(|list| list.iter().map(Input::to_string).collect::<Vec<_>>())
+            inputs(Some(&pins), false).map(|list| list.iter().map(|input| input.fields().join(",")).collect::<Vec<_>>())
         };
         assert_eq!(inputs(None, true).unwrap().len(), 1);
         assert_eq!(lines("1,PA0,0\n2,PA0,1").unwrap(), ["1,PA0,0", "1,RES,1", "2,PA0,1"]);

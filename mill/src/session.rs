@@ -14,7 +14,7 @@ pub struct Sizes {
     /// Clocks of a piece, at most; at least 1.
     pub piece: u32,
     /// Records that there is space for; at least 1.
-    pub space: usize,
+    pub space: u32,
     /// The library's clock from which on it is set back, at most 2^31.
     pub set_back: u32,
 }
@@ -57,8 +57,8 @@ impl<I: Iterator<Item = Input>> Session<I> {
             sizes,
             inputs: inputs.peekable(),
             window: Vec::new(),
-            output_clocks: vec![0; sizes.space],
-            output_words: vec![0; sizes.space],
+            output_clocks: vec![0; sizes.space as usize],
+            output_words: vec![0; sizes.space as usize],
         }
     }
 
@@ -159,7 +159,7 @@ mod tests {
 
     impl Sink for Kept {
         fn input(&mut self, input: Input) -> Result<(), Failure> {
-            self.inputs.push(input.to_string());
+            self.inputs.push(input.fields().join(","));
             Ok(())
         }
 

@@ -22,26 +22,23 @@ pub struct Step {
     pub position: i64,
 }
 
-impl Default for Axis {
-    fn default() -> Axis {
-        Axis { step: Pin::PA5, edge: Level::High, direction: Pin::PC0, up: Level::High }
-    }
-}
+/// The example's pins, as they are named.
+pub const STEP: &str = "PA5:rise";
+pub const DIRECTION: &str = "PC0:high";
 
 impl Axis {
-    /// By `PIN:rise` or `PIN:fall`, and `PIN` or `PIN:high` or `PIN:low`, which is the level for up.
-    pub fn named(step: Option<&str>, direction: Option<&str>) -> Result<Axis, String> {
-        let mut axis = Axis::default();
-        if let Some(text) = step {
-            (axis.step, axis.edge) = pin_and(text, ("rise", "fall"))?;
+    /// By the step's pin with the level that an edge goes to, and the direction's pin with its level for up.
+    pub fn of((step, edge): (Pin, Level), (direction, up): (Pin, Level)) -> Result<Axis, String> {
+        if step == direction {
+            return Err(format!("{step} is step and direction"));
         }
-        if let Some(text) = direction {
-            (axis.direction, axis.up) = pin_and(text, ("high", "low"))?;
-        }
-        if axis.step == axis.direction {
-            return Err(format!("{} is step and direction", axis.step));
-        }
-        Ok(axis)
+        Ok(Axis { step, edge, direction, up })
+    }
+
+    /// The example's.
+    #[cfg(test)]
+    pub fn example() -> Axis {
+        edge(STEP).and_then(|step| Axis::of(step, direction(DIRECTION)?)).unwrap()
     }
 
     /// The steps of a list of records, from position 0.
@@ -81,6 +78,16 @@ pub fn port_pin(name: &str) -> Result<Pin, String> {
     }
 }
 
+/// `PIN:rise` or `PIN:fall`, a step's pin and the level that an edge goes to.
+pub fn edge(text: &str) -> Result<(Pin, Level), String> {
+    pin_and(text, ("rise", "fall"))
+}
+
+/// `PIN:high` or `PIN:low`, a direction's pin and its level for up.
+pub fn direction(text: &str) -> Result<(Pin, Level), String> {
+    pin_and(text, ("high", "low"))
+}
+
 /// A pin with one of two words behind it, high for the first; without one the first counts.
 fn pin_and(text: &str, (high, low): (&str, &str)) -> Result<(Pin, Level), String> {
     let (name, word) = text.split_once(':').unwrap_or((text, high));
@@ -101,6 +108,10 @@ mod tests {
         axis.steps(records).map(|step| step.unwrap()).map(|step| (step.clock, step.position)).collect()
     }
 
+    fn named(step: &str, up: &str) -> Result<Axis, String> {
+        Axis::of(edge(step)?, direction(up)?)
+    }
+
     const LOW: u32 = !(1 << 5); // PA5
     const DOWN: u32 = !(1 << 16); // PC0
 
@@ -108,23 +119,22 @@ mod tests {
     fn rises_are_steps_and_the_direction_is_that_records() {
         let all = u32::MAX;
         let words = [(10, LOW), (20, all), (30, LOW & DOWN), (35, LOW), (40, DOWN), (50, all), (60, LOW), (70, all)];
-        assert_eq!(steps(Axis::default(), &words), [(20, 1), (40, 0), (70, 1)]);
-        let falls = Axis::named(Some("PA5:fall"), Some("PC0:low")).unwrap();
+        assert_eq!(steps(Axis::example(), &words), [(20, 1), (40, 0), (70, 1)]);
+        let falls = named("PA5:fall", "PC0:low").unwrap();
         assert_eq!(steps(falls, &words), [(10, -1), (30, 0), (60, -1)]);
     }
 
     #[test]
     fn before_the_first_record_all_is_high() {
-        assert_eq!(steps(Axis::default(), &[(10, !1)]), []);
-        assert_eq!(steps(Axis::default(), &[]), []);
+        assert_eq!(steps(Axis::example(), &[(10, !1)]), []);
+        assert_eq!(steps(Axis::example(), &[]), []);
     }
 
     #[test]
     fn pins_are_named_with_their_meaning() {
-        assert_eq!(Axis::named(None, None), Ok(Axis::default()));
-        assert_eq!(Axis::named(Some("PA5"), Some("PC0")), Ok(Axis::default()));
+        assert_eq!(named("PA5", "PC0"), Ok(Axis::example()));
         for (step, direction) in [("PA5:up", "PC0"), ("RES", "PC0"), ("PE0", "PC0"), ("PA5", "PA5"), ("", "PC0")] {
-            assert!(Axis::named(Some(step), Some(direction)).is_err(), "{step} {direction}");
+            assert!(named(step, direction).is_err(), "{step} {direction}");
         }
     }
 }

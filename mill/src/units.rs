@@ -66,22 +66,41 @@ pub fn bit_rate(text: &str) -> Result<u32, String> {
     within.ok_or_else(|| format!("`{text}` is no bit rate, 1 to {}", grouped(HIGHEST_RATE)))
 }
 
-/// A time in clocks, to the nearest: `2ms`, `1.5s`, `30us`, `5min`, `2h`, or a number of clocks.
-pub fn time(text: &str, rate: u32) -> Result<u64, String> {
-    let (number, unit) = split(text);
-    let rate = u128::from(rate);
-    let (numerator, denominator) = match unit {
-        "" => (1, 1),
-        "us" => (rate, 1_000_000),
-        "ms" => (rate, 1_000),
-        "s" => (rate, 1),
-        "min" => (60 * rate, 1),
-        "h" => (3_600 * rate, 1),
-        _ => return Err(format!("`{text}` is no time, as 30us, 2ms, 1.5s, 5min, 2h, or a number of clocks")),
-    };
-    let clocks = Decimal::parsed(number).map(|number| number.nearest(numerator, denominator));
-    let within = clocks.and_then(|clocks| u64::try_from(clocks).ok()).filter(|clocks| *clocks <= HIGHEST_TIME);
-    within.ok_or_else(|| format!("`{text}` is no time, 0 to {} clocks", grouped(HIGHEST_TIME)))
+/// What a time is, for helps.
+pub const TIMES: &str = "TIME is as 30us, 2ms, 1.5s, 5min, 2h, or a number of clocks.";
+
+/// A time as it is written: `2ms`, `1.5s`, `30us`, `5min`, `2h`, or a number of clocks.
+#[derive(Clone, Copy, PartialEq, Eq, Debug)]
+pub struct Time {
+    number: Decimal,
+    /// The unit in seconds, a fraction; none: clocks.
+    unit: Option<(u128, u128)>,
+}
+
+impl Time {
+    /// What is no time is said.
+    pub fn parsed(text: &str) -> Result<Time, String> {
+        let wrong = || format!("`{text}` is no time, as 30us, 2ms, 1.5s, 5min, 2h, or a number of clocks");
+        let (number, unit) = split(text);
+        let unit = match unit {
+            "" => None,
+            "us" => Some((1, 1_000_000)),
+            "ms" => Some((1, 1_000)),
+            "s" => Some((1, 1)),
+            "min" => Some((60, 1)),
+            "h" => Some((3_600, 1)),
+            _ => return Err(wrong()),
+        };
+        Ok(Time { number: Decimal::parsed(number).ok_or_else(wrong)?, unit })
+    }
+
+    /// In clocks, to the nearest.
+    pub fn clocks(self, rate: u32) -> Result<u64, String> {
+        let (numerator, denominator) = self.unit.map_or((1, 1), |(over, under)| (over * u128::from(rate), under));
+        let clocks = u64::try_from(self.number.nearest(numerator, denominator)).ok();
+        let within = clocks.filter(|clocks| *clocks <= HIGHEST_TIME);
+        within.ok_or_else(|| format!("a time is 0 to {} clocks", grouped(HIGHEST_TIME)))
+    }
 }
 
 /// The highest time in clocks: sums of several stay below 64 bits.
@@ -157,6 +176,7 @@ mod tests {
 
     #[test]
     fn times_are_clocks_to_the_nearest() {
+        let time = |text: &str, rate: u32| Time::parsed(text).and_then(|time| time.clocks(rate));
         assert_eq!([time("2ms", 1_000_000), time("2000", 1), time("1.5s", 2)], [Ok(2_000), Ok(2_000), Ok(3)]);
         assert_eq!([time("30us", 1_075_200), time("2h", 1_000_000)], [Ok(32), Ok(7_200_000_000)]);
         assert_eq!(time("0.5min", 1_000_000), Ok(30_000_000));

@@ -1,41 +1,44 @@
 //! `mill compare`: two runs, step by step.
-use super::{axis, opened, Command};
-use crate::arguments::{Arguments, Form};
+use super::{opened, AxisArguments, CODES};
 use crate::compare::{compared, Comparison};
 use crate::failure::{Failure, Verdict};
 use crate::files::print;
 use crate::folder::Folder;
 use crate::steps::{Axis, Step};
 use crate::units::{grouped, seconds};
+use clap::Parser;
 
-pub const COMMAND: Command = Command {
-    name: "compare",
-    usage: "mill compare DIR DIR [--clocks N] [--step PIN:rise|fall] [--direction PIN[:high|low]]
-  Compares the steps of two runs: the first that differs, steps too many or missing, the worst deviation in time and
-  place. Exit code 1 where they differ.
-  --clocks N            clocks that two steps may be apart (0)
-  --step, --direction   as for mill path",
-    form: Form {
-        valued: &["--clocks", "--step", "--direction"],
-        flags: &[],
-        needed: &["the first DIR", "the second DIR"],
-        more: 0,
-    },
-    act,
-};
+/// Compares the steps of two runs; exit code 1 where they differ.
+#[derive(Parser)]
+#[command(after_help = format!("{SAID}\n\n{CODES}"))]
+#[group(skip)]
+pub struct Arguments {
+    /// The folder of the first run
+    #[arg(value_name = "DIR")]
+    first: String,
+    /// The folder of the second run
+    #[arg(value_name = "DIR")]
+    second: String,
+    /// Clocks that two steps may be apart
+    #[arg(long, value_name = "N", default_value_t = 0)]
+    clocks: u64,
+    #[command(flatten)]
+    axis: AxisArguments,
+}
 
-fn act(arguments: &Arguments) -> Result<Verdict, Failure> {
-    let axis = axis(arguments)?;
-    let number = |text: &str| text.parse().map_err(|_| format!("`{text}` is no number of clocks"));
-    let clocks = arguments.read("--clocks", number)?.unwrap_or(0);
-    let first = Side::read(&arguments.others()[0], axis)?;
-    let second = Side::read(&arguments.others()[1], axis)?;
+const SAID: &str = "It says the first step that differs, steps too many or missing, and the worst deviation in time \
+                    and place.";
+
+pub fn act(arguments: &Arguments) -> Result<Verdict, Failure> {
+    let axis = arguments.axis.axis()?;
+    let first = Side::read(&arguments.first, axis)?;
+    let second = Side::read(&arguments.second, axis)?;
     if first.folder.rate != second.folder.rate {
         let rates = [&first, &second].map(|side| grouped(side.folder.rate));
         let words = "runs are compared at one clock rate alone";
         return Err(Failure::Usage(format!("the runs have {} and {} clocks a second: {words}", rates[0], rates[1])));
     }
-    let comparison = compared(&first.steps, &second.steps, clocks);
+    let comparison = compared(&first.steps, &second.steps, arguments.clocks);
     print(&report(&first, &second, &comparison))?;
     Ok(if comparison.first.is_none() { Verdict::Done } else { Verdict::Differs })
 }

@@ -1,29 +1,32 @@
 //! `mill latch`: counter A's latch for a bit rate (document 02, U2 and U9).
-use super::Command;
-use crate::arguments::{Arguments, Form};
+use super::CODES;
 use crate::failure::{Failure, Verdict};
 use crate::files::print;
 use crate::units::{bit_rate, hundredths, rate, tolerance};
+use clap::Parser;
 use r6501q::{latch, Latch, Number};
 
-pub const COMMAND: Command = Command {
-    name: "latch",
-    usage: "mill latch --clock RATE --baud RATE [--tolerance PERCENT]
-  The smallest value of counter A's latch that makes the bit rate, or that there is none (exit code 1).
-  --clock RATE         clocks a second, as 1MHz
-  --baud RATE          bits a second
-  --tolerance PERCENT  how far the rate made may be off, as 2% (1.5%)",
-    form: Form { valued: &["--clock", "--baud", "--tolerance"], flags: &[], needed: &[], more: 0 },
-    act,
-};
+/// The smallest value of counter A's latch that makes the bit rate, or that there is none (exit code 1).
+#[derive(Parser)]
+#[command(after_help = CODES)]
+#[group(skip)]
+pub struct Arguments {
+    /// Clocks a second, as 1MHz
+    #[arg(long, value_name = "RATE", value_parser = rate)]
+    clock: u32,
+    /// Bits a second
+    #[arg(long, value_name = "RATE", value_parser = bit_rate)]
+    baud: u32,
+    /// How far the rate made may be off, as 2%
+    #[arg(long, value_name = "PERCENT", default_value = ACCEPTABLE, value_parser = tolerance)]
+    tolerance: u32,
+}
 
-/// The error that source document 001, 6.1.5, calls acceptable: 1.5%.
-const ACCEPTABLE: u32 = 15;
+/// The error that source document 001, 6.1.5, calls acceptable.
+const ACCEPTABLE: &str = "1.5%";
 
-fn act(arguments: &Arguments) -> Result<Verdict, Failure> {
-    let clock = arguments.required("--clock", rate)?;
-    let baud = arguments.required("--baud", bit_rate)?;
-    let tolerance = arguments.read("--tolerance", tolerance)?.unwrap_or(ACCEPTABLE);
+pub fn act(arguments: &Arguments) -> Result<Verdict, Failure> {
+    let &Arguments { clock, baud, tolerance } = arguments;
     let described = |value| described(clock, baud, value);
     match latch(clock, baud, tolerance) {
         Latch::Fits(value) => print(&(described(value) + "\n")).map(|()| Verdict::Done),

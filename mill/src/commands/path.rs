@@ -1,31 +1,37 @@
 //! `mill path`: a run's steps as a table of clock, seconds and position.
-use super::{axis, opened, Command};
-use crate::arguments::{Arguments, Form};
+use super::{opened, AxisArguments, CODES};
 use crate::failure::{Failure, Verdict};
 use crate::files::output;
 use crate::units::seconds;
+use clap::Parser;
 
-pub const COMMAND: Command = Command {
-    name: "path",
-    usage: "mill path DIR [--step PIN:rise|fall] [--direction PIN[:high|low]] [-o FILE]
-  The steps of a run as CSV: clock, seconds, position.
-  --step PIN:EDGE     which edge of which pin is a step (PA5:rise)
-  --direction PIN     which pin gives the direction, and its level for up (PC0:high)
-  -o FILE             the file to write (else standard output)",
-    form: Form { valued: &["--step", "--direction", "-o"], flags: &[], needed: &["DIR"], more: 0 },
-    act,
-};
+/// The steps of a run as CSV: clock, seconds, position.
+#[derive(Parser)]
+#[command(after_help = CODES)]
+#[group(skip)]
+pub struct Arguments {
+    /// The folder of a run
+    #[arg(value_name = "DIR")]
+    folder: String,
+    #[command(flatten)]
+    axis: AxisArguments,
+    /// The file to write [default: standard output]
+    #[arg(short, value_name = "FILE")]
+    output: Option<String>,
+}
 
-fn act(arguments: &Arguments) -> Result<Verdict, Failure> {
-    let axis = axis(arguments)?;
-    let folder = opened(&arguments.others()[0])?;
-    output(arguments.value("-o"), |out| {
-        writeln!(out, "clock,seconds,position")?;
+pub fn act(arguments: &Arguments) -> Result<Verdict, Failure> {
+    let axis = arguments.axis.axis()?;
+    let folder = opened(&arguments.folder)?;
+    output(arguments.output.as_deref(), |out| {
+        let mut table = csv::Writer::from_writer(out);
+        table.write_record(["clock", "seconds", "position"])?;
         for step in axis.steps(folder.records()?) {
             let step = step?;
-            writeln!(out, "{},{},{}", step.clock, seconds(step.clock, folder.rate), step.position)?;
+            let (clock, seconds) = (step.clock.to_string(), seconds(step.clock, folder.rate));
+            table.write_record([clock, seconds, step.position.to_string()])?;
         }
-        Ok(())
+        Ok(table.flush()?)
     })?;
     Ok(Verdict::Done)
 }

@@ -1,63 +1,95 @@
 //! `mill run`: a tape with a path on the serial line, to a folder of records.
-use super::Command;
-use crate::arguments::{Arguments, Form};
+use super::CODES;
 use crate::failure::{Failure, Verdict};
 use crate::files::{note, print};
 use crate::folder::{refuse, Writer};
 use crate::input::Input;
-use crate::interrupt;
-use crate::json::Json;
+use crate::interrupt::Interrupt;
 use crate::merged::Merged;
-use crate::plan::Plan;
+use crate::plan::{Plan, Source};
 use crate::progress::Progress;
-use crate::session::Session;
+use crate::session::{Session, Sizes};
 use crate::undefined::of_65c02;
-use crate::units::{grouped, hundredths, seconds};
+use crate::units::{bit_rate, grouped, hundredths, rate, seconds, Time, TIMES};
 use crate::watch::{next_look, Watch, FAULTS};
+use clap::builder::RangedI64ValueParser;
+use clap::{value_parser, Parser, ValueEnum};
 use r6501q::Number;
+use serde_json::{json, Value};
+use std::ffi::OsString;
 use std::path::Path;
 
-pub const COMMAND: Command = Command {
-    name: "run",
-    usage: "mill run TAPE [PATH] -o DIR --clock RATE [--baud RATE] [OPTION..]
-  Sends the path's bytes on PA7, runs the tape, and writes records.csv, inputs.csv and summary.json into DIR, in the
-  place of an earlier run's. A refused run puts the file `refused` beside those: they are not read while it is there.
-  --clock RATE    clocks a second, as 1MHz
-  --baud RATE     bits a second on PA7; needed with a path
-  --bits N        data bits, 5 to 8 (8)
-  --parity P      none, even or odd (none)
-  --stops N       stop bits, 1 or 2 (2)
-  --start TIME    when the first frame begins (2ms)
-  --every TIME    from one frame's begin to the next one's (each right behind the last)
-  --tail TIME     how long to run behind the path's end and the last input (200ms)
-  --for TIME      how long to run in all, in the place of the tail
-  --inputs FILE   other inputs, CSV: clock,pin,level. RES goes high on clock 1 unless the list has it on that clock
-  --strict        exit code 7 where the line and the receiver do not fit together
-  TIME is as 30us, 2ms, 1.5s, 5min, 2h, or a number of clocks.
-  For tests, without effect on what is written: --piece CLOCKS, --space RECORDS, --set-back CLOCKS",
-    form: Form {
-        valued: &[
-            "-o",
-            "--clock",
-            "--baud",
-            "--bits",
-            "--parity",
-            "--stops",
-            "--start",
-            "--every",
-            "--tail",
-            "--for",
-            "--inputs",
-            "--piece",
-            "--space",
-            "--set-back",
-        ],
-        flags: &["--strict"],
-        needed: &["TAPE"],
-        more: 1,
-    },
-    act,
-};
+/// Sends the path's bytes on PA7, runs the tape, and writes what the chip does.
+#[derive(Parser)]
+#[command(after_help = format!("{WRITTEN}\n\n{TIMES}\n{SIZES}\n\n{CODES}"))]
+#[group(skip)]
+pub struct Arguments {
+    /// The tape to run
+    pub tape: String,
+    /// The file whose bytes are sent
+    #[arg(requires = "baud")]
+    pub path: Option<String>,
+    /// The folder to write
+    #[arg(short, value_name = "DIR")]
+    pub output: String,
+    /// Clocks a second, as 1MHz
+    #[arg(long, value_name = "RATE", value_parser = rate)]
+    pub clock: u32,
+    /// Bits a second on PA7; needed with a path
+    #[arg(long, value_name = "RATE", value_parser = bit_rate)]
+    pub baud: Option<u32>,
+    /// Data bits, 5 to 8
+    #[arg(long, value_name = "N", default_value_t = 8, value_parser = value_parser!(u8).range(5..=8))]
+    pub bits: u8,
+    /// The bit behind the data bits
+    #[arg(long, value_name = "P", value_enum, default_value_t = ParityBit::None)]
+    pub parity: ParityBit,
+    /// Stop bits, 1 or 2
+    #[arg(long, value_name = "N", default_value_t = 2, value_parser = value_parser!(u32).range(1..=2))]
+    pub stops: u32,
+    /// When the first frame begins [default: 2ms]
+    #[arg(long, value_name = "TIME", value_parser = Time::parsed)]
+    pub start: Option<Time>,
+    /// From one frame's begin to the next one's [default: each right behind the last]
+    #[arg(long, value_name = "TIME", value_parser = Time::parsed)]
+    pub every: Option<Time>,
+    /// How long to run behind the path's end and the last input [default: 200ms]
+    #[arg(long, value_name = "TIME", value_parser = Time::parsed)]
+    pub tail: Option<Time>,
+    /// How long to run in all, in the place of the tail
+    #[arg(long = "for", value_name = "TIME", value_parser = Time::parsed)]
+    pub length: Option<Time>,
+    /// Other inputs, CSV: clock,pin,level. RES goes high on clock 1 unless the list has it on that clock
+    #[arg(long, value_name = "FILE")]
+    pub inputs: Option<String>,
+    /// Exit code 7 where the line and the receiver do not fit together
+    #[arg(long)]
+    pub strict: bool,
+    #[arg(long, hide = true, default_value_t = Sizes::default().piece, value_parser = up_to(1 << 30))]
+    pub piece: u32,
+    #[arg(long, hide = true, default_value_t = Sizes::default().space, value_parser = up_to(1 << 24))]
+    pub space: u32,
+    #[arg(long, hide = true, default_value_t = Sizes::default().set_back, value_parser = up_to(1 << 31))]
+    pub set_back: u32,
+}
+
+/// A whole number from 1 on.
+fn up_to(most: i64) -> RangedI64ValueParser<u32> {
+    value_parser!(u32).range(1..=most)
+}
+
+/// The parity bit of a frame, as it is named.
+#[derive(Clone, Copy, ValueEnum)]
+pub enum ParityBit {
+    None,
+    Even,
+    Odd,
+}
+
+const WRITTEN: &str = "records.csv, inputs.csv and summary.json are written into DIR, in the place of an earlier \
+                       run's. A refused run puts the file `refused` beside those: they are not read while it is there.";
+
+const SIZES: &str = "For tests, without effect on what is written: --piece CLOCKS, --space RECORDS, --set-back CLOCKS.";
 
 /// Clocks between two looks at progress and signals, at most.
 const STRETCH: u64 = 1 << 20;
@@ -75,9 +107,9 @@ enum End {
     Interrupted,
 }
 
-fn act(arguments: &Arguments) -> Result<Verdict, Failure> {
-    let folder = arguments.required("-o", |text| Ok(text.to_string()))?;
-    let plan = Plan::read(arguments).inspect_err(|failure| refused(&folder, failure))?;
+pub fn act(arguments: &Arguments) -> Result<Verdict, Failure> {
+    let folder = arguments.output.as_str();
+    let plan = Plan::read(arguments).inspect_err(|failure| refused(folder, failure))?;
     if plan.vector() == 0 {
         note(&format!("mill: note: {} brings no reset vector, FFFCh and FFFDh are zero", plan.tape.name));
     }
@@ -87,11 +119,11 @@ fn act(arguments: &Arguments) -> Result<Verdict, Failure> {
         plan: &plan,
         session: Session::fresh(plan.memory.clone(), inputs, plan.sizes),
         watch: Watch::over(plan.line.as_ref()),
-        writer: Writer::create(Path::new(&folder)).inspect_err(|failure| refused(&folder, failure))?,
+        writer: Writer::create(Path::new(folder)).inspect_err(|failure| refused(folder, failure))?,
     };
     run.writer.summarize(&run.summary(None))?;
-    interrupt::noted();
-    let end = run.driven()?;
+    let interrupt = Interrupt::noted().map_err(|error| Failure::File(format!("signals: {error}")))?;
+    let end = run.driven(&interrupt)?;
     run.writer.summarize(&run.summary(Some(end)))?;
     run.moving(Some(end)).iter().for_each(|words| note(&format!("mill: note: {words}")));
     run.watch.warnings.iter().for_each(|words| note(&format!("mill: warning: {words}")));
@@ -104,6 +136,20 @@ pub fn refused(folder: &str, failure: &Failure) {
     refuse(Path::new(folder), failure).iter().for_each(|words| note(&format!("mill: note: {words}")));
 }
 
+/// The folder of a run among words that may be wrong otherwise.
+pub fn folder_among(words: &[OsString]) -> Option<&str> {
+    let mut words = words.iter().filter_map(|word| word.to_str()).skip(1);
+    words.next().filter(|command| *command == "run")?;
+    while let Some(word) = words.next() {
+        match word.strip_prefix("-o") {
+            Some("") => return words.next(),
+            Some(behind) => return Some(behind.strip_prefix('=').unwrap_or(behind)),
+            None => {}
+        }
+    }
+    None
+}
+
 /// A run that is under way.
 struct Run<'a, I: Iterator<Item = Input>> {
     plan: &'a Plan,
@@ -114,12 +160,12 @@ struct Run<'a, I: Iterator<Item = Input>> {
 
 impl<I: Iterator<Item = Input>> Run<'_, I> {
     /// Runs to the end, and shows how far it is.
-    fn driven(&mut self) -> Result<End, Failure> {
+    fn driven(&mut self, interrupt: &Interrupt) -> Result<End, Failure> {
         let end = self.plan.end;
         let mut begin = self.plan.path_end.and(self.plan.line).map_or(u64::MAX, |line| line.start);
-        let mut progress = Progress::to(end, self.plan.rate);
+        let progress = Progress::to(end, self.plan.rate);
         let mut number = Number::Done;
-        while self.session.now() < end && number == Number::Done && !interrupt::asked() {
+        while self.session.now() < end && number == Number::Done && !interrupt.asked() {
             progress.at(self.session.now());
             number = self.stretch(end, &mut begin)?;
         }
@@ -178,40 +224,32 @@ impl<I: Iterator<Item = Input>> Run<'_, I> {
     }
 
     /// What went in, what was asked for, and how it ended; no end: the run is under way.
-    fn summary(&self, end: Option<End>) -> Json {
-        let mut fields = vec![
-            ("version", env!("CARGO_PKG_VERSION").into()),
-            ("tape", self.plan.tape.json()),
-            ("path", self.plan.path.as_ref().map(|path| path.json()).into()),
-            ("inputs", self.plan.pins.as_ref().map(|pins| pins.json()).into()),
-            ("options", self.plan.options()),
-            ("path_end", self.plan.path_end.into()),
-        ];
-        fields.extend(self.reached(end));
-        Json::Object(fields.into_iter().map(|(name, value)| (name.to_string(), value)).collect())
-    }
-
-    /// The summary's fields of what was reached.
-    fn reached(&self, end: Option<End>) -> [(&'static str, Json); 11] {
+    fn summary(&self, end: Option<End>) -> Value {
         let number = match end {
-            Some(End::Number(number)) => Json::from(u32::from(u8::from(number))),
-            _ => Json::Null,
+            Some(End::Number(number)) => Some(u8::from(number)),
+            _ => None,
         };
         let now = self.session.now();
-        let faults = FAULTS.iter().zip(self.watch.faults).map(|(name, count)| (name.to_string(), count.into()));
-        [
-            ("partial", matches!(end, None | Some(End::Interrupted)).into()),
-            ("number", number),
-            ("words", end.map_or("running".to_string(), |end| self.words(end)).into()),
-            ("last_clock", now.into()),
-            ("seconds", seconds(now, self.plan.rate).into()),
-            ("pc", format!("{:04X}", self.session.state().cpu.pc).into()),
-            ("records", self.writer.count.into()),
-            ("frames_received", self.watch.frames.into()),
-            ("frames_with", Json::Object(faults.collect())),
-            ("warnings", Json::List(self.watch.warnings.iter().map(|words| words.as_str().into()).collect())),
-            ("notes", Json::List(self.moving(end).into_iter().map(Json::from).collect())),
-        ]
+        let faults: Value = FAULTS.map(String::from).into_iter().zip(self.watch.faults.map(Value::from)).collect();
+        json!({
+            "version": env!("CARGO_PKG_VERSION"),
+            "tape": self.plan.tape.json(),
+            "path": self.plan.path.as_ref().map(Source::json),
+            "inputs": self.plan.pins.as_ref().map(Source::json),
+            "options": self.plan.options(),
+            "path_end": self.plan.path_end,
+            "partial": matches!(end, None | Some(End::Interrupted)),
+            "number": number,
+            "words": end.map_or("running".to_string(), |end| self.words(end)),
+            "last_clock": now,
+            "seconds": seconds(now, self.plan.rate),
+            "pc": format!("{:04X}", self.session.state().cpu.pc),
+            "records": self.writer.count,
+            "frames_received": self.watch.frames,
+            "frames_with": faults,
+            "warnings": self.watch.warnings,
+            "notes": Vec::from_iter(self.moving(end)),
+        })
     }
 
     /// What was done, in a line.
@@ -242,20 +280,34 @@ mod tests {
     use crate::steps::Axis;
 
     #[test]
+    fn a_folder_is_found_among_wrong_words() {
+        let found = |line: &str| {
+            let words: Vec<OsString> = line.split_whitespace().map(OsString::from).collect();
+            folder_among(&words).map(String::from)
+        };
+        for line in ["mill run a --clok 1 -o b", "mill run a c d -o=b", "mill run -ob --clok"] {
+            assert_eq!(found(line), Some("b".to_string()), "{line}");
+        }
+        assert_eq!(
+            [found("mill run a -o"), found("mill run --o=b"), found("mill tape -o b"), found("")],
+            [const { None }; 4]
+        );
+    }
+
+    #[test]
     fn the_example_makes_the_steps_of_its_path() {
         let examples = concat!(env!("CARGO_MANIFEST_DIR"), "/../examples");
         let folder = std::env::temp_dir().join(format!("mill_{}_run", std::process::id()));
         let words = format!(
-            "{examples}/mill.tape {examples}/mill.path -o {} --clock 1MHz --baud 4800 --strict",
+            "run {examples}/mill.tape {examples}/mill.path -o {} --clock 1MHz --baud 4800 --strict",
             folder.display()
         );
-        let words: Vec<String> = words.split_whitespace().map(String::from).collect();
-        let done = Arguments::sorted(&words, &COMMAND.form).and_then(|arguments| act(&arguments));
-        assert_eq!(done, Ok(Verdict::Done));
+        let arguments = Arguments::try_parse_from(words.split_whitespace()).unwrap();
+        assert_eq!(act(&arguments), Ok(Verdict::Done));
         let written = Folder::open(folder.to_str().unwrap()).unwrap();
         assert_eq!((written.rate, written.last_clock, written.partial), (1_000_000, 208_875, false));
         let steps: Vec<i64> =
-            Axis::default().steps(written.records().unwrap()).map(|step| step.unwrap().position).collect();
+            Axis::example().steps(written.records().unwrap()).map(|step| step.unwrap().position).collect();
         let moves = (1..=10).chain((5..10).rev()).chain(6..=12);
         assert_eq!(steps, moves.collect::<Vec<i64>>());
         std::fs::remove_dir_all(folder).unwrap();

@@ -1,40 +1,43 @@
 //! `mill tape`: images of memory as a paper tape, and a tape checked.
-use super::Command;
-use crate::arguments::{Arguments, Form};
+use super::CODES;
 use crate::failure::{Failure, Verdict};
 use crate::files::{bytes, note, output, print};
 use crate::image::Images;
 use crate::tape::{loaded, written, Records};
 use crate::units::grouped;
+use clap::Parser;
 use std::path::Path;
 
-pub const COMMAND: Command = Command {
-    name: "tape",
-    usage: "mill tape IMAGE@ADDRESS.. [HEXFILE..] [-o TAPE] [--skip-zeros]
-       mill tape --check TAPE
-  Makes a paper tape of binary images, each with the hexadecimal address where it lies, and of Intel hex files; or
-  checks a tape, and names the line, the record, what is found and what is expected.
-  -o TAPE        the file to write (else standard output)
-  --skip-zeros   leave out records of zeros: a shorter tape, the same in a memory of zeros alone",
-    form: Form {
-        valued: &["-o"],
-        flags: &["--check", "--skip-zeros"],
-        needed: &["IMAGE@ADDRESS or TAPE"],
-        more: usize::MAX,
-    },
-    act,
-};
+/// Makes a paper tape of binary images and Intel hex files, or checks one.
+#[derive(PartialEq, Debug, Parser)]
+#[command(after_help = CODES, override_usage = "mill tape [--skip-zeros] [-o TAPE] <IMAGE@ADDRESS|HEXFILE>...
+       mill tape --check <TAPE>")]
+#[group(skip)]
+pub struct Arguments {
+    /// Binary images, each with the hexadecimal address where it lies, and Intel hex files; or the tape to check
+    #[arg(value_name = "IMAGE@ADDRESS|HEXFILE|TAPE", required = true)]
+    files: Vec<String>,
+    /// Check a tape: name the line, the record, what is found and what is expected
+    #[arg(long, conflicts_with_all = ["output", "skip_zeros"])]
+    check: bool,
+    /// The file to write [default: standard output]
+    #[arg(short, value_name = "TAPE")]
+    output: Option<String>,
+    /// Leave out records of zeros: a shorter tape, the same in a memory of zeros alone
+    #[arg(long)]
+    skip_zeros: bool,
+}
 
-fn act(arguments: &Arguments) -> Result<Verdict, Failure> {
-    if arguments.flag("--check") {
-        return check(arguments);
+pub fn act(arguments: &Arguments) -> Result<Verdict, Failure> {
+    if arguments.check {
+        return check(&arguments.files);
     }
     let mut images = Images::none();
-    arguments.others().iter().try_for_each(|word| images.add(word))?;
-    let which = if arguments.flag("--skip-zeros") { Records::NotZero } else { Records::Every };
+    arguments.files.iter().try_for_each(|word| images.add(word))?;
+    let which = if arguments.skip_zeros { Records::NotZero } else { Records::Every };
     let tape = written(&images.parts(), which);
     notes(&images);
-    output(arguments.value("-o"), |out| Ok(out.write_all(tape.as_bytes())?))?;
+    output(arguments.output.as_deref(), |out| Ok(out.write_all(tape.as_bytes())?))?;
     Ok(Verdict::Done)
 }
 
@@ -48,13 +51,10 @@ fn notes(images: &Images) {
     }
 }
 
-fn check(arguments: &Arguments) -> Result<Verdict, Failure> {
-    let [name] = arguments.others() else {
+fn check(files: &[String]) -> Result<Verdict, Failure> {
+    let [name] = files else {
         return Err(Failure::Usage("--check takes one tape".to_string()));
     };
-    if arguments.value("-o").is_some() || arguments.flag("--skip-zeros") {
-        return Err(Failure::Usage("--check writes no tape".to_string()));
-    }
     let tape = bytes(Path::new(name))?;
     let memory = loaded(name, &tape)?;
     let bytes = memory.iter().filter(|byte| **byte != 0).count() as u64;
@@ -68,8 +68,8 @@ mod tests {
     use super::*;
 
     fn ended(words: &[&str]) -> Result<Verdict, Failure> {
-        let words: Vec<String> = words.iter().map(|word| word.to_string()).collect();
-        Arguments::sorted(&words, &COMMAND.form).and_then(|arguments| act(&arguments))
+        let arguments = Arguments::try_parse_from(["tape"].iter().chain(words));
+        arguments.map_err(|error| Failure::Usage(error.to_string())).and_then(|arguments| act(&arguments))
     }
 
     #[test]

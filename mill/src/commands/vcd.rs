@@ -1,31 +1,40 @@
 //! `mill vcd`: a run's pins as wave forms.
-use super::{opened, Command};
-use crate::arguments::{Arguments, Form};
+use super::{opened, CODES};
 use crate::failure::{Failure, Verdict};
 use crate::files::output;
 use crate::folder::Folder;
 use crate::vcd::{changing, write};
+use clap::Parser;
 use r6501q::Pin;
 
-pub const COMMAND: Command = Command {
-    name: "vcd",
-    usage: "mill vcd DIR [--pins PIN,PIN..] [-o FILE]
-  The pins of a run as a value change dump, for a wave form viewer or sigrok. A port pin is high where the chip drives
-  it high and no input holds it low.
-  --pins PIN,PIN..    PA0 to PD7, NMI, RES (those that change)
-  -o FILE             the file to write (else standard output)",
-    form: Form { valued: &["--pins", "-o"], flags: &[], needed: &["DIR"], more: 0 },
-    act,
-};
+/// The pins of a run as a value change dump, for a wave form viewer or sigrok.
+#[derive(Parser)]
+#[command(after_help = format!("{LEVELS}\n\n{CODES}"))]
+#[group(skip)]
+pub struct Arguments {
+    /// The folder of a run
+    #[arg(value_name = "DIR")]
+    folder: String,
+    /// PA0 to PD7, NMI, RES [default: those that change]
+    #[arg(long, value_name = "PIN,PIN..", value_parser = pins)]
+    pins: Option<Pins>,
+    /// The file to write [default: standard output]
+    #[arg(short, value_name = "FILE")]
+    output: Option<String>,
+}
 
-fn act(arguments: &Arguments) -> Result<Verdict, Failure> {
-    let named = arguments.read("--pins", pins)?;
-    let folder = opened(&arguments.others()[0])?;
-    let pins = match named {
-        Some(pins) => pins,
+/// Pins in the order in which they are named. Of a list by its own name clap takes one value, not one for each pin.
+type Pins = Vec<Pin>;
+
+const LEVELS: &str = "A port pin is high where the chip drives it high and no input holds it low.";
+
+pub fn act(arguments: &Arguments) -> Result<Verdict, Failure> {
+    let folder = opened(&arguments.folder)?;
+    let pins = match &arguments.pins {
+        Some(pins) => pins.clone(),
         None => changing(folder.records()?, folder.inputs()?)?,
     };
-    output(arguments.value("-o"), |out| dump(out, &folder, &pins))?;
+    output(arguments.output.as_deref(), |out| dump(out, &folder, &pins))?;
     Ok(Verdict::Done)
 }
 
