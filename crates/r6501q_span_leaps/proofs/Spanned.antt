@@ -28,7 +28,7 @@ use Rattle.r6501q_step.specs.R6501q.{system}
 use Rattle.r6501q_step.specs.World.{worldOf}
 use Rattle.r6501q_spans.specs.Spans.{noneWaiting, continuedBy, committedBy, workBy, memoryBy}
 use Rattle.cpu_access.specs.Halt.{endsSpan}
-use Rattle.r6501q_span_reads.specs.Served.{outcomeWithin}
+use Rattle.r6501q_span_reads.specs.Steady.{outcomeWithin}
 use Rattle.r6501q_spans.specs.Spans.{nextWorking, workAfter, memoryAfter, putWork, putsWithin, workPut}
 use Rattle.r6501q_spans.specs.Spans.{memoryPut}
 use Rattle.r6501q_spans.specs.declared.Working.{Working}

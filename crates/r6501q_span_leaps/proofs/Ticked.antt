@@ -42,13 +42,13 @@ use Rattle.r6501q_step.specs.R6501q.{World, r6501q, system}
 use Rattle.r6501q_step.specs.World.{worldOf}
 use Rattle.r6501q_spans.specs.Spans.{beginWork, noneWaiting, nextWorking, workAfter}
 use Rattle.cpu_access.specs.Halt.{endsSpan}
-use Rattle.r6501q_span_reads.specs.Served.{outcomeWithin}
+use Rattle.r6501q_span_reads.specs.Steady.{outcomeWithin}
 use Rattle.r6501q_spans.specs.Spans.{memoryAfter, putWork, workPut}
 use Rattle.r6501q_spans.specs.Spans.{memoryPut, WorkedOn}
 use Rattle.r6501q_spans.specs.Ticked.{AloneSeen, tickedState}
 use Rattle.r6501q_spans.specs.declared.Working.{Working}
 use Rattle.cpu_access.proofs.Ends.{ends-neither}
-use Rattle.r6501q_span_reads.proofs.Steady.{within-done}
+use Rattle.r6501q_span_reads.proofs.SteadyReads.{within-done}
 use Rattle.r6501q_spans.proofs.Ticked.{waited, byteWaiting, ticked-left-b, ticked-no-input, ticked-clock}
 use Rattle.r6501q_spans.proofs.Ticked.{ticked-waits, tick-gap, cpu-gap, ticked-passed, ticked-none, until-start}
 use Rattle.r6501q_spans.proofs.Ticked.{instruction-there, until-put, byte-there}

@@ -1,2 +1,2 @@
-pub mod Steady
-pub mod Known
+pub mod SteadyReads
+pub mod KnownOutcomes

@@ -18,7 +18,7 @@ use Rattle.cpu_effects.specs.Effects.{pushesOf}
 use Rattle.cpu.specs.declared.Outcome.the-variants.{Done}
 use Rattle.r6501q_state.specs.declared.state.State.{State}
 use Rattle.r6501q_span_reads.specs.declared.known.Known.{Known}
-use Rattle.r6501q_span_reads.specs.Served.{outcomeWithin}
+use Rattle.r6501q_span_reads.specs.Steady.{outcomeWithin}
 
 abbrev pub knownWork : CpuRegisters → Writing → ℕ → Known
 knownWork r w n = record { known = true; worked = record { registers = r; writing = w; length = n } }

@@ -1,2 +1,2 @@
-pub mod Served
+pub mod Steady
 pub mod Known

@@ -2,7 +2,7 @@
 // reads as stays in the span.
 ghost use mathlib.Core.Path.{_≡_};
 ghost use Rattle.cpu_opcodes.specs.TableInCode.{opcodeTable};
-ghost use Rattle.r6501q_span_reads.specs.Served.{steadyAt, steadyAsk, answeredOnce, outcomeWithin};
+ghost use Rattle.r6501q_span_reads.specs.Steady.{steadyAt, steadyAsk, answeredOnce, outcomeWithin};
 ghost use Rattle.cpu.specs.declared.Outcome.the-variants.{Asked};
 use cpu::Ask;
 use cpu::Outcome;

@@ -58,12 +58,12 @@ use Rattle.r6501q_unseen.proofs.Laws.{peripherals-one, none-ticks, unseen-left-
 use Rattle.r6501q_spans.specs.declared.Working.{Working}
 use Rattle.r6501q_spans.specs.Spans.{onlyCpu, noneWaiting, putWork}
 use Rattle.cpu_access.specs.Halt.{writesRegister}
-use Rattle.r6501q_span_reads.specs.Served.{steadyAsk, steadyAnswer}
-use Rattle.r6501q_span_reads.specs.Served.{answeredOnce, outcomeWithin}
+use Rattle.r6501q_span_reads.specs.Steady.{steadyAsk, steadyAnswer}
+use Rattle.r6501q_span_reads.specs.Steady.{answeredOnce, outcomeWithin}
 use Rattle.r6501q_spans.specs.Spans.{nextWorking}
 use Rattle.r6501q_spans.specs.Ticked.{AloneSeen, tickedState}
 use Rattle.bits.proofs.Cond.{either-false}
-use Rattle.r6501q_span_reads.proofs.Steady.{isDone, steady-answer}
+use Rattle.r6501q_span_reads.proofs.SteadyReads.{isDone, steady-answer}
 
 -- ---- no write at a register's address
 

@@ -22,7 +22,7 @@ use Rattle.cpu.specs.Work.{nextWork, waitedOut}
 use Rattle.r6501q_cpu.specs.Processor.{registersOf}
 use Rattle.r6501q_gaps.specs.Gaps.{clocksOf}
 use Rattle.r6501q_clock.specs.Commit.{committed}
-use Rattle.r6501q_span_reads.specs.Served.{outcomeWithin}
+use Rattle.r6501q_span_reads.specs.Steady.{outcomeWithin}
 use Rattle.r6501q_spans.specs.declared.Working.{Working}
 
 -- RES is high, neither reset nor NMI is due, and no flag that is enabled is set; P is as the machine keeps it (01,

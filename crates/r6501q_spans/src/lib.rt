@@ -9,7 +9,7 @@ ghost use Rattle.r6501q_unseen.specs.Unseen.{Unseen};
 ghost use Rattle.r6501q_spans.specs.Spans.{onlyCpu, beginWork, noneWaiting};
 ghost use Rattle.r6501q_spans.specs.Spans.{continuedBy, committedBy, workAfter, memoryAfter, putWork, workPut};
 ghost use Rattle.r6501q_spans.specs.Spans.{memoryPut, WorkedOn, workBy, memoryBy, nextWorking};
-ghost use Rattle.r6501q_span_reads.specs.Served.{outcomeWithin};
+ghost use Rattle.r6501q_span_reads.specs.Steady.{outcomeWithin};
 ghost use Rattle.r6501q_spans.specs.Ticked.{AloneSeen, tickedState};
 use counters::time::Clocks;
 use cpu::Outcome;

@@ -26,7 +26,7 @@ returns c =
     let at = root .args in
     let decodes = ap decodeOf
     (root .pre .1 .1 ∙ c .before .before .before .before .before .before .before .match .keys1) ∙ opcode-20 in
-    let put = c .before .before .before .before .call .ensures in (
+    let put = c .before .before .before .before .jsr .ensures in (
       rw (put .0, put .1 .0, c .before .before .before .before .before .before .before .before .next-address .ensures)
           (jsr-tries (at .halt) (at .span .0) (at .w) (now (at .memory)) (root .pre .0 .0) (root .pre .1 .0) 6
           decodes),

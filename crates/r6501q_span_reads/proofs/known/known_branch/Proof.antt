@@ -4,7 +4,7 @@ use native.Mathlib.Omega.{arith}
 use borrow.Author.Tests.{not-false}
 use Rattle.bits.proofs.Cond.{one-where-le}
 use Rattle.cpu_effects.specs.Effects.{pushesOf}
-use Rattle.r6501q_span_reads.proofs.Known.{branch-known}
+use Rattle.r6501q_span_reads.proofs.KnownOutcomes.{branch-known}
 use borrow.Author.Needs.{needs}
 use Rattle.r6501q_span_reads.proofs.known.known_branch.Statement.{statement}
 use Rattle.r6501q_span_reads.proofs.known.known_branch.Tie as tie

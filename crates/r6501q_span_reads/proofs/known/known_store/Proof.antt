@@ -1,6 +1,6 @@
 use mathlib.Core.Path.{refl}
 use Rattle.cpu_effects.specs.Effects.{pushesOf}
-use Rattle.r6501q_span_reads.proofs.Known.{store-known}
+use Rattle.r6501q_span_reads.proofs.KnownOutcomes.{store-known}
 use borrow.Author.Needs.{needs}
 use Rattle.r6501q_span_reads.proofs.known.known_store.Statement.{statement}
 use Rattle.r6501q_span_reads.proofs.known.known_store.Tie as tie

@@ -1,5 +1,5 @@
 use mathlib.Core.Path.{refl, sym, _∙_}
-use Rattle.r6501q_span_reads.specs.Served.{outcomeWithin}
+use Rattle.r6501q_span_reads.specs.Steady.{outcomeWithin}
 use borrow.Author.Needs.{needs}
 use Rattle.r6501q_span_reads.proofs.steady.outcome_within.Statement.{statement}
 use Rattle.r6501q_span_reads.proofs.steady.outcome_within.Tie as tie

@@ -1,5 +1,5 @@
 use mathlib.Core.Path.{refl}
-use Rattle.r6501q_span_reads.specs.Served.{steadyAsk}
+use Rattle.r6501q_span_reads.specs.Steady.{steadyAsk}
 use borrow.Author.Needs.{needs}
 use Rattle.r6501q_span_reads.proofs.steady.steady_ask.Statement.{statement}
 use Rattle.r6501q_span_reads.proofs.steady.steady_ask.Tie as tie

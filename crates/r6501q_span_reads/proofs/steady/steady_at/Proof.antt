@@ -1,5 +1,5 @@
 use mathlib.Core.Path.{refl}
-use Rattle.r6501q_span_reads.specs.Served.{steadyAt}
+use Rattle.r6501q_span_reads.specs.Steady.{steadyAt}
 use Rattle.r6501q_span_reads.proofs.steady.steady_at.Statement.{statement}
 use Rattle.r6501q_span_reads.proofs.steady.steady_at.Tie as tie
 

@@ -31,9 +31,9 @@ use Rattle.cpu.specs.declared.Outcome.the-variants.{Asked, Done}
 use Rattle.cpu.specs.InstructionInCode.{instructionOf, executeOf, outcomeOf, carriedOut, operandByte}
 use Rattle.r6501q_state.specs.declared.state.State.{State}
 use Rattle.r6501q_registers.specs.Read.{registerValue}
-use Rattle.r6501q_span_reads.specs.Served.{steadyAt, steadyAsk, outcomeWithin}
+use Rattle.r6501q_span_reads.specs.Steady.{steadyAt, steadyAsk, outcomeWithin}
 use Rattle.r6501q_span_reads.specs.Known.{Encoded}
-use Rattle.r6501q_span_reads.proofs.Steady.{within-done}
+use Rattle.r6501q_span_reads.proofs.SteadyReads.{within-done}
 
 abbrev workedOut : CpuRegisters → Writing → ℕ → Worked
 workedOut r x n = record { registers = r; writing = x; length = n }

@@ -19,7 +19,7 @@ use Rattle.r6501q_state.specs.declared.state.State.{State}
 use Rattle.r6501q_registers.specs.Read.{registerValue, afterRead}
 use Rattle.r6501q_cpu.specs.Asking.{putRegister, registersAfter, answerOf}
 use Rattle.r6501q_unseen.specs.Unseen.{SameSeen}
-use Rattle.r6501q_span_reads.specs.Served.{steadyAt, steadyAsk, outcomeWithin}
+use Rattle.r6501q_span_reads.specs.Steady.{steadyAt, steadyAsk, outcomeWithin}
 
 abbrev pub isDone : Outcome → Bool
 isDone (Stopped number) = false
