@@ -54,7 +54,8 @@ use Rattle.r6501q_spans.proofs.Ticked.{ticked-waits, tick-gap, cpu-gap, ticked-
 use Rattle.r6501q_spans.proofs.Ticked.{instruction-there, until-put, byte-there}
 use Rattle.r6501q_leap.specs.declared.Leaped.{Leaped}
 use Rattle.r6501q_fast.specs.declared.RanOn.{RanOn}
-use Rattle.r6501q_mnemonics.specs.Attempts as instructions
+use Rattle.r6501q_mnemonics.specs.Attempts as attempts
+use Rattle.r6501q_fast.specs.Instructions as instructions
 use Rattle.r6501q_fast.specs.Instructions.{ByInstructions, sharedBy, RunsOn}
 use Rattle.r6501q_fast.proofs.Instructions.{shared-most}
 use Rattle.r6501q_span_leaps.specs.declared.Stepped.{Stepped}
@@ -426,12 +427,12 @@ module _ (halt : Halt) (at : Leaped) (clocks : List ℕ) (span : ℕ) (on : at .
         → LeaptTo memory₀ (noneWaiting w') (counted + k) memory'
     leapt-ran w counted memory₀ memory so-far instructions.none = rw (add-zero counted) so-far
     leapt-ran w counted memory₀ memory so-far
-        (instructions.more {v} {w'} {before} {memory'} {shared} ran (instructions.pushing worked inside e z q)) =
+        (instructions.more {v} {w'} {before} {memory'} {shared} ran (attempts.pushing worked inside e z q)) =
         rw (pushing-shared counted shared (v .gone .0 + v .wait + 1))
         (leapt-pushing v (counted + shared) memory₀ before (leapt-ran w counted memory₀ memory so-far ran) worked inside
         e z q)
     leapt-ran w counted memory₀ memory so-far
-        (instructions.more {v} {w'} {before} {memory'} {shared} ran (instructions.storing worked x fits long e z q)) =
+        (instructions.more {v} {w'} {before} {memory'} {shared} ran (attempts.storing worked x fits long e z q)) =
         rw (storing-shared counted shared (v .gone .0 + v .wait + 1) (v .gone .0 + v .wait + 1 + (worked .length - 1))
         (omega (arith, long)))
         (leapt-storing v (counted + shared) memory₀ before (leapt-ran w counted memory₀ memory so-far ran) worked x fits
