@@ -1,5 +1,4 @@
 pub mod Laws
 pub mod Ranges
 pub mod InstructionAccesses
-pub mod Kept
 pub mod Conclusions

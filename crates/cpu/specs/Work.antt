@@ -1,12 +1,7 @@
--- Instructions one after the other, as long as they write nothing and start within a span.
-use mathlib.Core.Path.{_≡_}
-use mathlib.Core.List.{List}
-use Prim.Native.Nat.{ℕ, _+_, _-_, _≤_, _<_}
+-- The CPU at work in a span.
+use Prim.Native.Nat.{ℕ, _+_, _-_, _≤_}
 use Rattle.cpu_effects.specs.declared.Worked.{Worked}
-use Rattle.cpu_effects.specs.declared.Writing.the-variants.{Nothing}
-use Rattle.cpu.specs.declared.Outcome.the-variants.{Done}
 use Rattle.cpu.specs.declared.work.Work.{Work}
-use Rattle.cpu.specs.InstructionInCode.{instructionOf}
 
 -- what is gone lies in the span, and each leap took a clock at least
 pub record WithinSpan (w : Work) (span : ℕ) : Type 0 where
@@ -30,10 +25,3 @@ waitedOut w = record {
   gone = record { 0 = w .gone .0 + w .wait };
   leaps = w .leaps + 1;
 }
-
--- what is reached from `start` by instructions that write nothing, each of which starts within the span
-pub data ReadOnly (span : ℕ) (answers memory : List ℕ) (start : Work) : Work → Type 0 where
-  none : ReadOnly span answers memory start start
-  more : {w : Work} (worked : Worked) → ReadOnly span answers memory start w → w .gone .0 + w .wait < span
-      → instructionOf (w .registers) answers memory ≡ Done worked → worked .writing ≡ Nothing
-      → ReadOnly span answers memory start (nextWork w worked)

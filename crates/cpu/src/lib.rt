@@ -25,7 +25,7 @@ use cpu_opcodes::Entry;
 use cpu_operations::Access;
 
 pub mod entries; // entries.rt: reset, NMI and IRQ
-pub mod work; // work.rt: instructions one after the other
+pub mod work; // work.rt: the CPU at work in a span
 
 // The register that an instruction has to read next; a read-modify-write instruction takes a port's latch. The answer
 // is what is there after the writes, which only JSR has.
@@ -170,7 +170,12 @@ fn execute(
 }
 
 // One instruction. `entries` is what `cpu_opcodes::opcode_table` gave.
-fn instruction(registers: CpuRegisters, answers: &[u8], memory: &[u8], entries: &[u16]) -> Outcome
+pub fn instruction(
+    registers: CpuRegisters,
+    answers: &[u8],
+    memory: &[u8],
+    entries: &[u16],
+) -> Outcome
     requires { ⌜ now entries ≡ opcodeTable ⌝ }
     ensures { λ r. ⌜ r ≡ instructionOf registers (now (answers .entry)) (now (memory .entry)) ⌝ }
 {

@@ -40,11 +40,6 @@ waitingOf Nothing = waiting.Nothing
 waitingOf (Pushed w) = waiting.Nothing
 waitingOf (Stored x) = waiting.Byte x
 
-unfoldable pub writesNothing : Writing → Bool
-writesNothing Nothing = true
-writesNothing (Pushed w) = false
-writesNothing (Stored x) = false
-
 abbrev pub executed : CpuRegisters → Writing → ℕ → Bus → Executed
 executed r w n b = record { worked = record { registers = r; writing = w; length = n }; bus = b }
 

@@ -1,6 +1,6 @@
 // What an instruction leaves: CPU registers, nothing written or pushes or one store, and its length.
 ghost use mathlib.Core.Path.{_≡_};
-ghost use Rattle.cpu_effects.specs.Effects.{pushesOf, waitingOf, writesNothing};
+ghost use Rattle.cpu_effects.specs.Effects.{pushesOf, waitingOf};
 use cpu_access::Bus;
 use cpu_access::CpuRegisters;
 use cpu_access::stack::Write;
@@ -59,15 +59,5 @@ pub fn waiting_of(writing: Writing) -> Waiting
         Writing::Nothing => Waiting::Nothing,
         Writing::Pushed(_) => Waiting::Nothing,
         Writing::Stored(store) => Waiting::Byte(store),
-    }
-}
-
-pub fn writes_nothing(writing: Writing) -> bool
-    ensures { λ r. ⌜ r ≡ writesNothing writing ⌝ }
-{
-    match writing {
-        Writing::Nothing => true,
-        Writing::Pushed(_) => false,
-        Writing::Stored(_) => false,
     }
 }

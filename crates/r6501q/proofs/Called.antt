@@ -7,7 +7,7 @@ use Rattle.cpu_access.specs.declared.halt.Halt.{Halt}
 use Rattle.leaps.specs.Calls.{callStart}
 use Rattle.r6501q_state.specs.declared.state.State.{State}
 use Rattle.r6501q_step.specs.declared.CallResult.{CallResult}
-use Rattle.r6501q_step.specs.R6501q.{World, Handed}
+use Rattle.r6501q_chip.specs.R6501q.{World, Handed}
 use Rattle.r6501q_step.specs.Calls.{handed}
 use Rattle.r6501q_host.specs.declared.HostState.{HostState}
 use Rattle.r6501q_host.specs.declared.HostResult.{HostResult}

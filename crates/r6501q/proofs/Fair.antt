@@ -12,7 +12,7 @@ use Rattle.refusals.specs.Refusals.{refusalOf}
 use Rattle.leaps.specs.CallLists.{Call, countOf, callOf, Listed, listed, calls}
 use Rattle.leaps.specs.Calls.{callStart, refusedHanded, lentOf, afterCallOf, Room}
 use Rattle.leaps.proofs.Calls.{refusal-no-stop, refused-hands-on}
-use Rattle.r6501q_step.specs.R6501q.{World, Handed, Result, r6501qLimits, machine}
+use Rattle.r6501q_chip.specs.R6501q.{World, Handed, Result, r6501qLimits, machine}
 use Rattle.r6501q_run.proofs.Fair.{fair}
 use Rattle.r6501q_host.specs.declared.HostState.{HostState}
 use Rattle.r6501q_host.specs.Host.{stateFromHost, haltOf, flagsFit, hostState}

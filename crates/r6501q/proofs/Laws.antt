@@ -16,7 +16,7 @@ use Rattle.leaps.specs.CallLists.{Call, singleClock, runFor, countOf, callOf, s
 use Rattle.leaps.specs.Calls.{refusedHanded, refusalIn}
 use Rattle.r6501q_state.specs.declared.state.State.{State}
 use Rattle.r6501q_state.specs.State.{wellFormed}
-use Rattle.r6501q_step.specs.R6501q.{World, Handed, r6501q, machine}
+use Rattle.r6501q_chip.specs.R6501q.{World, Handed, r6501q, machine}
 use Rattle.cpu_access.specs.declared.waiting.Waiting.{Waiting}
 use Rattle.cpu_access.specs.declared.waiting.Waiting.the-variants.{Nothing, Byte}
 use Rattle.cpu_access.specs.Stack.{writeAt}

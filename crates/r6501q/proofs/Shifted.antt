@@ -10,9 +10,9 @@ use Rattle.leaps.specs.Calls.{ResultOf, handedBackOf, refusalIn, Room}
 use Rattle.leaps.specs.Shifted.{shiftedResult, ShiftedWorld, ShiftedHanded, ShiftedListed, clockRefusal, RefusedAlike}
 use Rattle.leaps.specs.Shifted.{clocksFit}
 use Rattle.r6501q_state.specs.declared.state.State.{State}
-use Rattle.r6501q_step.specs.R6501q.{World, Handed, Result, r6501q, system, machine}
-use Rattle.r6501q_step.specs.Shifted.{shiftedState}
-use Rattle.r6501q_step.proofs.Shifted.{step-shifted, run-call-shifted}
+use Rattle.r6501q_chip.specs.R6501q.{World, Handed, Result, r6501q, system, machine}
+use Rattle.r6501q_chip.specs.Shifted.{shiftedState}
+use Rattle.r6501q_chip.proofs.Shifted.{step-shifted, run-call-shifted}
 use Rattle.r6501q_run.proofs.Shifted.{list-shifted, run-past-last}
 use Rattle.r6501q_host.specs.declared.HostState.{HostState}
 use Rattle.r6501q_host.specs.Host.{stateFromHost, haltOf, flagsFit, hostState}

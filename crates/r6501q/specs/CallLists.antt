@@ -8,7 +8,7 @@ use Rattle.leaps.specs.Leaps.{plains}
 use Rattle.leaps.specs.CallLists.{Call, countOf, callOf, Listed, listed, clocksAccepted, resultsBy}
 use Rattle.leaps.specs.Calls as calls
 use Rattle.leaps.specs.Calls.{lentOf, afterCallOf, refusedWith}
-use Rattle.r6501q_step.specs.R6501q.{World, Result, system, machine}
+use Rattle.r6501q_chip.specs.R6501q.{World, Result, system, machine}
 use Rattle.r6501q_host.specs.declared.HostState.{HostState}
 use Rattle.r6501q_host.specs.Host.{haltOf, flagsFit}
 use Rattle.r6501q.specs.Calls.{HostWorld, HostHanded, worldFromHost, hostWorld, hostResultOf, hostRefusalOf}

@@ -13,7 +13,7 @@ use Rattle.leaps.specs.Calls as calls
 use Rattle.leaps.specs.Calls.{refusedHanded}
 use Rattle.leaps.specs.Lent.{Lent}
 use Rattle.r6501q_state.specs.State.{wellFormed}
-use Rattle.r6501q_step.specs.R6501q.{World, Handed, Result, r6501qLimits}
+use Rattle.r6501q_chip.specs.R6501q.{World, Handed, Result, r6501qLimits}
 use Rattle.tape.specs.Tapes.{loadOf, loadWithSumsOf}
 use Rattle.r6501q_host.specs.declared.HostState.{HostState}
 use Rattle.r6501q_host.specs.declared.HostResult.{HostResult}
@@ -22,10 +22,6 @@ use Rattle.r6501q_host.specs.declared.HostLatchResult.{HostLatchResult}
 use Rattle.r6501q_host.specs.declared.HostTotalResult.{HostTotalResult}
 use Rattle.r6501q_host.specs.Host.{stateFromHost, flagsFit, hostState, hostLoadResult, hostTotalResult}
 use Rattle.r6501q_host.specs.Host.{hostLatchResult}
-
--- "1 to 5 give back the state given, everything unchanged"
-abbrev pub hostRefused : ℕ → HostState → HostResult
-hostRefused number h = record { number = number; state = h; leaps = 0; read = 0; written = 0 }
 
 -- "Well-formed: every field is within its range here", the flags too
 abbrev pub hostWellFormed : HostState → Bool

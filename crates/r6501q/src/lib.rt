@@ -1,26 +1,23 @@
 // The library for programs in C and Rust. A struct goes by value, a lent slice as a pointer and then its length.
 ghost use mathlib.Core.Path.{_≡_};
-ghost use mathlib.Core.Bool.{false};
 ghost use Rattle.bits.specs.Bits.{oneWhere};
 ghost use Rattle.page_sums.specs.PageSums.{sumsAfter};
-ghost use Rattle.refusals.specs.Refusals.{refusalOf};
 ghost use Rattle.leaps.specs.CallLists.{stepOf, runOf, plainRunOf};
 ghost use Rattle.leaps.specs.Lent.{atEntry};
 ghost use Rattle.leaps.specs.Summed.{withSums};
 ghost use Rattle.r6501q_state.specs.State.{fresh};
-ghost use Rattle.r6501q_step.specs.R6501q.{r6501qLimits, machine};
+ghost use Rattle.r6501q_chip.specs.R6501q.{machine};
 ghost use Rattle.r6501q_host.specs.Host.{haltOf, hostState};
-ghost use Rattle.r6501q.specs.Calls.{hostRefused};
 ghost use Rattle.r6501q.specs.Calls.{hostWellFormed, hostCall, hostLoad, hostLoadWithSums, hostLoaded, hostTotal};
 ghost use Rattle.r6501q.specs.Calls.{hostLatch, hostAtExit};
 use bits::one_where;
-use page_sums::WRONG_PAGE_LIST;
 use page_sums::page_list_refused;
 use r6501q_host::HostLatchResult;
 use r6501q_host::HostLoadResult;
 use r6501q_host::HostResult;
 use r6501q_host::HostState;
 use r6501q_host::HostTotalResult;
+use r6501q_host::flag_refused;
 use r6501q_host::flags_fit;
 use r6501q_host::halt_of;
 use r6501q_host::host_latch_result;
@@ -29,57 +26,9 @@ use r6501q_host::host_result;
 use r6501q_host::host_state;
 use r6501q_host::host_total_result;
 use r6501q_host::state_from;
+use r6501q_host::wrong_page_list;
 use r6501q_state::state::fresh_state;
 use r6501q_state::state::well_formed;
-use r6501q_step::limits;
-use refusals::refusal;
-
-// What a call hands back where a flag is a byte above 1: the state as it was given, and the first check that fails of
-// a state that is not well-formed.
-fn flag_refused(
-    state: HostState,
-    bytes: usize,
-    inputclocks: &[u32],
-    inputcodes: &[u8],
-    outputclocks: usize,
-    outputwords: usize,
-    n: u32,
-) -> HostResult
-    ensures { λ r. ⌜ r ≡ hostRefused (refusalOf r6501qLimits false (state .clock) bytes (now (inputclocks .entry))
-        (now (inputcodes .entry)) outputclocks outputwords n) state ⌝ }
-{
-    let number = refusal(
-        limits(),
-        false,
-        state.clock,
-        bytes,
-        inputclocks,
-        inputcodes,
-        outputclocks,
-        outputwords,
-        n,
-    );
-    HostResult {
-        number: number,
-        state: state,
-        leaps: 0,
-        read: 0,
-        written: 0,
-    }
-}
-
-// What a call with page sums hands back where their list is not of 256.
-fn wrong_page_list(state: HostState) -> HostResult
-    ensures { λ r. ⌜ r ≡ hostRefused 13 state ⌝ }
-{
-    HostResult {
-        number: WRONG_PAGE_LIST,
-        state: state,
-        leaps: 0,
-        read: 0,
-        written: 0,
-    }
-}
 
 // A chip that has not run yet.
 #[no_mangle]

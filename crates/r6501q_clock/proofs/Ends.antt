@@ -23,7 +23,7 @@ use Rattle.r6501q_clock.specs.declared.Ended.{Ended}
 use Rattle.r6501q_clock.specs.declared.Clocked.{Clocked}
 use Rattle.r6501q_clock.specs.declared.Clocked.the-variants.{Stopped, Done}
 use Rattle.r6501q_clock.specs.Clock.{fullStop, endedWith, finished, recorded, beforeCpu, clockOf}
-use Rattle.r6501q_clock.specs.Commit.{putWrite, committed}
+use Rattle.memory_writes.specs.Commit.{putWrite, committed}
 use Rattle.r6501q_clock.proofs.Ranges.{before-cpu-formed, before-cpu-clock}
 
 -- of a clock that is done

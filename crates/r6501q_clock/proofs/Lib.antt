@@ -1,4 +1,3 @@
 pub mod Inputs
 pub mod Ranges
 pub mod Ends
-pub mod Written

@@ -8,8 +8,8 @@ use Rattle.counters.specs.declared.time.Ticks.{Ticks}
 use Rattle.counters.specs.declared.a.CountedA.{CountedA}
 use Rattle.counters.specs.declared.b.CountedB.{CountedB}
 use Rattle.counters.specs.Counters.{clockA, clockB, toggles, ticksOf}
-use Rattle.serial.specs.Transmitter.{transmitterClock}
-use Rattle.serial.specs.Receiver.{receiverClock}
+use Rattle.serial_transmitter.specs.Transmitter.{transmitterClock}
+use Rattle.serial_receiver.specs.Receiver.{receiverClock}
 use Rattle.r6501q_state.specs.declared.state.Peripherals.{Peripherals}
 use Rattle.r6501q_state.specs.declared.state.Levels.{Levels}
 use Rattle.r6501q_state.specs.declared.state.State.{State}

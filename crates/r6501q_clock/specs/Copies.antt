@@ -1,7 +1,7 @@
 -- Records with some parts set anew, all others kept. No rule stands here.
 use Prim.Native.Nat.{ℕ}
-use Rattle.serial.specs.declared.transmitter.Sending.{Sending}
-use Rattle.serial.specs.declared.receiver.Receiving.{Receiving}
+use Rattle.serial_transmitter.specs.declared.Sending.{Sending}
+use Rattle.serial_receiver.specs.declared.Receiving.{Receiving}
 use Rattle.r6501q_state.specs.declared.state.Peripherals.{Peripherals}
 use Rattle.r6501q_state.specs.declared.state.Levels.{Levels}
 use Rattle.r6501q_state.specs.declared.state.State.{State}

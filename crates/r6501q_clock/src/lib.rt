@@ -18,8 +18,6 @@ use r6501q_state::state::Levels;
 use r6501q_state::state::Peripherals;
 use r6501q_state::state::State;
 
-pub mod commit; // commit.rt: a clock's writes, put into memory
-
 // The next clock needs a record, and no entry is free.
 const FULL: u8 = 7;
 
@@ -180,7 +178,7 @@ pub fn clock(s: State, codes: &[u8], memory: &[u8], free: bool, entries: &[u16])
     ensures { λ r. ⌜ r ≡ clockOf s (now (codes .entry)) (now (memory .entry)) free ⌝ }
 {
     let before = s.peripherals.driven_word();
-    let processed = r6501q_cpu::process(before_cpu(s, codes), memory, entries);
+    let processed = r6501q_process::process(before_cpu(s, codes), memory, entries);
     match processed {
         Processed::Stopped(number) => Clocked::Stopped(number),
         Processed::Done(next) => {

@@ -37,12 +37,12 @@ use Rattle.r6501q_cpu.specs.Processor.{registersOf, performedIn, processedBy, i
 use Rattle.r6501q_cpu.specs.Processor.{nmiStart, irqStart, startOf, withoutWrites, bytePut, waitedBy, processorOf}
 use Rattle.r6501q_clock.specs.declared.Clocked.the-variants.{Stopped, Done}
 use Rattle.r6501q_clock.specs.Clock.{inputsSet, beforeCpu, fullStop, endedWith, finished, recorded, clockOf}
-use Rattle.r6501q_gaps.specs.Events.{levelsChange, underflowsA, underflowsB, resetChanges, cpuStarts, putsByte, isReset}
-use Rattle.r6501q_gaps.specs.Events.{eventOf}
-use Rattle.r6501q_gaps.specs.Gaps.{toInput, toChange, toUnderflowA, toUnderflowB, toReset, toCpu, gapOf, passOf}
-use Rattle.r6501q_step.specs.R6501q.{World, clockOutcome, r6501q, system, machine}
-use Rattle.r6501q_step.specs.Shifted.{shiftedState}
-use Rattle.r6501q_step.proofs.Shifted.{start-alike, plains-shifted, count-shifted}
+use Rattle.r6501q_events.specs.Events.{levelsChange, underflowsA, underflowsB, resetChanges, cpuStarts, putsByte, isReset}
+use Rattle.r6501q_events.specs.Events.{eventOf}
+use Rattle.r6501q_events.specs.Gaps.{toInput, toChange, toUnderflowA, toUnderflowB, toReset, toCpu, gapOf, passOf}
+use Rattle.r6501q_chip.specs.R6501q.{World, clockOutcome, r6501q, system, machine}
+use Rattle.r6501q_chip.specs.Shifted.{shiftedState}
+use Rattle.r6501q_chip.proofs.Shifted.{start-alike, plains-shifted, count-shifted}
 use Rattle.r6501q_examples.proofs.Examples.{startWith, tapeMemory, tapeStart, reached, halt-reached, halt-leaps}
 
 -- 02, U4: document 01's tape with the halt address 0000h (`halt-reached`, `halt-leaps`), from fresh but for its clock,

@@ -25,8 +25,8 @@ use Rattle.r6501q_cpu.specs.Processor.{irqDue, opcodeAt, bytePut, processorOf}
 use Rattle.r6501q_cpu.proofs.Stores.{instruction-starts, instruction-begun, clock-waits, waited-less, byte-put}
 use Rattle.r6501q_cpu.proofs.Stores.{held-writes}
 use Rattle.r6501q_clock.specs.Clock.{beforeCpu, finished, recorded, clockOf}
-use Rattle.r6501q_step.specs.R6501q.{World}
-use Rattle.r6501q_step.proofs.Halted.{toldBy, clockIn}
+use Rattle.r6501q_chip.specs.R6501q.{World}
+use Rattle.r6501q_chip.proofs.Halted.{toldBy, clockIn}
 
 -- the state that steps 1 to 3 of the next clock leave
 abbrev pub readyIn : World → State

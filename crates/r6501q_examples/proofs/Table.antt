@@ -15,7 +15,7 @@ use Rattle.cpu_access.specs.declared.halt.Halt.the-variants.{Nowhere, At}
 use Rattle.cpu_alu.specs.Arithmetic.{adcOf}
 use Rattle.cpu_alu.proofs.Examples as alu
 use Rattle.bits.specs.Bits.{bit, word16}
-use Rattle.serial.specs.Transmitter.{idleTransmitter}
+use Rattle.serial_transmitter.specs.Transmitter.{idleTransmitter}
 use Rattle.r6501q_state.specs.State.{fresh}
 use Rattle.r6501q_state.specs.Pins.{sensed}
 use Rattle.r6501q_state.proofs.Fresh.{FreshFields, fresh-fields}
@@ -25,13 +25,13 @@ use Rattle.leaps.specs.Leaps.{plains, leapCount}
 use Rattle.leaps.specs.CallLists.{runFor, calls}
 use Rattle.leaps.specs.Calls.{callStart, Fit}
 use Rattle.cpu_access.specs.declared.waiting.Waiting.the-variants.{Nothing, Byte}
-use Rattle.r6501q_step.specs.R6501q.{World, r6501q, system, machine}
-use Rattle.r6501q_step.proofs.Halted.{toldBy, clockIn}
+use Rattle.r6501q_chip.specs.R6501q.{World, r6501q, system, machine}
+use Rattle.r6501q_chip.proofs.Halted.{toldBy, clockIn}
 use Rattle.r6501q_examples.proofs.Examples as clocks
 use Rattle.r6501q_examples.proofs.ShiftRegister.{ShiftRegister, shift-register}
 use Rattle.r6501q_examples.proofs.AccessOrder.{AccessOrder, access-order}
 use Rattle.r6501q_examples.proofs.IndirectJump.{jumpMemory, indirect-jump}
-use Rattle.r6501q_step.proofs.Held.{held-clocks, held-leaps}
+use Rattle.r6501q_chip.proofs.Held.{held-clocks, held-leaps}
 use Rattle.r6501q_run.proofs.Fair.{first-half}
 
 -- both counters and IFR after n clocks of a fresh chip with no inputs

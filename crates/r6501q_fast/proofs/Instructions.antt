@@ -13,8 +13,8 @@ use Rattle.r6501q_unseen.specs.Unseen.{onTick}
 use Rattle.cpu_access.specs.declared.halt.Halt.{Halt}
 use Rattle.cpu.specs.declared.work.Work.{Work}
 use Rattle.cpu.specs.Work.{WithinSpan}
-use Rattle.r6501q_mnemonics.specs.declared.Attempt.{Attempt}
-use Rattle.r6501q_mnemonics.specs.Attempts.{Instructed, pushing, storing, Tries, unchanged, whole}
+use Rattle.cpu_attempts.specs.declared.Attempt.{Attempt}
+use Rattle.cpu_attempts.specs.Attempts.{Instructed, pushing, storing, Tries, unchanged, whole}
 use Rattle.r6501q_fast.specs.Instructions.{ByInstructions}
 use Rattle.r6501q_fast.specs.Instructions.{none, more}
 use Rattle.r6501q_fast.specs.Instructions.{sharedBy}

@@ -11,7 +11,7 @@ use Rattle.cpu_access.specs.declared.waiting.Waiting.the-variants as waiting
 use Rattle.cpu.specs.declared.work.Work.{Work}
 use Rattle.r6501q_unseen.specs.declared.Ticking.{Ticking}
 use Rattle.r6501q_unseen.specs.Unseen.{onTick}
-use Rattle.r6501q_mnemonics.specs.Attempts.{Instructed}
+use Rattle.cpu_attempts.specs.Attempts.{Instructed}
 use Rattle.r6501q_fast.specs.declared.RanOn.{RanOn}
 
 -- of the clocks that one instruction acts on, its start and the clock of a store's byte, those that have a tick too

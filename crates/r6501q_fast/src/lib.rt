@@ -11,9 +11,9 @@ use cpu::work::Work;
 use cpu_access::halt::Halt;
 use cpu_access::memory_byte;
 use cpu_access::waiting::Waiting;
+use cpu_attempts::same_work;
 use memory::MEMORY_LENGTH;
 use memory::is_register;
-use r6501q_mnemonics::same_work;
 use r6501q_spans::Working;
 use r6501q_spans::none_waiting;
 use r6501q_unseen::Ticking;
@@ -104,22 +104,22 @@ pub fn run_opcodes(
         }
         let opcode = memory_byte(memory, pc);
         let tried = match opcode / 16 {
-            0 => r6501q_opcodes::opcodes_00(w, span, memory, sums, halt, opcode),
-            1 => r6501q_opcodes::opcodes_10(w, span, memory, sums, halt, opcode),
-            2 => r6501q_opcodes::opcodes_20(w, span, memory, sums, halt, opcode),
-            3 => r6501q_opcodes::opcodes_30(w, span, memory, sums, halt, opcode),
-            4 => r6501q_opcodes::opcodes_40(w, span, memory, sums, halt, opcode),
-            5 => r6501q_opcodes::opcodes_50(w, span, memory, sums, halt, opcode),
-            6 => r6501q_opcodes::opcodes_60(w, span, memory, sums, halt, opcode),
-            7 => r6501q_opcodes::opcodes_70(w, span, memory, sums, halt, opcode),
-            8 => r6501q_opcodes::opcodes_80(w, span, memory, sums, halt, opcode),
-            9 => r6501q_opcodes::opcodes_90(w, span, memory, sums, halt, opcode),
-            10 => r6501q_opcodes::opcodes_a0(w, span, memory, sums, halt, opcode),
-            11 => r6501q_opcodes::opcodes_b0(w, span, memory, sums, halt, opcode),
-            12 => r6501q_opcodes::opcodes_c0(w, span, memory, sums, halt, opcode),
-            13 => r6501q_opcodes::opcodes_d0(w, span, memory, sums, halt, opcode),
-            14 => r6501q_opcodes::opcodes_e0(w, span, memory, sums, halt, opcode),
-            _ => r6501q_opcodes::opcodes_f0(w, span, memory, sums, halt, opcode),
+            0 => cpu_low_opcodes::opcodes_00(w, span, memory, sums, halt, opcode),
+            1 => cpu_low_opcodes::opcodes_10(w, span, memory, sums, halt, opcode),
+            2 => cpu_low_opcodes::opcodes_20(w, span, memory, sums, halt, opcode),
+            3 => cpu_low_opcodes::opcodes_30(w, span, memory, sums, halt, opcode),
+            4 => cpu_low_opcodes::opcodes_40(w, span, memory, sums, halt, opcode),
+            5 => cpu_low_opcodes::opcodes_50(w, span, memory, sums, halt, opcode),
+            6 => cpu_low_opcodes::opcodes_60(w, span, memory, sums, halt, opcode),
+            7 => cpu_low_opcodes::opcodes_70(w, span, memory, sums, halt, opcode),
+            8 => cpu_high_opcodes::opcodes_80(w, span, memory, sums, halt, opcode),
+            9 => cpu_high_opcodes::opcodes_90(w, span, memory, sums, halt, opcode),
+            10 => cpu_high_opcodes::opcodes_a0(w, span, memory, sums, halt, opcode),
+            11 => cpu_high_opcodes::opcodes_b0(w, span, memory, sums, halt, opcode),
+            12 => cpu_high_opcodes::opcodes_c0(w, span, memory, sums, halt, opcode),
+            13 => cpu_high_opcodes::opcodes_d0(w, span, memory, sums, halt, opcode),
+            14 => cpu_high_opcodes::opcodes_e0(w, span, memory, sums, halt, opcode),
+            _ => cpu_high_opcodes::opcodes_f0(w, span, memory, sums, halt, opcode),
         };
         shared = with_shared(
             ticking,

@@ -1,8 +1,8 @@
 // The clocks before the next event clock of each kind, where there is one to be seen, else the clocks left.
 ghost use mathlib.Core.Bool.{cond};
 ghost use mathlib.Core.Path.{_≡_};
-ghost use Rattle.r6501q_gaps.specs.Gaps.{clocksOf, countingA, countingB, toInput, toChange, toUnderflowA};
-ghost use Rattle.r6501q_gaps.specs.Gaps.{toUnderflowB, toReset, untilCpu, toCpu};
+ghost use Rattle.r6501q_events.specs.Gaps.{clocksOf, countingA, countingB, toInput, toChange, toUnderflowA};
+ghost use Rattle.r6501q_events.specs.Gaps.{toUnderflowB, toReset, untilCpu, toCpu};
 use crate::events::levels_change;
 use crate::events::reset_changes;
 use counters::time::Clocks;

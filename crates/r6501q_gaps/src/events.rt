@@ -1,14 +1,14 @@
 // Events that the next clock brings: pin levels unlike the last ones, and RES low where it changes a field.
 ghost use mathlib.Core.Path.{_≡_};
-ghost use Rattle.r6501q_gaps.specs.Events.{sameLevels, levelsChange, portsFresh, controlFresh, transmitterIdle};
-ghost use Rattle.r6501q_gaps.specs.Events.{receiverIdle, isReset, resetChanges};
+ghost use Rattle.r6501q_events.specs.Events.{sameLevels, levelsChange, portsFresh, controlFresh, transmitterIdle};
+ghost use Rattle.r6501q_events.specs.Events.{receiverIdle, isReset, resetChanges};
 use cpu_access::waiting::byte_waits;
 use r6501q_state::state::Control;
 use r6501q_state::state::Levels;
 use r6501q_state::state::Ports;
 use r6501q_state::state::State;
-use serial::receiver::Receiver;
-use serial::transmitter::Transmitter;
+use serial_receiver::Receiver;
+use serial_transmitter::Transmitter;
 
 // Whether two levels of the 34 pins are the same.
 fn same_levels(a: Levels, b: Levels) -> bool

@@ -9,7 +9,7 @@ pub mod distances;
 
 ghost use mathlib.Core.Path.{_≡_};
 ghost use Prim.Native.Nat.{_+_, _≤_, min};
-ghost use Rattle.r6501q_gaps.specs.Gaps.{clocksOf, gapOf, waitAfter, passCounters, passOf};
+ghost use Rattle.r6501q_events.specs.Gaps.{clocksOf, gapOf, waitAfter, passCounters, passOf};
 use counters::time::Clocks;
 use distances::counting_a;
 use distances::counting_b;

@@ -14,7 +14,7 @@ use Rattle.cpu_access.specs.declared.waiting.Waiting.{Waiting}
 use Rattle.cpu_access.specs.declared.waiting.Waiting.the-variants as waiting
 use Rattle.cpu_access.specs.declared.waiting.Waiting.the-variants.{Byte}
 use Rattle.cpu_access.specs.Stack.{writeAt}
-use Rattle.serial.specs.declared.receiver.Receiver.{Receiver}
+use Rattle.serial_receiver.specs.declared.Receiver.{Receiver}
 use Rattle.r6501q_state.specs.declared.state.Cpu.{Cpu}
 use Rattle.r6501q_state.specs.declared.state.Due.{Due}
 use Rattle.r6501q_state.specs.declared.state.Peripherals.{Peripherals}
@@ -187,3 +187,9 @@ abbrev pub hostLatchResult : Found → HostLatchResult
 hostLatchResult (Fits N) = record { number = latchNumber (Fits N); found = 1; value = N }
 hostLatchResult Nothing = record { number = latchNumber Nothing; found = 0; value = 0 }
 hostLatchResult Refused = record { number = latchNumber Refused; found = 0; value = 0 }
+
+-- ---- refusals
+
+-- "1 to 5 give back the state given, everything unchanged"
+abbrev pub hostRefused : ℕ → HostState → HostResult
+hostRefused number h = record { number = number; state = h; leaps = 0; read = 0; written = 0 }

@@ -1,12 +1,15 @@
 // The state and what is handed back as the host, a program in C or Rust, holds them: each flag and level is a byte, 0
-// or 1, and no byte waiting is 0, 0, 0.
+// or 1, and no byte waiting is 0, 0, 0; and the refusals of a call that are told before its state is taken over.
 ghost use mathlib.Core.Path.{_≡_};
+ghost use mathlib.Core.Bool.{false};
+ghost use Rattle.refusals.specs.Refusals.{refusalOf};
+ghost use Rattle.r6501q_chip.specs.R6501q.{r6501qLimits};
 ghost use Rattle.r6501q_host.specs.Host.{waitingFromHost, cpuFromHost, waitingFits, hostWaiting, hostCpu};
 ghost use Rattle.r6501q_host.specs.Host.{dueFromHost};
 ghost use Rattle.r6501q_host.specs.Host.{counterBFromHost, receiverFromHost, levelsFromHost, peripheralsFromHost};
 ghost use Rattle.r6501q_host.specs.Host.{stateFromHost, flagsFit, haltOf, hostDue, hostCounterB, hostReceiver};
 ghost use Rattle.r6501q_host.specs.Host.{hostLevels, hostPeripherals, hostState, hostResult, hostLoadResult};
-ghost use Rattle.r6501q_host.specs.Host.{hostTotalResult, hostLatchResult};
+ghost use Rattle.r6501q_host.specs.Host.{hostTotalResult, hostLatchResult, hostRefused};
 use bit_rate::Found;
 use bits::one_where;
 use counters::a::CounterA;
@@ -15,6 +18,7 @@ use cpu_access::halt::Halt;
 use cpu_access::stack::Write;
 use cpu_access::waiting::Waiting;
 use page_sums::TotalResult;
+use page_sums::WRONG_PAGE_LIST;
 use r6501q_state::state::Control;
 use r6501q_state::state::Cpu;
 use r6501q_state::state::Due;
@@ -24,8 +28,10 @@ use r6501q_state::state::Ports;
 use r6501q_state::state::SerialData;
 use r6501q_state::state::State;
 use r6501q_step::CallResult;
-use serial::receiver::Receiver;
-use serial::transmitter::Transmitter;
+use r6501q_step::limits;
+use refusals::refusal;
+use serial_receiver::Receiver;
+use serial_transmitter::Transmitter;
 use tape::LoadResult;
 
 #[repr(C)]
@@ -418,5 +424,52 @@ pub fn host_latch_result(found: Found) -> HostLatchResult
             found: 0,
             value: 0,
         },
+    }
+}
+
+// What a call hands back where a flag is a byte above 1: the state as it was given, and the first check that fails of
+// a state that is not well-formed.
+pub fn flag_refused(
+    state: HostState,
+    bytes: usize,
+    inputclocks: &[u32],
+    inputcodes: &[u8],
+    outputclocks: usize,
+    outputwords: usize,
+    n: u32,
+) -> HostResult
+    ensures { λ r. ⌜ r ≡ hostRefused (refusalOf r6501qLimits false (state .clock) bytes (now (inputclocks .entry))
+        (now (inputcodes .entry)) outputclocks outputwords n) state ⌝ }
+{
+    let number = refusal(
+        limits(),
+        false,
+        state.clock,
+        bytes,
+        inputclocks,
+        inputcodes,
+        outputclocks,
+        outputwords,
+        n,
+    );
+    HostResult {
+        number: number,
+        state: state,
+        leaps: 0,
+        read: 0,
+        written: 0,
+    }
+}
+
+// What a call with page sums hands back where their list is not of 256.
+pub fn wrong_page_list(state: HostState) -> HostResult
+    ensures { λ r. ⌜ r ≡ hostRefused 13 state ⌝ }
+{
+    HostResult {
+        number: WRONG_PAGE_LIST,
+        state: state,
+        leaps: 0,
+        read: 0,
+        written: 0,
     }
 }

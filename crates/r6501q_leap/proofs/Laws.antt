@@ -22,12 +22,12 @@ use Rattle.r6501q_clock.specs.declared.Ended.{Ended}
 use Rattle.r6501q_clock.specs.declared.Clocked.{Clocked}
 use Rattle.r6501q_clock.specs.declared.Clocked.the-variants.{Stopped, Done}
 use Rattle.r6501q_clock.specs.Clock.{haltStop, endedWith, finished, clockOf}
-use Rattle.r6501q_clock.specs.Commit.{putWrite, committed}
+use Rattle.memory_writes.specs.Commit.{putWrite, committed}
 use Rattle.r6501q_clock.proofs.Ends.{done-clock, done-room, done-formed, commit-length, stop-either}
-use Rattle.r6501q_gaps.specs.Gaps.{clocksOf, gapOf, passOf}
-use Rattle.r6501q_gaps.proofs.Passing.{pass-driven, pass-zero, pass-add, pass-clock}
-use Rattle.r6501q_gaps.proofs.Gaps.{gap-le, gap-no-input, gap-clock, gap-no-event, gap-event, gap-passed}
-use Rattle.r6501q_step.specs.R6501q.{endOf, clockOutcome, r6501q, system}
+use Rattle.r6501q_events.specs.Gaps.{clocksOf, gapOf, passOf}
+use Rattle.r6501q_events.proofs.Passing.{pass-driven, pass-zero, pass-add, pass-clock}
+use Rattle.r6501q_events.proofs.Gaps.{gap-le, gap-no-input, gap-clock, gap-no-event, gap-event, gap-passed}
+use Rattle.r6501q_chip.specs.R6501q.{endOf, clockOutcome, r6501q, system}
 
 -- what holds of each end of a clock holds of the end that the theory sees, and of a stop likewise
 module _ (halt : Halt) (s : State) (codes memory : List ℕ) (free : Bool) where

@@ -22,12 +22,12 @@ use Rattle.leaps.proofs.Chips.{Advanced, plain-advances}
 use Rattle.leaps.proofs.Calls as theory
 use Rattle.r6501q_state.specs.declared.state.State.{State}
 use Rattle.r6501q_state.specs.State.{wellFormed}
-use Rattle.r6501q_gaps.specs.Gaps.{clocksOf, gapOf, passOf}
-use Rattle.r6501q_gaps.proofs.Gaps.{gap-le}
-use Rattle.r6501q_gaps.proofs.Passing.{pass-clock}
-use Rattle.r6501q_step.specs.declared.Progress.{Progress}
-use Rattle.r6501q_step.specs.R6501q.{World, r6501qLimits, r6501q, plain, system, machine}
-use Rattle.r6501q_step.specs.World.{worldOf, Going}
+use Rattle.r6501q_events.specs.Gaps.{clocksOf, gapOf, passOf}
+use Rattle.r6501q_events.proofs.Gaps.{gap-le}
+use Rattle.r6501q_events.proofs.Passing.{pass-clock}
+use Rattle.r6501q_advance.specs.declared.Progress.{Progress}
+use Rattle.r6501q_chip.specs.R6501q.{World, r6501qLimits, r6501q, plain, system, machine}
+use Rattle.r6501q_advance.specs.World.{worldOf, Going}
 use Rattle.r6501q_step.specs.Calls.{handed, begin, refusalResult, progressResult, leapsFrom}
 use Rattle.r6501q_leap.specs.declared.Leaped.{Leaped}
 use Rattle.r6501q_leap.specs.RunInCode.{passedBy, goesOn, runFrom, runEnded, beginRun, Leaping}

@@ -10,10 +10,10 @@ use Rattle.cpu_access.specs.declared.halt.Halt.{Halt}
 use Rattle.refusals.specs.Refusals.{lastClock}
 use Rattle.leaps.specs.Leaps.{Run, run}
 use Rattle.r6501q_state.specs.declared.state.State.{State}
-use Rattle.r6501q_gaps.specs.Gaps.{clocksOf, passOf}
-use Rattle.r6501q_step.specs.declared.Progress.{Progress}
-use Rattle.r6501q_step.specs.R6501q.{World, system}
-use Rattle.r6501q_step.specs.World.{worldOf}
+use Rattle.r6501q_events.specs.Gaps.{clocksOf, passOf}
+use Rattle.r6501q_advance.specs.declared.Progress.{Progress}
+use Rattle.r6501q_chip.specs.R6501q.{World, system}
+use Rattle.r6501q_advance.specs.World.{worldOf}
 use Rattle.r6501q_step.specs.Calls.{begin}
 use Rattle.r6501q_leap.specs.declared.Leaped.{Leaped}
 

@@ -5,15 +5,15 @@ ghost use lib.ListN.{length, drop};
 ghost use Rattle.page_sums.specs.PageSums.{sumsAfter};
 ghost use Rattle.leaps.specs.Leaps.{leapOf, leftAfter};
 ghost use Rattle.cpu_opcodes.specs.TableInCode.{opcodeTable};
-ghost use Rattle.r6501q_gaps.specs.Gaps.{gapOf, clocksOf};
-ghost use Rattle.r6501q_step.specs.R6501q.{system};
-ghost use Rattle.r6501q_step.specs.World.{worldAtEntry, worldAtExit};
+ghost use Rattle.r6501q_events.specs.Gaps.{gapOf, clocksOf};
+ghost use Rattle.r6501q_chip.specs.R6501q.{system};
+ghost use Rattle.r6501q_advance.specs.World.{worldAtEntry, worldAtExit};
 ghost use Rattle.r6501q_step.specs.Calls.{leapsFrom};
 ghost use Rattle.r6501q_leap.specs.RunInCode.{passedBy, Leaping};
 use counters::time::Clocks;
 use cpu_access::halt::Halt;
-use r6501q_step::Progress;
-use r6501q_step::advance;
+use r6501q_advance::Progress;
+use r6501q_advance::advance;
 use r6501q_step::leaps_from;
 
 // How far a run has come: the clocks left, and the leaps done.

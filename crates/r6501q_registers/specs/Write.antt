@@ -4,8 +4,8 @@ use Prim.Native.Nat.{ℕ}
 use lib.Dec.{eqb}
 use Rattle.bits.specs.Bits.{bit, withBit, setWhere, flipWhere}
 use Rattle.counters.specs.Counters.{lowerA, upperA, loadCounterA, lowerB, upperB, copyB, loadCounterB, turnToC}
-use Rattle.serial.specs.Transmitter.{transmitterWithSccr}
-use Rattle.serial.specs.Receiver.{receiverWithSccr}
+use Rattle.serial_transmitter.specs.Transmitter.{transmitterWithSccr}
+use Rattle.serial_receiver.specs.Receiver.{receiverWithSccr}
 use Rattle.r6501q_state.specs.declared.state.Control.{Control}
 use Rattle.r6501q_state.specs.declared.state.Peripherals.{Peripherals}
 use Rattle.r6501q_state.specs.Copies.{withCounterA, withCounterB, withControl, withSent, withProgress, flagged}

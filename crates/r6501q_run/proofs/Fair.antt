@@ -12,8 +12,8 @@ use Rattle.leaps.specs.CallLists.{Call, runFor, calls, stepOf, plainRunOf}
 use Rattle.leaps.specs.Calls.{callStart, Room, Fit}
 use Rattle.leaps.proofs.Calls as theory
 use Rattle.r6501q_state.specs.declared.state.State.{State}
-use Rattle.r6501q_gaps.specs.Gaps.{gapOf}
-use Rattle.r6501q_step.specs.R6501q.{World, r6501q, system, machine}
+use Rattle.r6501q_events.specs.Gaps.{gapOf}
+use Rattle.r6501q_chip.specs.R6501q.{World, r6501q, system, machine}
 use Rattle.r6501q_run.specs.Fair.{Fair}
 use Rattle.r6501q_leap.proofs.Laws.{laws}
 

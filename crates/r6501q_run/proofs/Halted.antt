@@ -13,8 +13,8 @@ use Rattle.leaps.specs.Calls.{stopOf, handedBackOf, refusalIn, refusedCall, Roo
 use Rattle.leaps.proofs.Calls as theory
 use Rattle.leaps.proofs.Calls.{refusal-no-stop}
 use Rattle.r6501q_state.specs.State.{wellFormed}
-use Rattle.r6501q_step.specs.R6501q.{World, Handed, r6501qLimits, r6501q, system, machine}
-use Rattle.r6501q_step.proofs.Halted.{clocksBefore, plains-twelve}
+use Rattle.r6501q_chip.specs.R6501q.{World, Handed, r6501qLimits, r6501q, system, machine}
+use Rattle.r6501q_chip.proofs.Halted.{clocksBefore, plains-twelve}
 use Rattle.r6501q_leap.proofs.Laws.{laws}
 use Rattle.r6501q_run.proofs.Fair.{single-run}
 
@@ -49,7 +49,7 @@ plain-run-twelve halt n w on = by-test (eqb (refusalIn (r6501q halt) n w) 0)
 
 -- A call, single clock or run, tells 12 just where it is not refused and one of its clocks writes the halt address: the
 -- first that does is the last that it does (`plains-halt`, `before-unwritten`, `first-written` of
--- r6501q_step/proofs/Halted.antt).
+-- r6501q_chip/proofs/Halted.antt).
 pub call-twelve : (halt : Halt) (c : Call) (w : World) → Room w → w .stop ≡ 0
     → eqb (callOf (machine halt) c w .result .number) 12
     ≡ (eqb (refusalIn (r6501q halt) (countOf c) w) 0 && ltb (clocksBefore halt (countOf c) w) (countOf c))

@@ -26,11 +26,11 @@ use Rattle.r6501q_state.specs.State.{fresh, wellFormed}
 use Rattle.r6501q_state.specs.Inputs.{lastPin}
 use Rattle.r6501q_state.proofs.Ranges.{fresh-formed}
 use Rattle.cpu_access.specs.Waiting.{byteWaits}
-use Rattle.r6501q_step.specs.R6501q.{World, Handed, r6501qLimits, r6501q, plain, system, machine}
-use Rattle.r6501q_step.proofs.Held.{heldState, heldLeaps, held-clocks, held-leaps}
-use Rattle.r6501q_step.proofs.ReleaseLists.{belowRes}
-use Rattle.r6501q_step.proofs.Released.{releasedStart, oldStart, oneMoreRead, first-plain, first-event, start-done}
-use Rattle.r6501q_step.proofs.Released.{old-done, refusal-same, given-plain, given-event, given-done}
+use Rattle.r6501q_chip.specs.R6501q.{World, Handed, r6501qLimits, r6501q, plain, system, machine}
+use Rattle.r6501q_chip.proofs.Held.{heldState, heldLeaps, held-clocks, held-leaps}
+use Rattle.r6501q_chip.proofs.ReleaseLists.{belowRes}
+use Rattle.r6501q_chip.proofs.Released.{releasedStart, oldStart, oneMoreRead, first-plain, first-event, start-done}
+use Rattle.r6501q_chip.proofs.Released.{old-done, refusal-same, given-plain, given-event, given-done}
 use Rattle.r6501q_leap.proofs.Laws.{laws, lawful}
 
 -- a call's start has nothing written

@@ -15,11 +15,11 @@ use Rattle.leaps.specs.Leaps.{Run, leapOf, leftAfter, run}
 use Rattle.leaps.specs.Chip.{ChipRules, ClockOutcome, stopped, ended}
 use Rattle.leaps.specs.World.{WorldOf, after, inputCountIn, outcomeIn, plainOf, runningIn, systemOf}
 use Rattle.leaps.proofs.Along.{Unaffected, run-along}
-use Rattle.r6501q_gaps.specs.Gaps.{clocksOf}
-use Rattle.r6501q_step.specs.R6501q.{World, r6501q, system}
-use Rattle.r6501q_step.specs.World.{worldOf}
+use Rattle.r6501q_events.specs.Gaps.{clocksOf}
+use Rattle.r6501q_chip.specs.R6501q.{World, r6501q, system}
+use Rattle.r6501q_advance.specs.World.{worldOf}
 use Rattle.r6501q_step.specs.Calls.{leapsFrom}
-use Rattle.r6501q_step.proofs.Worlds.{lent-part}
+use Rattle.r6501q_advance.proofs.Worlds.{lent-part}
 use Rattle.r6501q_leap.specs.declared.Leaped.{Leaped}
 use Rattle.r6501q_leap.specs.RunInCode.{goesOn, runFrom, runEnded, Leaping}
 use Rattle.r6501q_span_leaps.specs.Spanned.{Spanned}

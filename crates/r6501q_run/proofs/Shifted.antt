@@ -9,9 +9,9 @@ use Rattle.leaps.specs.CallLists.{Call, runOf, calls}
 use Rattle.leaps.specs.Calls.{Room, refusalIn, handedBackOf}
 use Rattle.leaps.specs.Shifted.{ShiftedWorld, ShiftedHanded, ShiftedListed, clocksFit}
 use Rattle.leaps.proofs.ShiftedCalls as theory
-use Rattle.r6501q_step.specs.R6501q.{World, r6501q, system, machine}
-use Rattle.r6501q_step.specs.Shifted.{shiftedState}
-use Rattle.r6501q_step.proofs.Shifted.{shift-laws}
+use Rattle.r6501q_chip.specs.R6501q.{World, r6501q, system, machine}
+use Rattle.r6501q_chip.specs.Shifted.{shiftedState}
+use Rattle.r6501q_chip.proofs.Shifted.{shift-laws}
 use Rattle.r6501q_leap.proofs.Laws.{laws}
 
 module _ (halt : Halt) (k : ℕ) (w v : World) (r : ShiftedWorld shiftedState k w v) (room : Room w) where

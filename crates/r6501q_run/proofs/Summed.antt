@@ -13,7 +13,7 @@ use Rattle.leaps.specs.Calls.{callStart, refusedWith, Room}
 use Rattle.leaps.specs.Summed.{ListedSums, listedSums, callsWithSums}
 use Rattle.leaps.proofs.Summed as theory
 use Rattle.r6501q_state.specs.declared.state.State.{State}
-use Rattle.r6501q_step.specs.R6501q.{World, r6501q, system, machine}
+use Rattle.r6501q_chip.specs.R6501q.{World, r6501q, system, machine}
 use Rattle.r6501q_leap.proofs.Laws.{laws}
 
 module _ (halt : Halt) (cs : List Call) (sums : List ℕ) (w : World) where

@@ -13,8 +13,8 @@ use Rattle.leaps.specs.Leaps.{plains, movedOf, run}
 use Rattle.leaps.specs.CallLists.{handedRun, stepOf, runOf}
 use Rattle.leaps.specs.Calls.{handedBackOf, refusalIn, refusedCall}
 use Rattle.leaps.proofs.Along.{plains-along, run-along, moved-along}
-use Rattle.r6501q_step.specs.R6501q.{World, Handed, r6501q, plain, system, machine}
-use Rattle.r6501q_step.proofs.Untouched.{worldWithUntouched, plain-untouched, unaffected}
+use Rattle.r6501q_chip.specs.R6501q.{World, Handed, r6501q, plain, system, machine}
+use Rattle.r6501q_chip.proofs.Untouched.{worldWithUntouched, plain-untouched, unaffected}
 
 -- what a call hands back, with other bytes at 0 to 3Fh of the memory
 abbrev pub handedWithUntouched : List ℕ → Handed → Handed

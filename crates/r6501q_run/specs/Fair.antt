@@ -4,7 +4,7 @@ use mathlib.Core.List.{List}
 use Rattle.cpu_access.specs.declared.halt.Halt.{Halt}
 use Rattle.leaps.specs.Leaps.{plains}
 use Rattle.leaps.specs.CallLists.{Call, calls, clocksAccepted, resultsBy}
-use Rattle.r6501q_step.specs.R6501q.{World, system, machine}
+use Rattle.r6501q_chip.specs.R6501q.{World, system, machine}
 
 -- Of a list of calls, a start, and the halt address, or none, that 02, U4, gives "all calls of a list": what the calls
 -- leave, and the result of each, is what n plain clocks say.

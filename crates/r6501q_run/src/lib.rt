@@ -6,7 +6,7 @@ ghost use Rattle.leaps.specs.CallLists.{runOf, plainRunOf};
 ghost use Rattle.leaps.specs.Lent.{atEntry};
 ghost use Rattle.leaps.specs.Summed.{withSums};
 ghost use Rattle.cpu_opcodes.specs.TableInCode.{opcodeTable};
-ghost use Rattle.r6501q_step.specs.R6501q.{machine};
+ghost use Rattle.r6501q_chip.specs.R6501q.{machine};
 ghost use Rattle.r6501q_step.specs.Calls.{atExit};
 ghost use Rattle.r6501q_leap.specs.RunInCode.{goesOn, runFrom, runEnded, beginRun, Leaping};
 use counters::time::Clocks;

@@ -23,14 +23,16 @@ use Rattle.leaps.specs.Leaps.{run, no-leap}
 use Rattle.leaps.proofs.Laws.{by-leaps-run}
 use Rattle.r6501q_state.specs.declared.state.State.{State}
 use Rattle.r6501q_clock.specs.declared.Clocked.the-variants.{Done}
-use Rattle.r6501q_clock.specs.Commit.{putWrite, committed}
-use Rattle.r6501q_step.specs.R6501q.{system}
-use Rattle.r6501q_step.specs.World.{worldOf}
-use Rattle.r6501q_spans.specs.Spans.{noneWaiting, continuedBy, committedBy, workBy, memoryBy}
+use Rattle.memory_writes.specs.Commit.{putWrite, committed}
+use Rattle.r6501q_chip.specs.R6501q.{system}
+use Rattle.r6501q_advance.specs.World.{worldOf}
+use Rattle.r6501q_spans.specs.Spans.{noneWaiting}
+use Rattle.r6501q_span_work.specs.Work.{continuedBy, committedBy, workBy, memoryBy}
 use Rattle.cpu_access.specs.Halt.{endsSpan}
 use Rattle.r6501q_span_reads.specs.Steady.{outcomeWithin}
-use Rattle.r6501q_spans.specs.Spans.{nextWorking, workAfter, memoryAfter, putWork, putsWithin, workPut}
-use Rattle.r6501q_spans.specs.Spans.{memoryPut}
+use Rattle.r6501q_spans.specs.Spans.{nextWorking, putWork}
+use Rattle.r6501q_span_work.specs.Work.{workAfter, memoryAfter, putsWithin, workPut}
+use Rattle.r6501q_span_work.specs.Work.{memoryPut}
 use Rattle.r6501q_spans.specs.declared.Working.{Working}
 use Rattle.cpu_access.proofs.Ends.{no-writes-end}
 use Rattle.r6501q_spans.proofs.Ticked.{byteWaiting}

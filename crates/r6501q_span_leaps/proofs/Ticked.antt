@@ -29,22 +29,24 @@ use Rattle.leaps.specs.World.{passIn, putRecord, doneIn, plainOf}
 use Rattle.r6501q_state.specs.declared.state.Peripherals.{Peripherals}
 use Rattle.r6501q_state.specs.declared.state.State.{State}
 use Rattle.r6501q_state.specs.Pins.{drivenWord}
-use Rattle.r6501q_gaps.specs.Gaps.{clocksOf, countingA, untilCpu, gapOf, passOf}
+use Rattle.r6501q_events.specs.Gaps.{clocksOf, countingA, untilCpu, gapOf, passOf}
 use Rattle.r6501q_clock.specs.declared.Clocked.the-variants.{Done}
 use Rattle.r6501q_clock.specs.Clock.{endedWith, clockOf}
-use Rattle.r6501q_clock.specs.Commit.{committed}
+use Rattle.memory_writes.specs.Commit.{committed}
 use Rattle.r6501q_unseen.specs.declared.Ticking.{Ticking}
 use Rattle.r6501q_unseen.specs.Unseen.{peripheralsClocks, ticksNext, ticksIn, Unseen, onTick, tickingOf}
 use Rattle.r6501q_unseen.proofs.TickClocks.{on-tick, peripherals-add, ticks-add}
 use Rattle.r6501q_unseen.proofs.Laws.{ticks-one, first-tick, ticks-most}
-use Rattle.r6501q_step.specs.declared.Progress.{Progress}
-use Rattle.r6501q_step.specs.R6501q.{World, r6501q, system}
-use Rattle.r6501q_step.specs.World.{worldOf}
-use Rattle.r6501q_spans.specs.Spans.{beginWork, noneWaiting, nextWorking, workAfter}
+use Rattle.r6501q_advance.specs.declared.Progress.{Progress}
+use Rattle.r6501q_chip.specs.R6501q.{World, r6501q, system}
+use Rattle.r6501q_advance.specs.World.{worldOf}
+use Rattle.r6501q_spans.specs.Spans.{beginWork, noneWaiting, nextWorking}
+use Rattle.r6501q_span_work.specs.Work.{workAfter}
 use Rattle.cpu_access.specs.Halt.{endsSpan}
 use Rattle.r6501q_span_reads.specs.Steady.{outcomeWithin}
-use Rattle.r6501q_spans.specs.Spans.{memoryAfter, putWork, workPut}
-use Rattle.r6501q_spans.specs.Spans.{memoryPut, WorkedOn}
+use Rattle.r6501q_spans.specs.Spans.{putWork}
+use Rattle.r6501q_span_work.specs.Work.{memoryAfter, workPut}
+use Rattle.r6501q_span_work.specs.Work.{memoryPut, WorkedOn}
 use Rattle.r6501q_spans.specs.Ticked.{AloneSeen, tickedState}
 use Rattle.r6501q_spans.specs.declared.Working.{Working}
 use Rattle.cpu_access.proofs.Ends.{ends-neither}
@@ -54,7 +56,7 @@ use Rattle.r6501q_spans.proofs.Ticked.{ticked-waits, tick-gap, cpu-gap, ticked-
 use Rattle.r6501q_spans.proofs.Ticked.{instruction-there, until-put, byte-there}
 use Rattle.r6501q_leap.specs.declared.Leaped.{Leaped}
 use Rattle.r6501q_fast.specs.declared.RanOn.{RanOn}
-use Rattle.r6501q_mnemonics.specs.Attempts as attempts
+use Rattle.cpu_attempts.specs.Attempts as attempts
 use Rattle.r6501q_fast.specs.Instructions as instructions
 use Rattle.r6501q_fast.specs.Instructions.{ByInstructions, sharedBy, RunsOn}
 use Rattle.r6501q_fast.proofs.Instructions.{shared-most}

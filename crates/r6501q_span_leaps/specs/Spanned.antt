@@ -4,8 +4,8 @@ use mathlib.Core.List.{List}
 use Prim.Native.Nat.{ℕ, _+_, _≤_}
 use Rattle.leaps.specs.Leaps.{ByLeaps}
 use Rattle.cpu_access.specs.declared.halt.Halt.{Halt}
-use Rattle.r6501q_step.specs.R6501q.{system}
-use Rattle.r6501q_step.specs.World.{worldOf}
+use Rattle.r6501q_chip.specs.R6501q.{system}
+use Rattle.r6501q_advance.specs.World.{worldOf}
 use Rattle.r6501q_leap.specs.declared.Leaped.{Leaped}
 
 -- `r` is reached from `at` by so many whole leaps of document 01's, each the gap, the gap passed and the event clock,

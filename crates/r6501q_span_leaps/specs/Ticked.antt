@@ -9,11 +9,11 @@ use Rattle.bits.specs.Bits.{oneWhere}
 use Rattle.cpu_access.specs.declared.halt.Halt.{Halt}
 use Rattle.cpu.specs.Work.{WithinSpan}
 use Rattle.r6501q_state.specs.declared.state.State.{State}
-use Rattle.r6501q_gaps.specs.Gaps.{clocksOf}
+use Rattle.r6501q_events.specs.Gaps.{clocksOf}
 use Rattle.r6501q_unseen.specs.declared.Ticking.{Ticking}
 use Rattle.r6501q_unseen.specs.Unseen.{ticksIn, Unseen, onTick}
 use Rattle.r6501q_spans.specs.declared.Working.{Working}
-use Rattle.r6501q_spans.specs.Spans.{WorkedOn}
+use Rattle.r6501q_span_work.specs.Work.{WorkedOn}
 use Rattle.r6501q_spans.specs.Ticked.{AloneSeen, tickedState}
 use Rattle.r6501q_fast.specs.declared.RanOn.{RanOn}
 use Rattle.r6501q_fast.specs.Instructions.{RunsOn}

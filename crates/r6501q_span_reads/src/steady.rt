@@ -6,7 +6,7 @@ ghost use Rattle.r6501q_span_reads.specs.Steady.{steadyAt, steadyAsk, an
 ghost use Rattle.cpu.specs.declared.Outcome.the-variants.{Asked};
 use cpu::Ask;
 use cpu::Outcome;
-use cpu::work::one_outcome;
+use cpu::instruction;
 use cpu_access::CpuRegisters;
 use r6501q_registers::addresses::SERIAL_DATA;
 use r6501q_registers::addresses::START_B;
@@ -40,7 +40,7 @@ fn answered_once(
 {
     if steady_ask(ask) {
         let answers = [value(s.peripherals, s.last.ports, ask.modify, ask.address)];
-        return one_outcome(registers, &answers, memory, entries);
+        return instruction(registers, &answers, memory, entries);
     }
     Outcome::Asked(ask)
 }
@@ -52,7 +52,7 @@ pub fn outcome_within(s: State, registers: CpuRegisters, memory: &[u8], entries:
     ensures { λ r. ⌜ r ≡ outcomeWithin s registers (now (memory .entry)) ⌝ }
 {
     let answers = [0u8; 0];
-    let outcome = one_outcome(registers, &answers, memory, entries);
+    let outcome = instruction(registers, &answers, memory, entries);
     match outcome {
         Outcome::Stopped(number) => Outcome::Stopped(number),
         Outcome::Asked(ask) => answered_once(s, ask, registers, memory, entries),

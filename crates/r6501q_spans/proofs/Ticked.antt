@@ -43,13 +43,13 @@ use Rattle.r6501q_cpu.proofs.Answered.{instruction-answered}
 use Rattle.r6501q_cpu.proofs.Ranges.{never-both}
 use Rattle.r6501q_cpu.proofs.Stores.{clock-waits, waited-less, instruction-starts, byte-put}
 use Rattle.pin_lists.specs.PinLists.{inputCount}
-use Rattle.r6501q_gaps.specs.Events.{levelsChange, resetChanges}
-use Rattle.r6501q_gaps.specs.Gaps.{clocksOf, countingA, countingB, toInput, toChange, toUnderflowA, toUnderflowB}
-use Rattle.r6501q_gaps.specs.Gaps.{toReset}
-use Rattle.r6501q_gaps.specs.Gaps.{untilCpu, toCpu, gapOf, waitAfter, passCounters, passOf}
-use Rattle.r6501q_gaps.proofs.Same.{same-levels}
-use Rattle.r6501q_gaps.proofs.Quiet.{not-put, not-over, before-cpu-peripherals}
-use Rattle.r6501q_gaps.proofs.Gaps.{no-event, no-input-next}
+use Rattle.r6501q_events.specs.Events.{levelsChange, resetChanges}
+use Rattle.r6501q_events.specs.Gaps.{clocksOf, countingA, countingB, toInput, toChange, toUnderflowA, toUnderflowB}
+use Rattle.r6501q_events.specs.Gaps.{toReset}
+use Rattle.r6501q_events.specs.Gaps.{untilCpu, toCpu, gapOf, waitAfter, passCounters, passOf}
+use Rattle.r6501q_events.proofs.Same.{same-levels}
+use Rattle.r6501q_events.proofs.Quiet.{not-put, not-over, before-cpu-peripherals}
+use Rattle.r6501q_events.proofs.Gaps.{no-event, no-input-next}
 use Rattle.r6501q_clock.specs.declared.Clocked.the-variants.{Done}
 use Rattle.r6501q_clock.specs.Clock.{beforeCpu, peripheralsClock, endedWith, finished, clockOf}
 use Rattle.r6501q_unseen.specs.Unseen.{peripheralsClocks, ticksIn, SameSeen, Unseen}

@@ -7,8 +7,8 @@ use Rattle.cpu_alu.specs.Status.{packed, unpacked}
 use Rattle.r6501q_state.specs.declared.state.State.{State}
 use Rattle.r6501q_state.specs.Control.{pending}
 use Rattle.r6501q_cpu.specs.Processor.{cpuOf}
-use Rattle.r6501q_gaps.specs.Events.{levelsChange}
-use Rattle.r6501q_gaps.specs.Gaps.{toInput}
+use Rattle.r6501q_events.specs.Events.{levelsChange}
+use Rattle.r6501q_events.specs.Gaps.{toInput}
 use Rattle.r6501q_unseen.specs.Unseen.{peripheralsClocks, Unseen}
 use Rattle.r6501q_spans.specs.declared.Working.{Working}
 

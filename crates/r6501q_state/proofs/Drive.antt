@@ -5,7 +5,7 @@ use Prim.Native.Nat.{ℕ}
 use Rattle.bits.specs.Bits.{bit, withBit}
 use Rattle.bits.proofs.Bits.{bit-put, bit-above, bit-below}
 use Rattle.serial_format.specs.Format.{transmitterShifts}
-use Rattle.serial.specs.Transmitter.{line, shiftClock}
+use Rattle.serial_transmitter.specs.Transmitter.{line, shiftClock}
 use Rattle.r6501q_state.specs.declared.state.Peripherals.{Peripherals}
 use Rattle.r6501q_state.specs.Pins.{withShiftClock, driveA}
 

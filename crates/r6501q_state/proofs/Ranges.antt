@@ -8,8 +8,8 @@ use borrow.Author.Tests.{ltb-true, lt-ltb, not-true}
 use Rattle.bits.specs.Bits.{withBit, setWhere}
 use Rattle.bits.proofs.Cond.{and-left, and-right, and-both, cond-both}
 use Rattle.bits.proofs.Bits.{bit-room}
-use Rattle.serial.specs.Transmitter.{transmitterFits}
-use Rattle.serial.specs.Receiver.{receiverFits}
+use Rattle.serial_transmitter.specs.Transmitter.{transmitterFits}
+use Rattle.serial_receiver.specs.Receiver.{receiverFits}
 use Rattle.cpu_access.specs.declared.stack.Write.{Write}
 use Rattle.cpu_access.specs.declared.waiting.Waiting.the-variants.{Nothing, Byte}
 use Rattle.cpu_access.specs.Waiting.{byteWaits}

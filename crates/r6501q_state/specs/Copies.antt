@@ -3,8 +3,8 @@ use Prim.Native.Nat.{ℕ}
 use Rattle.cpu_access.specs.declared.waiting.Waiting.{Waiting}
 use Rattle.counters.specs.declared.a.CounterA.{CounterA}
 use Rattle.counters.specs.declared.b.CounterB.{CounterB}
-use Rattle.serial.specs.declared.transmitter.Transmitter.{Transmitter}
-use Rattle.serial.specs.declared.receiver.Receiver.{Receiver}
+use Rattle.serial_transmitter.specs.declared.Transmitter.{Transmitter}
+use Rattle.serial_receiver.specs.declared.Receiver.{Receiver}
 use Rattle.r6501q_state.specs.declared.state.Cpu.{Cpu}
 use Rattle.r6501q_state.specs.declared.state.Ports.{Ports}
 use Rattle.r6501q_state.specs.declared.state.Control.{Control}

@@ -4,10 +4,10 @@ use Prim.Native.Nat.{ℕ, _+_, _*_}
 use lib.Bits.{bitAnd}
 use Rattle.bits.specs.Bits.{bit, withBit, setWhere}
 use Rattle.cpu_access.specs.declared.waiting.Waiting.the-variants.{Nothing}
-use Rattle.serial.specs.declared.transmitter.Transmitter.{Transmitter}
+use Rattle.serial_transmitter.specs.declared.Transmitter.{Transmitter}
 use Rattle.serial_format.specs.Format.{transmitterShifts}
-use Rattle.serial.specs.Transmitter.{line, shiftClock, idleTransmitter}
-use Rattle.serial.specs.Receiver.{idleReceiver}
+use Rattle.serial_transmitter.specs.Transmitter.{line, shiftClock, idleTransmitter}
+use Rattle.serial_receiver.specs.Receiver.{idleReceiver}
 use Rattle.r6501q_state.specs.declared.state.Due.{Due}
 use Rattle.r6501q_state.specs.declared.state.Peripherals.{Peripherals}
 use Rattle.r6501q_state.specs.declared.state.Levels.{Levels}

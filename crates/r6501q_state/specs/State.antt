@@ -4,8 +4,8 @@ use Prim.Native.Nat.{ℕ, _/_, _%_}
 use lib.Dec.{leb, ltb, eqb}
 use Rattle.cpu_access.specs.declared.waiting.Waiting.the-variants.{Nothing}
 use Rattle.cpu_access.specs.Waiting.{byteWaits}
-use Rattle.serial.specs.Transmitter.{idleTransmitter, transmitterFits}
-use Rattle.serial.specs.Receiver.{idleReceiver, receiverFits}
+use Rattle.serial_transmitter.specs.Transmitter.{idleTransmitter, transmitterFits}
+use Rattle.serial_receiver.specs.Receiver.{idleReceiver, receiverFits}
 use Rattle.r6501q_state.specs.declared.state.Cpu.{Cpu}
 use Rattle.r6501q_state.specs.declared.state.Due.{Due}
 use Rattle.r6501q_state.specs.declared.state.Ports.{Ports}

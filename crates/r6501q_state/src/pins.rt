@@ -3,16 +3,16 @@ ghost use mathlib.Core.Path.{_≡_};
 ghost use Prim.Native.Nat.{_<_};
 ghost use Rattle.r6501q_state.specs.Pins.{driveA, driveD, wordOf, drivenWord, levelsOf, rose, fell, edges};
 ghost use Rattle.r6501q_state.specs.Pins.{resetPeripherals, resetOf, withEdges, sensed};
+use cpu_access::waiting::Waiting;
 use crate::state::Levels;
 use crate::state::Peripherals;
 use crate::state::State;
 use crate::state::fresh_control;
 use crate::state::fresh_ports;
-use cpu_access::waiting::Waiting;
-use serial::receiver::idle_receiver;
-use serial::transmitter::idle_transmitter;
 use serial_format::transmitter_on;
 use serial_format::transmitter_shifts;
+use serial_receiver::idle_receiver;
+use serial_transmitter::idle_transmitter;
 
 // MCR5, which makes port D an output, by weight.
 

@@ -7,10 +7,10 @@ use counters::a::CounterA;
 use counters::b::CounterB;
 use cpu_access::waiting::Waiting;
 use cpu_access::waiting::byte_waits;
-use serial::receiver::Receiver;
-use serial::receiver::idle_receiver;
-use serial::transmitter::Transmitter;
-use serial::transmitter::idle_transmitter;
+use serial_receiver::Receiver;
+use serial_receiver::idle_receiver;
+use serial_transmitter::Transmitter;
+use serial_transmitter::idle_transmitter;
 
 // The CPU's registers, the clocks that the present instruction still takes, and the byte that it puts on the last.
 pub struct Cpu {

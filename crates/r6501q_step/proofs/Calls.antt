@@ -15,9 +15,9 @@ use Rattle.leaps.specs.CallLists.{stepOf}
 use Rattle.leaps.specs.Calls.{callStart, handedBackOf}
 use Rattle.r6501q_state.specs.declared.state.State.{State}
 use Rattle.r6501q_state.specs.State.{wellFormed}
-use Rattle.r6501q_step.specs.declared.Progress.{Progress}
-use Rattle.r6501q_step.specs.R6501q.{World, r6501qLimits, plain, machine}
-use Rattle.r6501q_step.specs.World.{worldOf, Going}
+use Rattle.r6501q_advance.specs.declared.Progress.{Progress}
+use Rattle.r6501q_chip.specs.R6501q.{World, r6501qLimits, plain, machine}
+use Rattle.r6501q_advance.specs.World.{worldOf, Going}
 use Rattle.r6501q_step.specs.Calls.{handed, begin, refusalResult, progressResult, leapsFrom}
 
 module _ (s : State) (memory clocks codes times words : List ℕ)

@@ -6,9 +6,9 @@ use denote.Ref.{now}
 use Rattle.bits.specs.Bits.{oneWhere}
 use Rattle.leaps.specs.Lent.{Lent}
 use Rattle.r6501q_state.specs.declared.state.State.{State}
-use Rattle.r6501q_step.specs.declared.Progress.{Progress}
+use Rattle.r6501q_advance.specs.declared.Progress.{Progress}
 use Rattle.r6501q_step.specs.declared.CallResult.{CallResult}
-use Rattle.r6501q_step.specs.R6501q.{Handed, Result}
+use Rattle.r6501q_chip.specs.R6501q.{Handed, Result}
 
 -- the result that the code's struct is
 abbrev pub resultFrom : CallResult → Result

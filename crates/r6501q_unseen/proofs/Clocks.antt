@@ -17,8 +17,8 @@ use Rattle.r6501q_state.specs.Copies.{withCounterA, withCounterB}
 use Rattle.r6501q_state.specs.Control.{modeA}
 use Rattle.r6501q_state.specs.Pins.{rose, driveA, driveD, drivenWord}
 use Rattle.r6501q_clock.specs.Clock.{countA, countB, sentBy, heardBy, peripheralsClock}
-use Rattle.r6501q_gaps.specs.Gaps.{clocksOf, countingA, countingB}
-use Rattle.r6501q_gaps.proofs.Quiet.{no-rise, above-zero, counted-b-quiet, peripherals-quiet}
+use Rattle.r6501q_events.specs.Gaps.{clocksOf, countingA, countingB}
+use Rattle.r6501q_events.proofs.Quiet.{no-rise, above-zero, counted-b-quiet, peripherals-quiet}
 use Rattle.r6501q_unseen.specs.Ticks.{underflowsIn, counterAfter, unseenSends, sentAfter, unseenListens}
 use Rattle.r6501q_unseen.specs.Ticks.{heardAfter, underflowUnseen, unseenTicks}
 use Rattle.r6501q_unseen.specs.Unseen.{peripheralsClocks, ticksNext, ticksIn, SameSeen, Unseen}

@@ -13,8 +13,8 @@ use Rattle.counters.specs.declared.a.CountedA.{CountedA}
 use Rattle.counters.specs.Counters.{clockA, countsA, downA, countsThroughA, atA, countedA}
 use Rattle.r6501q_state.specs.declared.state.Peripherals.{Peripherals}
 use Rattle.r6501q_clock.specs.Clock.{countA, countB, sentBy, heardBy, peripheralsClock}
-use Rattle.r6501q_gaps.specs.Gaps.{countingA}
-use Rattle.r6501q_gaps.proofs.Quiet.{no-rise}
+use Rattle.r6501q_events.specs.Gaps.{countingA}
+use Rattle.r6501q_events.proofs.Quiet.{no-rise}
 use Rattle.r6501q_unseen.specs.Ticks.{underflowsIn, countAfter, counterAfter}
 use Rattle.r6501q_unseen.specs.Unseen.{peripheralsClocks, ticksNext, ticksIn}
 

@@ -14,9 +14,9 @@ use Rattle.counters.specs.Counters.{passA, passB}
 use Rattle.counters.proofs.Gaps.{pass-add-a, pass-add-b}
 use Rattle.r6501q_state.specs.declared.state.Peripherals.{Peripherals}
 use Rattle.r6501q_clock.specs.Clock.{countA, sentBy, heardBy, peripheralsClock}
-use Rattle.r6501q_gaps.specs.Gaps.{clocksOf, countingA, countingB, passCounters}
-use Rattle.r6501q_gaps.proofs.Quiet.{not-at-zero, counted-b-quiet, peripherals-quiet}
-use Rattle.r6501q_gaps.proofs.Passing.{zero-a, zero-b}
+use Rattle.r6501q_events.specs.Gaps.{clocksOf, countingA, countingB, passCounters}
+use Rattle.r6501q_events.proofs.Quiet.{not-at-zero, counted-b-quiet, peripherals-quiet}
+use Rattle.r6501q_events.proofs.Passing.{zero-a, zero-b}
 use Rattle.r6501q_unseen.proofs.TickClocks.{peripherals-add, ticks-add}
 use Rattle.r6501q_unseen.specs.Unseen.{peripheralsClocks, ticksNext, ticksIn, Unseen}
 

@@ -9,10 +9,10 @@ use borrow.Author.Tests.{ltb-true, ltb-false, lt-ltb, leb-true, le-leb, eq-eqb, 
 use Rattle.bits.specs.Bits.{bit, oneWhere}
 use Rattle.bits.proofs.Cond.{one-where-le, and-left, and-right}
 use Rattle.counters.specs.Counters.{ticksOf}
-use Rattle.serial.specs.declared.receiver.Receiver.{Receiver}
+use Rattle.serial_receiver.specs.declared.Receiver.{Receiver}
 use Rattle.serial_format.specs.Format.{receiverAsynchronous}
-use Rattle.serial.specs.Receiver.{receiving, atHalf, withLevel, startDetected, lookTaken, looked, receiveTick}
-use Rattle.serial.specs.Receiver.{receiverClock}
+use Rattle.serial_receiver.specs.Receiver.{receiving, atHalf, withLevel, startDetected, lookTaken, looked, receiveTick}
+use Rattle.serial_receiver.specs.Receiver.{receiverClock}
 use Rattle.r6501q_unseen.specs.Ticks.{unseenLooks, unseenListens, withLevels, waitedLooks, lookedFor, heardAfter}
 
 -- ---- one look

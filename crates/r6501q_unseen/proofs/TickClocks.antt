@@ -11,7 +11,7 @@ use Rattle.counters.specs.declared.a.CounterA.{CounterA}
 use Rattle.counters.specs.Counters.{downA}
 use Rattle.r6501q_state.specs.declared.state.Peripherals.{Peripherals}
 use Rattle.r6501q_clock.specs.Clock.{peripheralsClock}
-use Rattle.r6501q_gaps.specs.Gaps.{countingA}
+use Rattle.r6501q_events.specs.Gaps.{countingA}
 use Rattle.r6501q_unseen.specs.declared.Ticking.{Ticking}
 use Rattle.r6501q_unseen.specs.Unseen.{peripheralsClocks, ticksNext, ticksIn, onTick, tickingOf}
 use Rattle.r6501q_unseen.proofs.CounterA.{stepped-a, stepped-counting, counting-closed}

@@ -8,10 +8,10 @@ use lib.Dec.{ltb, eqb}
 use borrow.Author.Tests.{lt-ltb, ne-eqb}
 use Rattle.bits.specs.Bits.{bit, withBit}
 use Rattle.counters.specs.Counters.{ticksOf}
-use Rattle.serial.specs.declared.transmitter.Transmitter.{Transmitter}
+use Rattle.serial_transmitter.specs.declared.Transmitter.{Transmitter}
 use Rattle.serial_format.specs.Format.{pace}
-use Rattle.serial.specs.Transmitter.{sending, idleTick, nextPhase, ticked, bitTick, sendTick, transmitterClock, line}
-use Rattle.serial.specs.Transmitter.{shiftClock}
+use Rattle.serial_transmitter.specs.Transmitter.{sending, idleTick, nextPhase, ticked, bitTick, sendTick, transmitterClock, line}
+use Rattle.serial_transmitter.specs.Transmitter.{shiftClock}
 use Rattle.r6501q_state.specs.Pins.{withShiftClock}
 use Rattle.r6501q_unseen.specs.Ticks.{mostTicks, unseenSends, atPhase, sends, sentAfter}
 

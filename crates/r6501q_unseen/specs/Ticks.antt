@@ -6,11 +6,11 @@ use lib.Dec.{leb, ltb, eqb}
 use Rattle.bits.specs.Bits.{bit, oneWhere}
 use Rattle.counters.specs.declared.a.CounterA.{CounterA}
 use Rattle.counters.specs.Counters.{atA}
-use Rattle.serial.specs.declared.transmitter.Transmitter.{Transmitter}
-use Rattle.serial.specs.declared.receiver.Receiver.{Receiver}
+use Rattle.serial_transmitter.specs.declared.Transmitter.{Transmitter}
+use Rattle.serial_receiver.specs.declared.Receiver.{Receiver}
 use Rattle.serial_format.specs.Format.{transmitterShifts, receiverAsynchronous}
 use Rattle.serial_format.specs.ScsrBits.{transmitterEmpty}
-use Rattle.serial.specs.Receiver.{withLevel}
+use Rattle.serial_receiver.specs.Receiver.{withLevel}
 use Rattle.r6501q_state.specs.declared.state.Control.{Control}
 use Rattle.r6501q_state.specs.declared.state.Peripherals.{Peripherals}
 use Rattle.r6501q_state.specs.Control.{modeInForce}

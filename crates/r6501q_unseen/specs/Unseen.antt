@@ -8,7 +8,7 @@ use Rattle.bits.specs.Bits.{oneWhere}
 use Rattle.r6501q_state.specs.declared.state.Peripherals.{Peripherals}
 use Rattle.r6501q_state.specs.Pins.{drivenWord}
 use Rattle.r6501q_clock.specs.Clock.{peripheralsClock}
-use Rattle.r6501q_gaps.specs.Gaps.{countingA, countingB}
+use Rattle.r6501q_events.specs.Gaps.{countingA, countingB}
 use Rattle.r6501q_unseen.specs.declared.Ticking.{Ticking}
 use Rattle.r6501q_unseen.specs.Ticks.{unseenTicks}
 

@@ -7,7 +7,7 @@ mod transmitter; // transmitter.rt: the transmitter over ticks
 ghost use mathlib.Core.Path.{_≡_};
 ghost use mathlib.Core.Bool.{true};
 ghost use Prim.Native.Nat.{_≤_, _<_};
-ghost use Rattle.r6501q_gaps.specs.Gaps.{countingB};
+ghost use Rattle.r6501q_events.specs.Gaps.{countingB};
 ghost use Rattle.r6501q_unseen.specs.Ticks.{mostTicks, underflowUnseen, unseenTicks};
 ghost use Rattle.r6501q_unseen.specs.Unseen.{peripheralsClocks, ticksIn, Unseen, tickingOf, onTick};
 use counter::clocks_before;

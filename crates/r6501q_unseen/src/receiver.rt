@@ -4,9 +4,9 @@ ghost use mathlib.Core.Bool.{true, false};
 ghost use Prim.Native.Nat.{_+_, _-_, _*_, _≤_, _<_};
 ghost use Rattle.r6501q_unseen.specs.Ticks.{mostTicks, mostLooks, unseenLooks, unseenListens, withLevels};
 ghost use Rattle.r6501q_unseen.specs.Ticks.{waitedFor, takenFor, heardAfter};
-use serial::receiver::Receiver;
-use serial::receiver::with_level;
 use serial_format::receiver_asynchronous;
+use serial_receiver::Receiver;
+use serial_receiver::with_level;
 
 // The most ticks that are passed together, and the looks in them.
 pub const MOST_TICKS: u32 = 32767;

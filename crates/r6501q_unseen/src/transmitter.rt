@@ -4,10 +4,10 @@ ghost use mathlib.Core.Bool.{true};
 ghost use Prim.Native.Nat.{_-_, _≤_};
 ghost use Rattle.r6501q_unseen.specs.Ticks.{mostTicks, unseenSends, sends, sentAfter};
 use crate::receiver::MOST_TICKS;
-use serial::transmitter::Transmitter;
 use serial_format::scsr::TRANSMITTER_EMPTY_WEIGHT;
 use serial_format::transmitter_on;
 use serial_format::transmitter_shifts;
+use serial_transmitter::Transmitter;
 
 // Ticks that cannot be seen: before a bit ends, or all where no bit is left and no data waits.
 pub fn unseen_sends(t: Transmitter, sccr: u8, scsr: u8) -> u32

@@ -20,9 +20,9 @@ use Rattle.r6501q_state.specs.State.{fresh, wellFormed}
 use Rattle.r6501q_state.specs.Inputs.{lastPin, resHigh}
 use Rattle.r6501q_state.proofs.Ranges.{fresh-formed}
 use Rattle.r6501q_step.specs.declared.CallResult.{CallResult}
-use Rattle.r6501q_step.specs.R6501q.{World, Handed, r6501qLimits, r6501q, system, machine}
+use Rattle.r6501q_chip.specs.R6501q.{World, Handed, r6501qLimits, r6501q, system, machine}
 use Rattle.r6501q_step.specs.Calls.{handed}
-use Rattle.r6501q_step.proofs.Released.{oldStart}
+use Rattle.r6501q_chip.proofs.Released.{oldStart}
 use Rattle.r6501q_leap.proofs.Laws.{laws, lawful}
 use Rattle.r6501q_run.proofs.Held.{released-plains}
 use Rattle.tape.specs.declared.LoadResult.{LoadResult}

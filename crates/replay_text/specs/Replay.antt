@@ -12,7 +12,7 @@ use Rattle.r6501q_state.specs.State.{fresh}
 use Rattle.r6501q_state.specs.Inputs.{resHigh}
 use Rattle.leaps.specs.Leaps.{plains}
 use Rattle.leaps.specs.Calls.{callStart}
-use Rattle.r6501q_step.specs.R6501q.{World, system}
+use Rattle.r6501q_chip.specs.R6501q.{World, system}
 use Rattle.tape.specs.Tapes.{loadOf}
 use Rattle.record_text.specs.Lines.{endLine, outcomeLines}
 

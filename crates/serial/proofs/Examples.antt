@@ -7,15 +7,15 @@ use Rattle.bits.specs.Bits.{withBit, setWhere}
 use Rattle.counters.specs.declared.a.CounterA.{CounterA}
 use Rattle.counters.specs.declared.a.CountedA.{CountedA}
 use Rattle.counters.specs.Counters.{clockA, countsA, downA, ticksOf, inForce}
-use Rattle.serial.specs.declared.transmitter.Sending.{Sending}
-use Rattle.serial.specs.declared.receiver.Receiver.{Receiver}
-use Rattle.serial.specs.declared.receiver.Receiving.{Receiving}
+use Rattle.serial_transmitter.specs.declared.Sending.{Sending}
+use Rattle.serial_receiver.specs.declared.Receiver.{Receiver}
+use Rattle.serial_receiver.specs.declared.Receiving.{Receiving}
 use Rattle.serial_format.specs.Format.{receiverAsynchronous, receiverShifting, holdsA, frameBits, pace}
-use Rattle.serial.specs.Transmitter.{sentBits}
-use Rattle.serial.specs.Transmitter.{sending, transmitterClock, sendTick, idleTick, nextPhase, ticked, bitTick}
-use Rattle.serial.specs.Transmitter.{frameEnd, taken, framed, line, shiftClock, idleTransmitter}
-use Rattle.serial.specs.Receiver.{receiverClock, receiveTick, looked, startDetected, receiving, idleReceiver}
-use Rattle.serial.specs.Receiver.{withLevel, shiftedAtRise, receiveRise, byteEnded, keptWith, scsrAfter}
+use Rattle.serial_transmitter.specs.Transmitter.{sentBits}
+use Rattle.serial_transmitter.specs.Transmitter.{sending, transmitterClock, sendTick, idleTick, nextPhase, ticked, bitTick}
+use Rattle.serial_transmitter.specs.Transmitter.{frameEnd, taken, framed, line, shiftClock, idleTransmitter}
+use Rattle.serial_receiver.specs.Receiver.{receiverClock, receiveTick, looked, startDetected, receiving, idleReceiver}
+use Rattle.serial_receiver.specs.Receiver.{withLevel, shiftedAtRise, receiveRise, byteEnded, keptWith, scsrAfter}
 
 -- counter A with its latch, and the transmitter that it drives
 pub record Driven : Type 0 where

@@ -14,19 +14,19 @@ use Rattle.bits.specs.Lists.{bitsOf, numberOfBits}
 use Rattle.bits.proofs.Cond.{and-left, and-right, and-both, cond-both, one-where-le}
 use Rattle.bits.proofs.Numbers.{number-lt}
 use Rattle.counters.specs.declared.time.Ticks.{Ticks}
-use Rattle.serial.specs.declared.transmitter.Transmitter.{Transmitter}
-use Rattle.serial.specs.declared.transmitter.Sending.{Sending}
-use Rattle.serial.specs.declared.receiver.Receiver.{Receiver}
-use Rattle.serial.specs.declared.receiver.Receiving.{Receiving}
+use Rattle.serial_transmitter.specs.declared.Transmitter.{Transmitter}
+use Rattle.serial_transmitter.specs.declared.Sending.{Sending}
+use Rattle.serial_receiver.specs.declared.Receiver.{Receiver}
+use Rattle.serial_receiver.specs.declared.Receiving.{Receiving}
 use Rattle.serial_format.specs.Format.{transmitterShifts, receiverAsynchronous, receiverShifting, keepsTransmitter}
 use Rattle.serial_format.specs.Format.{keepsReceiver, width, hasParity, frameBits, pace}
-use Rattle.serial.specs.Transmitter.{sentBits}
-use Rattle.serial.specs.Transmitter.{transmitterFits, sending, framed, taken, idleTick, frameEnd, nextPhase}
-use Rattle.serial.specs.Transmitter.{ticked, bitTick, sendTick, transmitterClock, raised, shiftedDown}
-use Rattle.serial.specs.Transmitter.{transmitterWithSccr, idleTransmitter}
-use Rattle.serial.specs.Receiver.{receiverFits, receiving, atSub, atHalf, started, shiftedIn, startDetected}
-use Rattle.serial.specs.Receiver.{withLevel, keptWith, frameEnded, lookTaken, looked, receiveTick, shiftedAtRise}
-use Rattle.serial.specs.Receiver.{byteEnded, receiveRise, receiverClock, receiverWithSccr, idleReceiver}
+use Rattle.serial_transmitter.specs.Transmitter.{sentBits}
+use Rattle.serial_transmitter.specs.Transmitter.{transmitterFits, sending, framed, taken, idleTick, frameEnd, nextPhase}
+use Rattle.serial_transmitter.specs.Transmitter.{ticked, bitTick, sendTick, transmitterClock, raised, shiftedDown}
+use Rattle.serial_transmitter.specs.Transmitter.{transmitterWithSccr, idleTransmitter}
+use Rattle.serial_receiver.specs.Receiver.{receiverFits, receiving, atSub, atHalf, started, shiftedIn, startDetected}
+use Rattle.serial_receiver.specs.Receiver.{withLevel, keptWith, frameEnded, lookTaken, looked, receiveTick, shiftedAtRise}
+use Rattle.serial_receiver.specs.Receiver.{byteEnded, receiveRise, receiverClock, receiverWithSccr, idleReceiver}
 use Rattle.serial_format.proofs.Frames.{frame-length}
 
 -- the ranges as facts

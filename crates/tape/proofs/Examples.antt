@@ -6,8 +6,8 @@ use Prim.Native.Char.{code}
 use Prim.Native.String.{String, [], _∷_}
 use lib.ListN.{length, set}
 use Rattle.page_sums.specs.PageSums.{totalOf}
-use Rattle.tape.specs.Digits.{isDigit, valueOf, numberFrom, byteOf, bytesOf}
-use Rattle.tape.specs.Records.{byteCountOf, addressOf, sumOf, checkSumOf, areDigits, malformed, faultOf, dataOf}
+use Rattle.tape_records.specs.Digits.{isDigit, valueOf, numberFrom, byteOf, bytesOf}
+use Rattle.tape_records.specs.Records.{byteCountOf, addressOf, sumOf, checkSumOf, areDigits, malformed, faultOf, dataOf}
 use Rattle.memory.specs.Memory.{memoryLength}
 use Rattle.tape.specs.Tapes.{loadResult, endedBy, recordBy, checkFrom, checkOf, putFrom, landed, landedAll}
 use Rattle.tape.specs.Tapes.{loaded, loadOf}

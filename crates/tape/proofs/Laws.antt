@@ -12,14 +12,14 @@ use lib.ListN.{length, take, drop, set}
 use Rattle.bits.specs.Lists.{allOf}
 use Rattle.bits.proofs.Cond.{cond-both}
 use Rattle.tape.specs.declared.LoadResult.{LoadResult}
-use Rattle.tape.specs.Digits.{isDigit, bytesOf}
-use Rattle.tape.specs.Records.{mark, recordLength, byteCountOf, addressOf, faultOf, dataOf}
+use Rattle.tape_records.specs.Digits.{isDigit, bytesOf}
+use Rattle.tape_records.specs.Records.{mark, recordLength, byteCountOf, addressOf, faultOf, dataOf}
 use Rattle.memory.specs.Memory.{memoryLength, registerEnd, withUntouched}
 use Rattle.memory.proofs.Untouched.{untouched-set, untouched-length}
 use Rattle.tape.specs.Tapes.{loadResult, endedBy, recordBy, checkFrom, checkOf, putFrom, landed, landedAll}
 use Rattle.tape.specs.Tapes.{Loaded, loaded, loadOf}
-use Rattle.tape.proofs.DigitLaws.{and-true}
-use Rattle.tape.proofs.RecordLaws.{good}
+use Rattle.tape_records.proofs.DigitLaws.{and-true}
+use Rattle.tape_records.proofs.RecordLaws.{good}
 use Rattle.tape.proofs.MemoryLaws.{length-puts, take-puts}
 
 -- what each landing keeps, the store of a tape keeps

@@ -12,9 +12,9 @@ use lib.Seq.{take-set-le, drop-set-add, take-at, drop-at, take-all, length-take-
 use Rattle.bits.proofs.Cond.{cond-both}
 use Rattle.page_sums.specs.PageSums.{sumsAfterPart, sumsAfter}
 use Rattle.page_sums.proofs.Sums.{sums-beside}
-use Rattle.tape.specs.Digits.{byteOf, bytesOf}
+use Rattle.tape_records.specs.Digits.{byteOf, bytesOf}
 use Rattle.tape.specs.Tapes.{putFrom}
-use Rattle.tape.proofs.DigitLaws.{bytes-next, bytes-end}
+use Rattle.tape_records.proofs.DigitLaws.{bytes-next, bytes-end}
 
 -- one byte at an address, unless it is below `least`
 abbrev pub putAt : ℕ → ℕ → ℕ → List ℕ → List ℕ

@@ -11,13 +11,13 @@ use lib.Dec.{eqb}
 use lib.ListN.{length, take, drop, getD, length-drop, drop-of-length-le}
 use lib.Seq.{drop-cons, take-all}
 use Rattle.tape.specs.declared.LoadResult.{LoadResult}
-use Rattle.tape.specs.Digits.{bytesOf}
+use Rattle.tape_records.specs.Digits.{bytesOf}
 use Rattle.bits.specs.Bits.{oneWhere}
 use Rattle.bits.proofs.Cond.{cond-both}
-use Rattle.tape.specs.Records.{mark, byteCountOf, addressOf, faultOf, dataOf, dataAt}
+use Rattle.tape_records.specs.Records.{mark, byteCountOf, addressOf, faultOf, dataOf, dataAt}
 use Rattle.memory.specs.Memory.{memoryLength, registerEnd}
 use Rattle.tape.specs.Tapes.{loadResult, endedBy, recordBy, checkFrom, putFrom, landed, landedAll}
-use Rattle.tape.proofs.RecordLaws.{address-most, data-room}
+use Rattle.tape_records.proofs.RecordLaws.{address-most, data-room}
 
 -- a part to the end, as it is lent
 pub to-end : (l : List ℕ) (k : ℕ) → take (length l - k) (drop k l) ≡ drop k l

@@ -8,8 +8,8 @@ use Rattle.bits.specs.Bits.{oneWhere}
 use Rattle.memory.specs.Memory.{memoryLength, registerEnd}
 use Rattle.page_sums.specs.PageSums.{pageListRefused}
 use Rattle.tape.specs.declared.LoadResult.{LoadResult}
-use Rattle.tape.specs.Digits.{bytesOf}
-use Rattle.tape.specs.Records.{mark, byteCountOf, addressOf, faultOf, dataOf}
+use Rattle.tape_records.specs.Digits.{bytesOf}
+use Rattle.tape_records.specs.Records.{mark, byteCountOf, addressOf, faultOf, dataOf}
 
 -- a number of "What is handed back", and a place: the index of a record's `;`, the tape's length for a missing last
 -- record, the place past the last record of an accepted tape, or 0 with number 1

@@ -1,11 +1,11 @@
 // Bytes into memory, and into its page sums.
-use crate::digits::byte;
 use memory::REGISTER_END;
 use page_sums::commit_byte;
+use tape_records::digits::byte;
 ghost use mathlib.Core.Path.{_≡_};
 ghost use Prim.Native.Nat.{_+_, _-_, _*_, _^_, _<_, _≤_};
 ghost use lib.ListN.{length};
-ghost use Rattle.tape.specs.Digits.{bytesOf};
+ghost use Rattle.tape_records.specs.Digits.{bytesOf};
 ghost use Rattle.tape.specs.Tapes.{putFrom};
 ghost use Rattle.memory.specs.Memory.{registerEnd};
 ghost use Rattle.page_sums.specs.PageSums.{sumsAfterPart, sumsAfter};

@@ -1,20 +1,18 @@
 // A paper tape loaded into memory.
-mod digits;
 mod landing;
-mod record;
 
 use landing::land;
 use memory::MEMORY_LENGTH;
 use page_sums::WRONG_PAGE_LIST;
 use page_sums::page_list_refused;
-use record::address;
-use record::count;
-use record::data_digits;
-use record::fault;
+use tape_records::record::address;
+use tape_records::record::count;
+use tape_records::record::data_digits;
+use tape_records::record::fault;
 ghost use mathlib.Core.Path.{_≡_};
 ghost use Prim.Native.Nat.{_+_, _<_, _^_};
 ghost use lib.ListN.{length};
-ghost use Rattle.tape.specs.Records.{dataAt};
+ghost use Rattle.tape_records.specs.Records.{dataAt};
 ghost use Rattle.memory.specs.Memory.{memoryLength};
 ghost use Rattle.page_sums.specs.PageSums.{sumsAfter};
 ghost use Rattle.tape.specs.Tapes.{endedBy, checkOf, landedAll, loaded, loadOf, loadWithSumsOf};

@@ -1,6 +1,6 @@
 -- Two results of calls that are the same.
 use mathlib.Core.Path.{_≡_}
-use Rattle.r6501q_step.specs.R6501q.{Result}
+use Rattle.r6501q_chip.specs.R6501q.{Result}
 
 pub results-equal : (a b : Result) → a .number ≡ b .number → a .state ≡ b .state → a .leaps ≡ b .leaps
     → a .read ≡ b .read → a .written ≡ b .written → a ≡ b

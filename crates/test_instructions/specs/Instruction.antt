@@ -7,8 +7,8 @@ use Rattle.r6501q_state.specs.declared.state.Peripherals.{Peripherals}
 use Rattle.r6501q_state.specs.declared.state.State.{State}
 use Rattle.r6501q_state.specs.State.{freshControl, freshLevels, highLevels, freshPeripherals, freshPorts}
 use Rattle.r6501q_state.specs.Inputs.{resHigh}
-use Rattle.serial.specs.Transmitter.{idleTransmitter}
-use Rattle.serial.specs.Receiver.{idleReceiver}
+use Rattle.serial_transmitter.specs.Transmitter.{idleTransmitter}
+use Rattle.serial_receiver.specs.Receiver.{idleReceiver}
 use Rattle.cpu_access.specs.declared.stack.Writes.{Writes}
 use Rattle.cpu_access.specs.declared.halt.Halt.the-variants.{Nowhere}
 use Rattle.cpu_access.specs.declared.waiting.Waiting.{Waiting}
@@ -18,7 +18,7 @@ use Rattle.r6501q_clock.specs.declared.Clocked.{Clocked}
 use Rattle.r6501q_clock.specs.declared.Clocked.the-variants.{Stopped, Done}
 use Rattle.leaps.specs.CallLists.{runOf}
 use Rattle.leaps.specs.Calls.{callStart}
-use Rattle.r6501q_step.specs.R6501q.{Handed, Result, machine}
+use Rattle.r6501q_chip.specs.R6501q.{Handed, Result, machine}
 
 -- fresh but for the registers, with no reset due
 abbrev pub prepared : Cpu → State

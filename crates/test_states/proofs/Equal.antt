@@ -18,8 +18,8 @@ use Rattle.r6501q_state.specs.declared.state.Control.{Control}
 use Rattle.r6501q_state.specs.declared.state.SerialData.{SerialData}
 use Rattle.counters.specs.declared.a.CounterA.{CounterA}
 use Rattle.counters.specs.declared.b.CounterB.{CounterB}
-use Rattle.serial.specs.declared.transmitter.Transmitter.{Transmitter}
-use Rattle.serial.specs.declared.receiver.Receiver.{Receiver}
+use Rattle.serial_transmitter.specs.declared.Transmitter.{Transmitter}
+use Rattle.serial_receiver.specs.declared.Receiver.{Receiver}
 use Rattle.r6501q_state.specs.declared.state.Levels.{Levels}
 use Rattle.r6501q_state.specs.declared.state.Peripherals.{Peripherals}
 use Rattle.r6501q_state.specs.declared.state.State.{State}

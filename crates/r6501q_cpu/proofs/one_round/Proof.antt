@@ -8,7 +8,7 @@ unfolding roundOf
 returns c =
     rw (
       ← (c .before .before .before .before .registers-of .ensures),
-      ← (c .before .before .before .one-outcome .ensures),
+      ← (c .before .before .before .instruction .ensures),
       c .before .outcome .given .1,
     )
 
@@ -18,7 +18,7 @@ returns-2 c =
     rw (
       c .answer .ensures,
       ← (c .before .before .before .before .before .registers-of .ensures),
-      ← (c .before .before .before .before .one-outcome .ensures),
+      ← (c .before .before .before .before .instruction .ensures),
       c .before .before .outcome2 .given .1,
     )
 
@@ -28,7 +28,7 @@ returns-3 c =
     rw (
       c .next-state .ensures,
       ← (c .before .before .before .before .before .registers-of .ensures),
-      ← (c .before .before .before .before .one-outcome .ensures),
+      ← (c .before .before .before .before .instruction .ensures),
       c .before .before .outcome3 .given .1,
     )
 

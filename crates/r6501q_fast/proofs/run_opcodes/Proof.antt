@@ -11,7 +11,7 @@ use Rattle.page_sums.proofs.Sums.{sums-kept, sums-then, sums-length}
 use Rattle.bits.proofs.Cond.{and-left}
 use Rattle.cpu.specs.Work.{WithinSpan}
 use Rattle.bits.proofs.Cond.{either-false}
-use Rattle.r6501q_mnemonics.specs.Attempts.{Tries}
+use Rattle.cpu_attempts.specs.Attempts.{Tries}
 use Rattle.r6501q_fast.specs.Instructions.{ByInstructions, none}
 use Rattle.r6501q_fast.proofs.Instructions.{starts-within, try-within, try-goes, try-less, shared-most}
 use Rattle.r6501q_fast.proofs.Instructions.{start-fits}

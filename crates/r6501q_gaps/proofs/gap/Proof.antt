@@ -1,8 +1,8 @@
 use mathlib.Core.Path.{_≡_, refl, sym, ap}
 use native.Mathlib.Omega.{arith}
 use Rattle.counters.specs.declared.time.Clocks.{Clocks}
-use Rattle.r6501q_gaps.specs.Gaps.{toCpu, gapOf}
-use Rattle.r6501q_gaps.proofs.Gaps.{none-before-cpu, nearer-of}
+use Rattle.r6501q_events.specs.Gaps.{toCpu, gapOf}
+use Rattle.r6501q_events.proofs.Gaps.{none-before-cpu, nearer-of}
 use borrow.Author.Needs.{needs}
 use Rattle.r6501q_gaps.proofs.gap.Statement.{statement}
 use Rattle.r6501q_gaps.proofs.gap.Tie as tie

@@ -1,4 +1,4 @@
-use Rattle.r6501q_gaps.specs.Gaps.{passOf}
+use Rattle.r6501q_events.specs.Gaps.{passOf}
 use borrow.Author.Needs.{needs}
 use Rattle.r6501q_gaps.proofs.pass.Statement.{statement}
 use Rattle.r6501q_gaps.proofs.pass.Tie as tie

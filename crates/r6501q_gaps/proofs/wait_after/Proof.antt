@@ -1,5 +1,5 @@
 use native.Mathlib.Omega.{arith}
-use Rattle.r6501q_gaps.specs.Gaps.{waitAfter}
+use Rattle.r6501q_events.specs.Gaps.{waitAfter}
 use borrow.Author.Tests.{not-true, not-false}
 use borrow.Author.Needs.{needs}
 use Rattle.r6501q_gaps.proofs.wait_after.Statement.{statement}

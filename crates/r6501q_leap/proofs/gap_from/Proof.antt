@@ -1,4 +1,4 @@
-use Rattle.r6501q_step.proofs.Worlds.{lent-part}
+use Rattle.r6501q_advance.proofs.Worlds.{lent-part}
 use borrow.Author.Needs.{needs}
 use Rattle.r6501q_leap.proofs.gap_from.Statement.{statement}
 use Rattle.r6501q_leap.proofs.gap_from.Tie as tie

@@ -2,8 +2,8 @@ use denote.Ref.{now}
 use native.Mathlib.Omega.{arith}
 use Rattle.page_sums.specs.PageSums.{SixteenBits}
 use Rattle.page_sums.proofs.Sums.{sums-kept}
-use Rattle.r6501q_step.specs.R6501q.{World}
-use Rattle.r6501q_step.specs.World.{worldOf}
+use Rattle.r6501q_chip.specs.R6501q.{World}
+use Rattle.r6501q_advance.specs.World.{worldOf}
 use Rattle.r6501q_leap.proofs.Runs.{gap-fits, passed-goes, leap-reaches, leap-falls-short}
 use borrow.Author.Needs.{needs}
 use Rattle.r6501q_leap.proofs.leap.Statement.{statement}

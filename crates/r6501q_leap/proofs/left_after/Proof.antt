@@ -1,4 +1,4 @@
-use Rattle.r6501q_gaps.specs.Gaps.{clocksOf}
+use Rattle.r6501q_events.specs.Gaps.{clocksOf}
 use native.Mathlib.Omega.{arith}
 use Prim.Native.Nat.{ℕ, _+_, _-_}
 use mathlib.Core.Path.{_≡_, ap}

@@ -1,5 +1,5 @@
 use native.Mathlib.Omega.{arith}
-use Rattle.r6501q_step.proofs.Worlds.{lent-part}
+use Rattle.r6501q_advance.proofs.Worlds.{lent-part}
 use borrow.Author.Needs.{needs}
 use Rattle.r6501q_span_leaps.proofs.span_from.Statement.{statement}
 use Rattle.r6501q_span_leaps.proofs.span_from.Tie as tie

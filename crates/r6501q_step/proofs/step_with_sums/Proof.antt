@@ -8,7 +8,7 @@ use Rattle.page_sums.proofs.Sums.{sums-kept}
 use Rattle.leaps.specs.CallLists.{stepOf}
 use Rattle.leaps.specs.Calls.{callStart}
 use Rattle.leaps.proofs.Summed.{list-refused, list-accepted}
-use Rattle.r6501q_step.specs.R6501q.{World, machine}
+use Rattle.r6501q_chip.specs.R6501q.{World, machine}
 use borrow.Author.Needs.{needs}
 use Rattle.r6501q_step.proofs.step_with_sums.Statement.{statement}
 use Rattle.r6501q_step.proofs.step_with_sums.Tie as tie

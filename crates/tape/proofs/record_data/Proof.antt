@@ -1,6 +1,6 @@
 use borrow.Author.Tests.{eq-eqb, ne-eqb}
 use Rattle.tape.proofs.TapeLaws.{to-end}
-use Rattle.tape.specs.Records.{mark, dataOf, dataAt}
+use Rattle.tape_records.specs.Records.{mark, dataOf, dataAt}
 use mathlib.Core.List.{[]}
 use lib.Dec.{eqb}
 use lib.ListN.{getD, drop, List·getD-eq-default}

@@ -1,4 +1,4 @@
-use Rattle.r6501q_gaps.specs.Gaps.{countingA}
+use Rattle.r6501q_events.specs.Gaps.{countingA}
 use borrow.Author.Needs.{needs}
 use Rattle.r6501q_gaps.proofs.distances.counting_a.Statement.{statement}
 use Rattle.r6501q_gaps.proofs.distances.counting_a.Tie as tie

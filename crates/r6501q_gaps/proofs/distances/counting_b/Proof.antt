@@ -1,4 +1,4 @@
-use Rattle.r6501q_gaps.specs.Gaps.{countingB}
+use Rattle.r6501q_events.specs.Gaps.{countingB}
 use borrow.Author.Needs.{needs}
 use Rattle.r6501q_gaps.proofs.distances.counting_b.Statement.{statement}
 use Rattle.r6501q_gaps.proofs.distances.counting_b.Tie as tie

@@ -1,4 +1,4 @@
-use Rattle.r6501q_gaps.specs.Gaps.{toChange}
+use Rattle.r6501q_events.specs.Gaps.{toChange}
 use borrow.Author.Needs.{needs}
 use Rattle.r6501q_gaps.proofs.distances.to_change.Statement.{statement}
 use Rattle.r6501q_gaps.proofs.distances.to_change.Tie as tie

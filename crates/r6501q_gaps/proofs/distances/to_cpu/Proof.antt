@@ -1,5 +1,5 @@
 use mathlib.Core.Path.{refl}
-use Rattle.r6501q_gaps.specs.Gaps.{toCpu}
+use Rattle.r6501q_events.specs.Gaps.{toCpu}
 use borrow.Author.Needs.{needs}
 use Rattle.r6501q_gaps.proofs.distances.to_cpu.Statement.{statement}
 use Rattle.r6501q_gaps.proofs.distances.to_cpu.Tie as tie

@@ -1,4 +1,4 @@
-use Rattle.r6501q_gaps.proofs.Inputs.{no-input, first-input, first-passed}
+use Rattle.r6501q_events.proofs.Inputs.{no-input, first-input, first-passed}
 use borrow.Author.Needs.{needs}
 use Rattle.r6501q_gaps.proofs.distances.to_input.Statement.{statement}
 use Rattle.r6501q_gaps.proofs.distances.to_input.Tie as tie

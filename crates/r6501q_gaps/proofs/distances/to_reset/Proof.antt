@@ -1,4 +1,4 @@
-use Rattle.r6501q_gaps.specs.Gaps.{toReset}
+use Rattle.r6501q_events.specs.Gaps.{toReset}
 use borrow.Author.Needs.{needs}
 use Rattle.r6501q_gaps.proofs.distances.to_reset.Statement.{statement}
 use Rattle.r6501q_gaps.proofs.distances.to_reset.Tie as tie

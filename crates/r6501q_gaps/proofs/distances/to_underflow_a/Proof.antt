@@ -1,4 +1,4 @@
-use Rattle.r6501q_gaps.specs.Gaps.{toUnderflowA}
+use Rattle.r6501q_events.specs.Gaps.{toUnderflowA}
 use borrow.Author.Needs.{needs}
 use Rattle.r6501q_gaps.proofs.distances.to_underflow_a.Statement.{statement}
 use Rattle.r6501q_gaps.proofs.distances.to_underflow_a.Tie as tie

@@ -1,4 +1,4 @@
-use Rattle.r6501q_gaps.specs.Gaps.{toUnderflowB}
+use Rattle.r6501q_events.specs.Gaps.{toUnderflowB}
 use borrow.Author.Needs.{needs}
 use Rattle.r6501q_gaps.proofs.distances.to_underflow_b.Statement.{statement}
 use Rattle.r6501q_gaps.proofs.distances.to_underflow_b.Tie as tie

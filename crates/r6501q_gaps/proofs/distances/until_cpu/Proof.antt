@@ -1,4 +1,4 @@
-use Rattle.r6501q_gaps.specs.Gaps.{untilCpu}
+use Rattle.r6501q_events.specs.Gaps.{untilCpu}
 use mathlib.Core.Path.{sym}
 use native.Mathlib.Nat.{sub-zero}
 use borrow.Author.Needs.{needs}

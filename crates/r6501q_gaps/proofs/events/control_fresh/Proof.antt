@@ -1,4 +1,4 @@
-use Rattle.r6501q_gaps.specs.Events.{controlFresh}
+use Rattle.r6501q_events.specs.Events.{controlFresh}
 use mathlib.Core.Path.{refl}
 use Rattle.r6501q_gaps.proofs.events.control_fresh.Statement.{statement}
 use Rattle.r6501q_gaps.proofs.events.control_fresh.Tie as tie

@@ -1,4 +1,4 @@
-use Rattle.r6501q_gaps.specs.Events.{isReset}
+use Rattle.r6501q_events.specs.Events.{isReset}
 use borrow.Author.Needs.{needs}
 use Rattle.r6501q_gaps.proofs.events.is_reset.Statement.{statement}
 use Rattle.r6501q_gaps.proofs.events.is_reset.Tie as tie

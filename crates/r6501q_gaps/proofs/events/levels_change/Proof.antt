@@ -1,4 +1,4 @@
-use Rattle.r6501q_gaps.specs.Events.{levelsChange}
+use Rattle.r6501q_events.specs.Events.{levelsChange}
 use borrow.Author.Needs.{needs}
 use Rattle.r6501q_gaps.proofs.events.levels_change.Statement.{statement}
 use Rattle.r6501q_gaps.proofs.events.levels_change.Tie as tie

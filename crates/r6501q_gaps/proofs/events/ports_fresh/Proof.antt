@@ -1,4 +1,4 @@
-use Rattle.r6501q_gaps.specs.Events.{portsFresh}
+use Rattle.r6501q_events.specs.Events.{portsFresh}
 use mathlib.Core.Path.{refl}
 use Rattle.r6501q_gaps.proofs.events.ports_fresh.Statement.{statement}
 use Rattle.r6501q_gaps.proofs.events.ports_fresh.Tie as tie

@@ -1,4 +1,4 @@
-use Rattle.r6501q_gaps.specs.Events.{receiverIdle}
+use Rattle.r6501q_events.specs.Events.{receiverIdle}
 use mathlib.Core.Path.{refl}
 use Rattle.r6501q_gaps.proofs.events.receiver_idle.Statement.{statement}
 use Rattle.r6501q_gaps.proofs.events.receiver_idle.Tie as tie

@@ -1,4 +1,4 @@
-use Rattle.r6501q_gaps.specs.Events.{resetChanges}
+use Rattle.r6501q_events.specs.Events.{resetChanges}
 use borrow.Author.Needs.{needs}
 use Rattle.r6501q_gaps.proofs.events.reset_changes.Statement.{statement}
 use Rattle.r6501q_gaps.proofs.events.reset_changes.Tie as tie

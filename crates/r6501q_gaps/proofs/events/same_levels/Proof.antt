@@ -1,4 +1,4 @@
-use Rattle.r6501q_gaps.specs.Events.{sameLevels}
+use Rattle.r6501q_events.specs.Events.{sameLevels}
 use mathlib.Core.Path.{refl}
 use Rattle.r6501q_gaps.proofs.events.same_levels.Statement.{statement}
 use Rattle.r6501q_gaps.proofs.events.same_levels.Tie as tie

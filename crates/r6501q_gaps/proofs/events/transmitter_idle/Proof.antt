@@ -1,4 +1,4 @@
-use Rattle.r6501q_gaps.specs.Events.{transmitterIdle}
+use Rattle.r6501q_events.specs.Events.{transmitterIdle}
 use mathlib.Core.Path.{refl}
 use Rattle.r6501q_gaps.proofs.events.transmitter_idle.Statement.{statement}
 use Rattle.r6501q_gaps.proofs.events.transmitter_idle.Tie as tie

@@ -6,17 +6,17 @@ use Rattle.r6501q_span_reads.proofs.steady.outcome_within.Tie as tie
 
 returns : tie.Need-returns
 unfolding outcomeWithin
-returns c = rw (sym (c .before .before .before .one-outcome .ensures) ∙ c .before .outcome .given .1) refl
+returns c = rw (sym (c .before .before .before .instruction .ensures) ∙ c .before .outcome .given .1) refl
 
 returns-2 : tie.Need-returns-2
 unfolding outcomeWithin
 returns-2 c =
-    rw (sym (c .before .before .before .before .one-outcome .ensures) ∙ c .before .before .outcome2 .given .1)
+    rw (sym (c .before .before .before .before .instruction .ensures) ∙ c .before .before .outcome2 .given .1)
     (c .answered-once .ensures)
 
 returns-3 : tie.Need-returns-3
 unfolding outcomeWithin
-returns-3 c = rw (sym (c .before .before .before .one-outcome .ensures) ∙ c .before .outcome3 .given .1) refl
+returns-3 c = rw (sym (c .before .before .before .instruction .ensures) ∙ c .before .outcome3 .given .1) refl
 
 pub outcome-within-spec : {M : Type 1} → statement M
 outcome-within-spec =

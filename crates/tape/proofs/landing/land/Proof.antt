@@ -1,5 +1,5 @@
 use Rattle.tape.proofs.MemoryLaws.{put-back, sums-back}
-use Rattle.tape.specs.Digits.{bytesOf}
+use Rattle.tape_records.specs.Digits.{bytesOf}
 use Rattle.memory.specs.Memory.{registerEnd}
 use denote.Ref.{now}
 use borrow.Author.Needs.{needs}

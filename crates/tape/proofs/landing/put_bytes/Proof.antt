@@ -1,6 +1,6 @@
 use Rattle.tape.proofs.MemoryLaws.{put-first, put-on, put-end}
 use Rattle.tape.specs.Tapes.{putFrom}
-use Rattle.tape.specs.Digits.{bytesOf}
+use Rattle.tape_records.specs.Digits.{bytesOf}
 use Rattle.memory.specs.Memory.{registerEnd}
 use Rattle.page_sums.specs.PageSums.{sumsAfterPart, SixteenBits}
 use Rattle.page_sums.proofs.Sums.{sums-length, sums-kept, sums-then}

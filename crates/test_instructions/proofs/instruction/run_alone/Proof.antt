@@ -1,5 +1,5 @@
 use mathlib.Core.Path.{sym, ap}
-use Rattle.r6501q_step.specs.R6501q.{Handed}
+use Rattle.r6501q_chip.specs.R6501q.{Handed}
 use borrow.Author.Needs.{needs}
 use Rattle.test_instructions.proofs.instruction.run_alone.Statement.{statement}
 use Rattle.test_instructions.proofs.instruction.run_alone.Tie as tie

@@ -1,0 +1,16 @@
+use Rattle.cpu_kinds.specs.Kinds.{branchTaken}
+use Rattle.cpu_mnemonics.proofs.flow.beq.Statement.{statement}
+use Rattle.cpu_mnemonics.proofs.flow.beq.Tie as tie
+use borrow.Author.Needs.{needs}
+use mathlib.Core.Path.{refl}
+
+returns : tie.Need-returns
+unfolding branchTaken
+returns c = rw (c .branch .ensures) refl
+
+pub beq-spec : {M : Type 1} → statement M
+beq-spec =
+    tie.close
+    (tie.spec
+    (λ c κs. search needs)
+    returns)

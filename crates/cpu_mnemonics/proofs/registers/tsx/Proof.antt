@@ -1,0 +1,19 @@
+use Rattle.cpu_kinds.specs.Kinds.{withRegister}
+use Rattle.cpu_mnemonics.proofs.registers.tsx.Statement.{statement}
+use Rattle.cpu_mnemonics.proofs.registers.tsx.Tie as tie
+use Rattle.cpu_attempts.specs.Attempts.{registerTried}
+use borrow.Author.Needs.{needs}
+use mathlib.Core.Path.{refl}
+
+returns : tie.Need-returns
+unfolding registerTried withRegister
+returns c = rw (c .started-next .ensures, c .before .load-x .ensures, c .before .before .with-pc .ensures) refl
+
+pub tsx-spec : {M : Type 1} → statement M
+tsx-spec =
+    tie.close
+    (tie.spec
+    (λ c κs. search needs)
+    (λ c κs. search needs)
+    (λ c κs. search needs)
+    returns)

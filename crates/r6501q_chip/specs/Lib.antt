@@ -1,0 +1,2 @@
+pub mod R6501q
+pub mod Shifted

@@ -1,2 +1,0 @@
-pub mod Transmitter
-pub mod Receiver

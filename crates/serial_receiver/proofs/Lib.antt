@@ -1,0 +1,2 @@
+pub mod ReceivedParity
+pub mod PutInTurn
