@@ -9,7 +9,7 @@ use lib.Dec.{lit<, lit≤}
 use Rattle.bit_rate.specs.declared.Found.{Found}
 use Rattle.bit_rate.specs.declared.Found.TheVariants.{Fits, Nothing, Refused}
 use Rattle.bit_rate.specs.BitRate.{fits, highest_latch, out_of_limits, first_fit, latch_for, latch_number}
-use Rattle.bit_rate.proofs.Laws.{within_limits, fewest, latch_fits, latch_beyond, latch_slow}
+use Rattle.bit_rate.proofs.Laws.{within, fewest, latch_fits, latch_beyond, latch_slow}
 
 -- what is promised of an answer: a latch value fits and none below it does, none means that no value does, a refusal
 -- that a rate is 0 or a figure above its limit
@@ -84,17 +84,17 @@ module _ (f b t : ℕ) (allowed : out_of_limits f b t ≡ false) where
   found : fewest f b t ≤ highest_latch + 1 → (1000 - t) * (16 * b) * fewest f b t ≤ 1000 * f
       → latch_for f b t ≡ Fits (fewest f b t - 1)
   unfolding latch_for
-  found most h = rw allowed (latch_fits f b t (within_limits f b t allowed) most h)
+  found most h = rw allowed (latch_fits f b t (within f b t allowed) most h)
 
   none_beyond : highest_latch + 1 < fewest f b t → latch_for f b t ≡ Nothing
   unfolding latch_for
-  none_beyond h = rw allowed (latch_beyond f b t (within_limits f b t allowed) h)
+  none_beyond h = rw allowed (latch_beyond f b t (within f b t allowed) h)
 
   none_slow : 1000 * f < (1000 - t) * (16 * b) * fewest f b t → latch_for f b t ≡ Nothing
   unfolding latch_for
-  none_slow h = rw allowed (latch_slow f b t (within_limits f b t allowed) h)
+  none_slow h = rw allowed (latch_slow f b t (within f b t allowed) h)
 
-pub record BitRateExamples : Type 0 where
+pub record Examples : Type 0 where
   -- 02, U2: "1,000,000, 62,500 and 0 give 0"
   pub exact : latch_for 1000000 62500 0 ≡ Fits 0
   -- "1,000,000, 9,600 and 20 give none"
@@ -116,9 +116,9 @@ pub record BitRateExamples : Type 0 where
   pub rate_above : latch_for 1 10000001 0 ≡ Refused
   pub tolerance_above : latch_for 1 1 1001 ≡ Refused
 
-pub bit_rate_examples : BitRateExamples
+pub examples : Examples
 unfolding latch_for fits out_of_limits
-bit_rate_examples = record {
+examples = record {
   exact = found 1000000 62500 0 refl (lit≤ tt) (lit≤ tt);
   none = none_slow 1000000 9600 20 refl (lit< tt);
   both_fit = (refl, refl);

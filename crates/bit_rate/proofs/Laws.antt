@@ -56,7 +56,7 @@ neither true b e = absurd (false≢true (sym e))
 neither false b e = (refl, e)
 
 -- figures that are not refused
-pub record WithinLimits (f b t : ℕ) : Type 0 where
+pub record Within (f b t : ℕ) : Type 0 where
   pub clocked : 0 < f
   pub sent : 0 < b
   pub most_clocked : f ≤ highest_rate
@@ -66,9 +66,9 @@ pub record WithinLimits (f b t : ℕ) : Type 0 where
 positive : (n : ℕ) → eqb n 0 ≡ false → 0 < n
 positive n e = let other = eqb-false n 0 e in omega arith
 
-pub within_limits : (f b t : ℕ) → out_of_limits f b t ≡ false → WithinLimits f b t
+pub within : (f b t : ℕ) → out_of_limits f b t ≡ false → Within f b t
 unfolding out_of_limits
-within_limits f b t e =
+within f b t e =
     let tolerance = neither (eqb f 0 || eqb b 0 || ltb highest_rate f || ltb highest_rate b) (ltb highest_tolerance t) e in
     let bits = neither (eqb f 0 || eqb b 0 || ltb highest_rate f) (ltb highest_rate b) tolerance.0 in
     let clocks = neither (eqb f 0 || eqb b 0) (ltb highest_rate f) bits.0 in
@@ -147,7 +147,7 @@ module _ (a d : ℕ) (h : 0 < d) where
 abbrev pub fewest : ℕ → ℕ → ℕ → ℕ
 fewest f b t = (1000 * f + (1000 + t) * (16 * b) - 1) / ((1000 + t) * (16 * b))
 
-module _ (f b t : ℕ) (inside : WithinLimits f b t) where
+module _ (f b t : ℕ) (inside : Within f b t) where
   pub most_positive : 0 < (1000 + t) * (16 * b)
   most_positive = mul-pos {m = 1000 + t} {n = 16 * b} (omega arith) (omega (arith, inside.sent))
 

@@ -1,10 +1,11 @@
 // The smallest latch value of counter A for a wanted bit rate (document 02, U2 and U9), of asynchronous frames: a bit
 // takes 16 underflows, and counter A underflows each N + 1 clocks where its latch is N.
+#![tactic(auto)]
 ghost use Rattle.std.specs.Prelude.{◌≡◌};
 ghost use Rattle.bit_rate.specs.BitRate.{out_of_limits, latch_for};
 
 // The smallest latch value that fits, none, or a refusal (number 11).
-#[derive(Drop)]
+#[derive(Clone, Copy)]
 pub enum Found {
     Fits(u16),
     Nothing,
@@ -17,7 +18,7 @@ const HIGHEST_RATE: u32 = 10000000;
 const HIGHEST_TOLERANCE: u32 = 1000;
 
 // The clocks of an underflow with the highest latch value, 65,535.
-const MOST_CLOCKS_A_TICK: u64 = 65536;
+const MOST_CLOCKS: u64 = 65536;
 
 // Whether a rate is 0, or a figure above its limit.
 fn out_of_limits(clockrate: u32, bitrate: u32, tolerance: u32) -> bool
@@ -44,7 +45,7 @@ pub fn latch(clockrate: u32, bitrate: u32, tolerance: u32) -> Found
     let fastest = (1000 + (tolerance as u64)) * underflows;
     let slowest = (1000 - (tolerance as u64)) * underflows;
     let clocks = (rate + fastest - 1) / fastest;
-    if MOST_CLOCKS_A_TICK < clocks {
+    if MOST_CLOCKS < clocks {
         return Found::Nothing;
     }
     if rate < slowest * clocks {

@@ -1,4 +1,6 @@
 // Bits and bytes of numbers.
+#![tactic(auto)]
+
 ghost use Rattle.std.specs.Prelude.{◌≡◌, ◌-◌, ◌<◌};
 ghost use Rattle.bits.specs.Bits.{bit, one_where, with_bit, set_where, flip_where, low_byte, high_byte, word16};
 

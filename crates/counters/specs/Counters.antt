@@ -42,9 +42,6 @@ clock_a c mode rise isLow = cond (counts_a mode rise isLow) (down_a c) (counted_
 unfoldable pub counts_through_a : ℕ → Bool → Bool
 counts_through_a mode isLow = counts_a mode false isLow
 
-abbrev pub clocks_of : ℕ → Clocks
-clocks_of n = record { 0 = n }
-
 -- "the gap passed: .. each counter that counts in all of it minus gap"
 unfoldable pub pass_a : CounterA → Bool → Clocks → CounterA
 pass_a c counting gap = at_a c (cond counting (c.count - gap.0) c.count)

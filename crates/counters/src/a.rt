@@ -7,14 +7,14 @@ use crate::time::{Clocks, count_after_gap};
 
 // The counter and its latch.
 #[repr(C)]
-#[derive(Drop)]
+#[derive(Clone, Copy)]
 pub struct CounterA {
     pub count: u16,
     pub latch: u16,
 }
 
 // The counter after one clock, and whether it underflowed.
-#[derive(Drop)]
+#[derive(Clone, Copy)]
 pub struct CountedA {
     pub counter: CounterA,
     pub underflow: bool,

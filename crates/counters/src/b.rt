@@ -7,7 +7,7 @@ use crate::time::{Clocks, count_after_gap};
 
 // The counter, latches B and C, and whether the next reload in mode 01 takes latch C.
 #[repr(C)]
-#[derive(Drop)]
+#[derive(Clone, Copy)]
 pub struct CounterB {
     pub count: u16,
     pub latchb: u16,
@@ -16,7 +16,7 @@ pub struct CounterB {
 }
 
 // The counter after one clock, and whether it underflowed.
-#[derive(Drop)]
+#[derive(Clone, Copy)]
 pub struct CountedB {
     pub counter: CounterB,
     pub underflow: bool,

@@ -1,5 +1,6 @@
 // The 16-bit counters and the two units of time. No register address stands here: a chip decides where its latches are
 // written.
+#![tactic(auto)]
 
 // Distances in time.
 pub mod time;

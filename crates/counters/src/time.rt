@@ -3,11 +3,11 @@ ghost use Rattle.std.specs.Prelude.{◌≡◌, ◌-◌};
 ghost use Rattle.counters.specs.Counters.{ticks_of, toggles, in_force};
 
 // A number of clocks.
-#[derive(Drop)]
+#[derive(Clone, Copy)]
 pub struct Clocks(pub u32);
 
 // A number of serial ticks, each an underflow of counter A.
-#[derive(Drop)]
+#[derive(Clone, Copy)]
 pub struct Ticks(pub u32);
 
 // The ticks of a clock: one where counter A underflows.

@@ -194,11 +194,11 @@ module _ (answers memory : List ℕ) where
       (λ pc. ends (leaves (conclusion (with_pc (next_address pc) (with_sp (up (up r.sp)) r)) o.length))))
       ∙ ends_on _ _
 
-  rti_on : (o : Operand) (r : CpuRegisters)
+  resumed_on : (o : Operand) (r : CpuRegisters)
       → Same o.bus (left (interrupt_return_accesses o.length r))
       (outcome_of no_writes (returned_from_interrupt answers memory o r))
   unfolding interrupt_return_accesses returned_from_interrupt pull_address pull_of in_order
-  rti_on o r =
+  resumed_on o r =
       let p = pull_of answers memory r.sp o.bus in
       ap outcome_from (pull_on answers memory r.sp o.bus _
       ∙ pull_address_on answers memory p.sp p.bus
@@ -350,7 +350,7 @@ module _ (answers memory : List ℕ) where
   execute_on operation.Nop mode n r b =
       let p = locate_of answers memory mode r b in located_first mode r b _ _ (completed_on (unread n p) _ p.pc)
   execute_on operation.Rti mode n r b =
-      let p = locate_of answers memory mode r b in located_first mode r b _ _ (rti_on (unread n p) _)
+      let p = locate_of answers memory mode r b in located_first mode r b _ _ (resumed_on (unread n p) _)
   execute_on operation.Rts mode n r b =
       let p = locate_of answers memory mode r b in located_first mode r b _ _ (returned_on (unread n p) _)
 

@@ -64,10 +64,10 @@ pub record AskedBy (P : ℕ → Bus → Type 0) (q : Ask) : Type 0 where
   pub address : q.address ≡ bus.address
   pub writes : q.writes.count ≤ 3
 
-abbrev pub OutcomeSound : (ℕ → Bus → Type 0) → Outcome → Type 0
-OutcomeSound P (Stopped number) = Unit
-OutcomeSound P (Asked q) = AskedBy P q
-OutcomeSound P (Done w) = Fits w
+abbrev pub Lawful : (ℕ → Bus → Type 0) → Outcome → Type 0
+Lawful P (Stopped number) = Unit
+Lawful P (Asked q) = AskedBy P q
+Lawful P (Done w) = Fits w
 
 abbrev pub reads_of_access : Access → ℕ → ℕ
 reads_of_access Nothing k = k
@@ -171,20 +171,20 @@ module _ (P : ℕ → Bus → Type 0) (answers memory : List ℕ)
   operand_keeps Jsr k a p h = h
 
   asked_lawful : (k : ℕ) (w : Writes) (b : Bus) → k ≤ 5 → P k b → b.missing ≡ true → w.count ≤ 3
-      → OutcomeSound P (Asked (ask_with w b))
+      → Lawful P (Asked (ask_with w b))
   asked_lawful k w b m h t l =
       record { reads = k; most = m; bus = b; known = h; missing = t; address = refl; writes = l }
 
   outcome_lawful : (k : ℕ) (w : Writes) (e : Executed) → k ≤ 5 → P k e.bus → w.count ≤ 3 → Fits e.worked
-      → OutcomeSound P (outcome_of w e)
+      → Lawful P (outcome_of w e)
   unfolding outcome_of
   outcome_lawful k w e m h l f =
-      cond_both (OutcomeSound P) e.bus.missing (Asked (ask_with w e.bus)) (Done e.worked)
+      cond_both (Lawful P) e.bus.missing (Asked (ask_with w e.bus)) (Done e.worked)
       (λ t. asked_lawful k w e.bus m h t l)
       (λ t. f)
 
   carried_lawful : (e : Entry) (r : CpuRegisters) (b : Bus) → CostFits e → P 1 b
-      → OutcomeSound P (outcome_of no_writes (carried_out answers memory e r b))
+      → Lawful P (outcome_of no_writes (carried_out answers memory e r b))
   unfolding carried_out
   carried_lawful e r b c h =
       let p = locate_of answers memory e.mode r b in
@@ -207,7 +207,7 @@ module _ (P : ℕ → Bus → Type 0) (answers memory : List ℕ)
       })
 
   jsr_lawful : (r : CpuRegisters) (n : ℕ) (b : Bus) → 2 ≤ n → n ≤ 7 → P 1 b
-      → OutcomeSound P (jsr_outcome answers memory r n b)
+      → Lawful P (jsr_outcome answers memory r n b)
   unfolding jsr_outcome
   jsr_lawful r n b l m h =
       let f = fetch_of answers memory r.pc b in
@@ -219,37 +219,36 @@ module _ (P : ℕ → Bus → Type 0) (answers memory : List ℕ)
       (record { writes = jsr_writes r.sp f.pc; least = l; most = m; store = λ e. absurd (false≢true e) })
 
   execute_lawful : (e : Entry) (r : CpuRegisters) (b : Bus) → CostFits e → P 1 b
-      → OutcomeSound P (execute_of answers memory e r b)
+      → Lawful P (execute_of answers memory e r b)
   unfolding execute_of
   execute_lawful e r b c h =
-      cond_both (OutcomeSound P) (is_jsr (access_of e.operation)) (jsr_outcome answers memory r e.length b)
+      cond_both (Lawful P) (is_jsr (access_of e.operation)) (jsr_outcome answers memory r e.length b)
       (outcome_of no_writes (carried_out answers memory e r b))
       (λ t. jsr_lawful r e.length b c.least (let m = c.most in omega arith) h)
       (λ t. carried_lawful e r b c h)
 
   decoded_lawful : (d : Decoded) (r : CpuRegisters) (b : Bus) → T (passes cost_fits d) → P 1 b
-      → OutcomeSound P (decoded_to answers memory r b d)
+      → Lawful P (decoded_to answers memory r b d)
   decoded_lawful decoded.Undefined r b t h = tt
   decoded_lawful (decoded.Defined e) r b t h = execute_lawful e r b (cost_fits_lem e t) h
 
-  pub outcome_sound : (r : CpuRegisters) → P 0 unasked → OutcomeSound P (instruction_of r answers memory)
+  pub lawful : (r : CpuRegisters) → P 0 unasked → Lawful P (instruction_of r answers memory)
   unfolding instruction_of
-  outcome_sound r h =
+  lawful r h =
       let f = fetch_of answers memory r.pc unasked in
       let q = fetch_keeps P answers memory more asks 0 r.pc unasked h in
-      cond_both (OutcomeSound P) f.bus.missing (Asked (ask_with no_writes f.bus))
+      cond_both (Lawful P) f.bus.missing (Asked (ask_with no_writes f.bus))
       (decoded_to answers memory (with_pc f.pc r) f.bus (decode_of f.value))
       (λ t. asked_lawful 1 no_writes f.bus (lit≤ tt) q t (lit≤ tt))
       (λ t. decoded_lawful (decode_of f.value) (with_pc f.pc r) f.bus (table_fits f.value) q)
 
 module _ (r : CpuRegisters) (answers memory : List ℕ) where
-  by_register : OutcomeSound AsksRegister (instruction_of r answers memory)
-  by_register =
-      outcome_sound AsksRegister answers memory register_more (register-asks answers) r (unasked_asks_register 0)
+  by_register : Lawful AsksRegister (instruction_of r answers memory)
+  by_register = lawful AsksRegister answers memory register_more (register-asks answers) r (unasked_asks_register 0)
 
-  by_answers : OutcomeSound (Answered answers) (instruction_of r answers memory)
+  by_answers : Lawful (Answered answers) (instruction_of r answers memory)
   by_answers =
-      outcome_sound (Answered answers) answers memory (answered_more answers) (answered-asks answers) r
+      lawful (Answered answers) answers memory (answered_more answers) (answered-asks answers) r
       (unasked_answered answers)
 
   -- an instruction that is done made at most three writes and takes 2 to 7 clocks

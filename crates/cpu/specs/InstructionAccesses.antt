@@ -10,8 +10,7 @@ use Rattle.cpu_opcodes.specs.declared.operation.Operation.{Operation}
 use Rattle.cpu_opcodes.specs.declared.operation.Operation.TheVariants as operation
 use Rattle.cpu_opcodes.specs.declared.operation.ModifyOperation.{ModifyOperation}
 use Rattle.cpu_opcodes.specs.declared.operation.PullOperation.{PullOperation}
-use Rattle.cpu_alu.specs.Copies.{with_i}
-use Rattle.cpu_alu.specs.Status.{unpacked, pushed}
+use Rattle.cpu_alu.specs.Status.{unpacked, pushed, with_i}
 use Rattle.cpu_alu.specs.declared.Computed.{Computed}
 use Rattle.cpu_access.specs.declared.CpuRegisters.{CpuRegisters}
 use Rattle.cpu_access.specs.declared.waiting.Waiting.{Waiting}

@@ -1,5 +1,6 @@
 // One whole instruction, over the registers, the answers to what it asks, and the lent memory. It knows no chip: a
 // register of the chip is asked for, and the instruction is worked again once the answer is there.
+#![tactic(auto)]
 ghost use Rattle.std.specs.Prelude.{◌≡◌, ◌≤◌};
 ghost use Rattle.cpu_opcodes.specs.TableInCode.{opcode_table};
 ghost use Rattle.cpu_operations.specs.Operations.{access_of};
@@ -20,7 +21,7 @@ pub mod work; // work.rt: the CPU at work in a span
 
 // The register that an instruction has to read next; a read-modify-write instruction takes a port's latch. The answer
 // is what is there after the writes, which only JSR has.
-#[derive(Drop)]
+#[derive(Clone, Copy)]
 pub struct Ask {
     pub address: u16,
     pub modify: bool,
@@ -31,7 +32,7 @@ pub struct Ask {
 pub const UNDEFINED: u8 = 6;
 
 // What an instruction comes to: the number of a stop, a question, or its end.
-#[derive(Drop)]
+#[derive(Clone, Copy)]
 pub enum Outcome {
     Stopped(u8),
     Asked(Ask),

@@ -8,7 +8,7 @@ use cpu_effects::Worked;
 
 // The CPU at work in a span: its registers, the clocks that its last instruction still takes, the clocks gone since the
 // span began, and the leaps done in it.
-#[derive(Drop)]
+#[derive(Clone, Copy)]
 pub struct Work {
     pub registers: CpuRegisters,
     pub wait: u8,

@@ -5,7 +5,7 @@ use Rattle.cpu_access.specs.declared.stack.Writes.{Writes}
 use Rattle.cpu_access.specs.declared.halt.Halt.{Halt}
 use Rattle.cpu_access.specs.Stack.{no_writes}
 use Rattle.cpu_access.specs.Halt.{halts, writes_register, ends_span}
-use Rattle.cpu_access.proofs.WritesInOrder.{unwritten}
+use Rattle.cpu_access.proofs.Told.{unwritten}
 
 pub ends_not : (halt : Halt) (w : Writes) → writes_register w ≡ false → halts halt w ≡ false → ends_span halt w ≡ false
 unfolding ends_span

@@ -2,5 +2,5 @@ pub mod Asks
 pub mod Asked
 pub mod Answering
 pub mod Performed
-pub mod WritesInOrder
+pub mod Told
 pub mod Ends

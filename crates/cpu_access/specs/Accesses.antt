@@ -77,7 +77,7 @@ module _ {P : Type 0} (file : RegisterFile P) where
   value_read memory p before modify a =
       cond (is_register a) (file.value p modify a) (byte_after before a (memory_byte memory a))
 
-  -- one after the other; `before` are the writes so far, and every write joins them
+  -- one after the other; `before` are the writes so far, and every write is told
   unfoldable pub performed : {A : Type 0} → List ℕ → P → List Write → Accesses A → Performed P A
   performed memory p before (ends x) = record { end = x; peripherals = p; writes = before }
   performed memory p before (reads modify a go) =

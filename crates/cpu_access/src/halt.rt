@@ -6,7 +6,7 @@ use crate::stack::Writes;
 use memory::is_register;
 
 // The address at whose write a run halts, or none.
-#[derive(Drop)]
+#[derive(Clone, Copy)]
 pub enum Halt {
     Nowhere,
     At(u16),

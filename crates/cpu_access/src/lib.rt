@@ -2,6 +2,7 @@
 // given is used, and at the first one missing the access marks what it asks; the work goes on with zeros, and its
 // result is thrown away. All other addresses are read from the lent memory. Nothing is written: the writes are handed
 // on.
+#![tactic(auto)]
 ghost use Rattle.std.specs.Prelude.{◌≡◌};
 ghost use Rattle.cpu_access.specs.Bus.{next_address, memory_byte, vector_of, unasked, ask_of, read_of, read_address};
 ghost use Rattle.cpu_access.specs.Bus.{fetch_of};
@@ -25,7 +26,7 @@ pub mod halt; // halt.rt: the halt address
 pub mod waiting; // waiting.rt: the byte that a store has still to put
 
 // What an instruction works on.
-#[derive(Drop)]
+#[derive(Clone, Copy)]
 pub struct CpuRegisters {
     pub a: u8,
     pub x: u8,
@@ -37,7 +38,7 @@ pub struct CpuRegisters {
 
 // How many answers are used; and, once one was missing, the address of the first such and whether its read is that of
 // a read-modify-write instruction, which takes a port's latch.
-#[derive(Drop)]
+#[derive(Clone, Copy)]
 pub struct Bus {
     pub used: usize,
     pub missing: bool,
@@ -46,21 +47,21 @@ pub struct Bus {
 }
 
 // A byte that was read.
-#[derive(Drop)]
+#[derive(Clone, Copy)]
 pub struct Got {
     pub value: u8,
     pub bus: Bus,
 }
 
 // Two bytes that were read, as an address.
-#[derive(Drop)]
+#[derive(Clone, Copy)]
 pub struct GotAddress {
     pub value: u16,
     pub bus: Bus,
 }
 
 // A byte of the instruction, and PC past it.
-#[derive(Drop)]
+#[derive(Clone, Copy)]
 pub struct Fetched {
     pub value: u8,
     pub pc: u16,
@@ -68,7 +69,7 @@ pub struct Fetched {
 }
 
 // Two bytes of the instruction, and PC past them.
-#[derive(Drop)]
+#[derive(Clone, Copy)]
 pub struct FetchedAddress {
     pub value: u16,
     pub pc: u16,

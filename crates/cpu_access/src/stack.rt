@@ -7,14 +7,14 @@ ghost use Rattle.cpu_access.specs.Stack.{push_interrupt, pull_of, pull_address, 
 use crate::{Bus, Got};
 use memory::is_register;
 
-#[derive(Drop)]
+#[derive(Clone, Copy)]
 pub struct Write {
     pub address: u16,
     pub value: u8,
 }
 
 // At most three writes, in order; those from `count` on mean nothing.
-#[derive(Drop)]
+#[derive(Clone, Copy)]
 pub struct Writes {
     pub count: u8,
     pub first: Write,
@@ -23,7 +23,7 @@ pub struct Writes {
 }
 
 // A byte that was pulled, and SP after it.
-#[derive(Drop)]
+#[derive(Clone, Copy)]
 pub struct Pulled {
     pub value: u8,
     pub sp: u8,
@@ -31,7 +31,7 @@ pub struct Pulled {
 }
 
 // Two bytes that were pulled, and SP after them.
-#[derive(Drop)]
+#[derive(Clone, Copy)]
 pub struct PulledAddress {
     pub value: u16,
     pub sp: u8,

@@ -4,8 +4,7 @@ use Rattle.std.specs.Bool.{beq}
 use Rattle.std.proofs.Math.IntN.{sub_ℕ}
 use Rattle.std.specs.Int.Signed.{non_neg}
 use Rattle.bits.specs.Bits.{bit, one_where, wrapping8}
-use Rattle.cpu_alu.specs.Copies.{with_v, with_c}
-use Rattle.cpu_alu.specs.Status.{with_nZ, computed}
+use Rattle.cpu_alu.specs.Status.{with_nZ, with_v, with_c, computed}
 use Rattle.cpu_alu.specs.declared.Status.{Status}
 use Rattle.cpu_alu.specs.declared.Computed.{Computed}
 

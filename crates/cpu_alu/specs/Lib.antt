@@ -1,4 +1,3 @@
-pub mod Copies
 pub mod Status
 pub mod Arithmetic
 pub mod Logic

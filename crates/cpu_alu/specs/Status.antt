@@ -22,6 +22,19 @@ pushed s brk = packed s + 32 + one_where brk * 16
 abbrev pub with_nZ : ℕ → Status → Status
 with_nZ x s = record { n = bit 7 x; v = s.v; d = s.d; i = s.i; z = eqb x 0; c = s.c }
 
+-- one flag as given, the others kept
+abbrev pub with_v : Bool → Status → Status
+with_v on s = record { n = s.n; v = on; d = s.d; i = s.i; z = s.z; c = s.c }
+
+abbrev pub with_d : Bool → Status → Status
+with_d on s = record { n = s.n; v = s.v; d = on; i = s.i; z = s.z; c = s.c }
+
+abbrev pub with_i : Bool → Status → Status
+with_i on s = record { n = s.n; v = s.v; d = s.d; i = on; z = s.z; c = s.c }
+
+abbrev pub with_c : Bool → Status → Status
+with_c on s = record { n = s.n; v = s.v; d = s.d; i = s.i; z = s.z; c = on }
+
 -- a value with N and Z of it, the other flags as in the status
 abbrev pub computed : ℕ → Status → Computed
 computed x s = record { value = x; status = with_nZ x s }

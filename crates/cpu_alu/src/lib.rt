@@ -1,7 +1,7 @@
 // The arithmetic and logic unit: what an instruction computes of bytes and flags. Pure functions, one equation each.
+#![tactic(auto)]
 ghost use Rattle.std.specs.Prelude.{◌≡◌, true, false};
-ghost use Rattle.cpu_alu.specs.Copies.{with_v, with_d, with_i, with_c};
-ghost use Rattle.cpu_alu.specs.Status.{packed, unpacked, pushed, with_nZ, computed};
+ghost use Rattle.cpu_alu.specs.Status.{packed, unpacked, pushed, with_nZ, with_v, with_d, with_i, with_c, computed};
 
 use bits::one_where;
 
@@ -10,7 +10,7 @@ pub mod logic; // logic.rt: AND, ORA, EOR and BIT
 pub mod shift; // shift.rt: shifts, counts by one, single bits
 
 // The flags: negative, overflow, decimal, interrupt disable, zero, carry.
-#[derive(Drop)]
+#[derive(Clone, Copy)]
 pub struct Status {
     pub n: bool,
     pub v: bool,
@@ -21,7 +21,7 @@ pub struct Status {
 }
 
 // A byte, and the status after it was computed.
-#[derive(Drop)]
+#[derive(Clone, Copy)]
 pub struct Computed {
     pub value: u8,
     pub status: Status,

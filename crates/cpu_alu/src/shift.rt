@@ -1,7 +1,7 @@
 // Shifts, counts by one, single bits: what read-modify-write instructions do with a byte.
 ghost use Rattle.std.specs.Prelude.{◌≡◌};
 ghost use Rattle.cpu_alu.specs.Shift.{asl_of, lsr_of, rol_of, ror_of, increment_of, decrement_of, reset_bit_of, set_bit_of};
-ghost use Rattle.cpu_alu.specs.Copies.{with_c};
+ghost use Rattle.cpu_alu.specs.Status.{with_c};
 
 use crate::{Computed, Status, resulting};
 use bits::{one_where, with_bit};

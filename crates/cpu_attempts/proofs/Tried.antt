@@ -8,7 +8,6 @@ use native.Mathlib.Omega.{arith}
 use lib.Dec.{ltb}
 use borrow.Author.Tests.{ltb-false}
 use Rattle.memory.specs.Memory.{is_register}
-use Rattle.cpu_opcodes.specs.InstructionSet.{entry_of}
 use Rattle.cpu_opcodes.specs.Decode.{decode_of}
 use Rattle.cpu_opcodes.specs.declared.Entry.{Entry}
 use Rattle.cpu_opcodes.specs.declared.Decoded.TheVariants as decoded
@@ -42,7 +41,7 @@ use Rattle.cpu_effects.specs.declared.Worked.{Worked}
 use Rattle.cpu_effects.specs.declared.Writing.{Writing}
 use Rattle.cpu_effects.specs.declared.Writing.TheVariants.{Nothing, Pushed, Stored}
 use Rattle.cpu_effects.specs.Effects.{pushes_of, waiting_of, completed, stored, modified, branched, bit_branched}
-use Rattle.cpu_effects.specs.Effects.{worked_out, jumped, pushed_byte, pulled_byte, returned, returned_from_interrupt}
+use Rattle.cpu_effects.specs.Effects.{jumped, pushed_byte, pulled_byte, returned, returned_from_interrupt}
 use Rattle.cpu_kinds.specs.Kinds.{with_read, changed_by, byte_to_store, branch_taken, bit_branch_taken, byte_to_push}
 use Rattle.cpu_kinds.specs.Kinds.{with_pulled, with_register, with_flag}
 use Rattle.cpu_operations.specs.Operations.{operate_of}
@@ -59,11 +58,14 @@ use Rattle.cpu_access.specs.Halt.{ends_span}
 use Rattle.bits.proofs.Cond.{either_false}
 use Rattle.cpu_access.proofs.Ends.{no_writes_end}
 use Rattle.cpu_attempts.specs.Attempts.{Instructed, pushing, storing, Tries, unchanged, whole, failed_attempt}
-use Rattle.cpu_attempts.specs.Attempts.{started_next, stored_whole, asks_for, store_deferred, read_tried}
+use Rattle.cpu_attempts.specs.Attempts.{worked_out, started_next, stored_whole, asks_for, store_deferred, read_tried}
 use Rattle.cpu_attempts.specs.Attempts.{store_tried, store_memory, save_tried, save_memory, changed_at, change_tried}
 use Rattle.cpu_attempts.specs.Attempts.{change_memory, accumulator_tried, branch_tried, bit_branch_tried, jump_tried}
 use Rattle.cpu_attempts.specs.Attempts.{push_tried, push_memory, pull_tried, jsr_pushes, jsr_upper, jsr_tried}
 use Rattle.cpu_attempts.specs.Attempts.{jsr_memory, return_tried, interrupt_return_tried, register_tried, flag_tried}
+
+abbrev entry : Operation → Mode → ℕ → Entry
+entry o m n = record { operation = o; mode = m; length = n }
 
 -- a defined opcode at an address that is no register's: the instruction is what its entry executes
 pub opcode_executes : (r : CpuRegisters) (memory : List ℕ) (e : Entry) → is_register r.pc ≡ false
@@ -90,10 +92,10 @@ module _ (halt : Halt) (span : ℕ) (w : Work) (memory : List ℕ) (inside : w.g
   place_of m = locate_of [] memory m behind unasked
 
   abbrev Decodes : Operation → Mode → ℕ → Type 0
-  Decodes o m n = decode_of (memory_byte memory w.registers.pc) ≡ decoded.Defined (entry_of o m n)
+  Decodes o m n = decode_of (memory_byte memory w.registers.pc) ≡ decoded.Defined (entry o m n)
 
   abbrev Executes : Operation → Mode → ℕ → Worked → Type 0
-  Executes o m n worked = execute_of [] memory (entry_of o m n) behind unasked ≡ Done worked
+  Executes o m n worked = execute_of [] memory (entry o m n) behind unasked ≡ Done worked
 
   failed_or : (t : Bool) (a : Attempt) (memory' : List ℕ) → (t ≡ false → Tries halt span w memory a memory')
       → Tries halt span w memory (cond t (failed_attempt w) a) (cond t memory memory')
@@ -113,7 +115,7 @@ module _ (halt : Halt) (span : ℕ) (w : Work) (memory : List ℕ) (inside : w.g
       whole (subst (λ (memory' : List ℕ). Instructed halt span w memory (next_work w (worked_out r Nothing length))
       memory')
       (nothing_committed memory)
-      (pushing (worked_out r Nothing length) inside (opcode_executes w.registers memory (entry_of o m n) free d ∙ e)
+      (pushing (worked_out r Nothing length) inside (opcode_executes w.registers memory (entry o m n) free d ∙ e)
       refl (nothing_ends halt)))
 
   -- pushes
@@ -123,7 +125,7 @@ module _ (halt : Halt) (span : ℕ) (w : Work) (memory : List ℕ) (inside : w.g
   unfolding waiting_of pushes_of
   pushes o m n d r x length e q =
       whole (pushing (worked_out r (Pushed x) length) inside
-      (opcode_executes w.registers memory (entry_of o m n) free d ∙ e) refl q)
+      (opcode_executes w.registers memory (entry o m n) free d ∙ e) refl q)
 
   -- a store
   stores : (o : Operation) (m : Mode) (n : ℕ) → Decodes o m n → (r : CpuRegisters) (x : Write) → 1 < n
@@ -136,7 +138,7 @@ module _ (halt : Halt) (span : ℕ) (w : Work) (memory : List ℕ) (inside : w.g
       let both = either_false (ends_span halt (one_write x)) (ltb (span - w.gone.0) (w.wait + n)) t in
       let fits = ltb-false (span - w.gone.0) (w.wait + n) both.1 in
       whole (storing (worked_out r (Stored x) n) x (omega (arith, fits, long)) long
-      (opcode_executes w.registers memory (entry_of o m n) free d ∙ e) refl both.0))
+      (opcode_executes w.registers memory (entry o m n) free d ∙ e) refl both.0))
 
   -- a read
   read_done : (o : ReadOperation) (m : Mode) (n : ℕ) → (place_of m).bus.missing ≡ false
@@ -373,17 +375,17 @@ module _ (halt : Halt) (span : ℕ) (w : Work) (memory : List ℕ) (inside : w.g
   abbrev status : Pulled
   status = pull_of [] memory w.registers.sp unasked
 
-  rti_done : (n : ℕ) → (pull_address [] memory status.sp status.bus).bus.missing ≡ false
+  resume_done : (n : ℕ) → (pull_address [] memory status.sp status.bus).bus.missing ≡ false
       → Executes operation.Rti Implied n
       (worked_out (with_pc (pull_address [] memory status.sp status.bus).value
       (with_status (unpacked status.value)
       (with_sp (pull_address [] memory status.sp status.bus).sp w.registers))) Nothing n)
   unfolding execute_of carried_out operand_byte outcome_of operate_of returned_from_interrupt locate_of
-  rti_done n b = rw b refl
+  resume_done n b = rw b refl
 
   pub interrupt_return_tries : (n : ℕ) → Decodes operation.Rti Implied n
       → Tries halt span w memory (interrupt_return_tried w memory n) memory
   unfolding interrupt_return_tried
   interrupt_return_tries n d =
       failed_or_same (pull_address [] memory status.sp status.bus).bus.missing _
-      (λ b. read_only operation.Rti Implied n d _ _ (rti_done n b))
+      (λ b. read_only operation.Rti Implied n d _ _ (resume_done n b))

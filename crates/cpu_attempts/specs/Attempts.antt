@@ -30,7 +30,7 @@ use Rattle.cpu_access.specs.Stack.{write_at, one_write, push_at, down, push_addr
 use Rattle.cpu_effects.specs.declared.Worked.{Worked}
 use Rattle.cpu_effects.specs.declared.Writing.{Writing}
 use Rattle.cpu_effects.specs.declared.Writing.TheVariants.{Nothing, Pushed, Stored}
-use Rattle.cpu_effects.specs.Effects.{pushes_of, waiting_of, worked_out}
+use Rattle.cpu_effects.specs.Effects.{pushes_of, waiting_of}
 use Rattle.cpu_kinds.specs.Kinds.{with_read, changed_by, byte_to_store, bit_branch_taken, with_pulled, with_register}
 use Rattle.cpu_kinds.specs.Kinds.{with_flag}
 use Rattle.cpu_kinds.specs.Updates.{with_pc, with_sp, with_status, into_a}
@@ -53,7 +53,7 @@ pub data Instructed (halt : Halt) (span : ℕ) (w : Work) (memory : List ℕ) : 
       → ends_span halt (one_write x) ≡ false
       → Instructed halt span w memory (waited_out (next_work w worked)) (committed memory (one_write x))
 
--- what is tried leaves all as it was, or is one instruction whole; which of the two is left free
+-- what is tried leaves all as it was, or is one instruction whole
 pub data Tries (halt : Halt) (span : ℕ) (w : Work) (memory : List ℕ) : Attempt → List ℕ → Type 0 where
   unchanged : Tries halt span w memory (record { succeeded = false; work = w }) memory
   whole : {w' : Work} {memory' : List ℕ} → Instructed halt span w memory w' memory'
@@ -63,6 +63,9 @@ pub data Tries (halt : Halt) (span : ℕ) (w : Work) (memory : List ℕ) : Attem
 
 abbrev pub failed_attempt : Work → Attempt
 failed_attempt w = record { succeeded = false; work = w }
+
+abbrev pub worked_out : CpuRegisters → Writing → ℕ → Worked
+worked_out r x n = record { registers = r; writing = x; length = n }
 
 -- an instruction of n clocks that writes nothing to memory, or has pushed
 abbrev pub started_next : Work → CpuRegisters → ℕ → Attempt
@@ -191,16 +194,16 @@ unfoldable pub return_tried : Work → List ℕ → ℕ → Attempt
 return_tried w memory n = return_attempt w n (pull_address [] memory w.registers.sp unasked)
 
 -- RTI
-abbrev pub rti_attempt : Work → ℕ → Status → PulledAddress → Attempt
-rti_attempt w n s p =
+abbrev pub resume_attempt : Work → ℕ → Status → PulledAddress → Attempt
+resume_attempt w n s p =
     cond p.bus.missing (failed_attempt w)
     (started_next w (with_pc p.value (with_status s (with_sp p.sp w.registers))) n)
 
-abbrev pub rti_after_status : Work → List ℕ → ℕ → Pulled → Attempt
-rti_after_status w memory n p = rti_attempt w n (unpacked p.value) (pull_address [] memory p.sp p.bus)
+abbrev pub resume_after : Work → List ℕ → ℕ → Pulled → Attempt
+resume_after w memory n p = resume_attempt w n (unpacked p.value) (pull_address [] memory p.sp p.bus)
 
 unfoldable pub interrupt_return_tried : Work → List ℕ → ℕ → Attempt
-interrupt_return_tried w memory n = rti_after_status w memory n (pull_of [] memory w.registers.sp unasked)
+interrupt_return_tried w memory n = resume_after w memory n (pull_of [] memory w.registers.sp unasked)
 
 unfoldable pub register_tried : RegisterOperation → Work → ℕ → ℕ → Attempt
 register_tried o w pc n = started_next w (with_register o (with_pc pc w.registers)) n

@@ -1,4 +1,5 @@
 // One instruction of a span, tried: done whole, or left as it was.
+#![tactic(auto)]
 ghost use Rattle.std.specs.Prelude.{◌≡◌, ◌+◌, ◌≤◌};
 ghost use Rattle.cpu_attempts.specs.Attempts.{failed_attempt, started_next, stored_whole, asks_for};
 
@@ -10,7 +11,7 @@ use cpu_modes::Place;
 use memory::is_register;
 
 // Whether an instruction was done, and the work after it; as it was before, where not.
-#[derive(Drop)]
+#[derive(Clone, Copy)]
 pub struct Attempt {
     pub succeeded: bool,
     pub work: Work,

@@ -2,8 +2,7 @@
 use Rattle.std.specs.Prelude.{Bool, true, false, cond, List, ℕ, ◌+◌, ◌*◌, ◌/◌, ◌%◌, eqb}
 use Rattle.bits.specs.Bits.{bit, one_where}
 use Rattle.cpu_opcodes.specs.declared.operation.PullOperation.{PullOperation}
-use Rattle.cpu_alu.specs.Copies.{with_i}
-use Rattle.cpu_alu.specs.Status.{unpacked, pushed}
+use Rattle.cpu_alu.specs.Status.{unpacked, pushed, with_i}
 use Rattle.cpu_alu.specs.declared.Status.{Status}
 use Rattle.cpu_alu.specs.declared.Computed.{Computed}
 use Rattle.cpu_access.specs.declared.Bus.{Bus}
@@ -23,8 +22,7 @@ use Rattle.cpu_effects.specs.declared.Writing.TheVariants.{Nothing, Pushed, Stor
 use Rattle.cpu_effects.specs.declared.Operand.{Operand}
 use Rattle.cpu_effects.specs.declared.Executed.{Executed}
 -- with what is left go the registers set anew
-pub use Rattle.cpu_kinds.specs.Updates.{with_sp, with_pc, with_status, into_a, into_x, into_y}
-pub use Rattle.cpu_kinds.specs.Loads.{load_a, load_x, load_y}
+pub use Rattle.cpu_kinds.specs.Updates.{with_sp, with_pc, with_status, into_a, into_x, into_y, load_a, load_x, load_y}
 use Rattle.cpu_kinds.specs.Kinds.{with_pulled}
 
 -- what is written on the first clock, in order: the pushes
@@ -39,12 +37,8 @@ waiting_of Nothing = waiting.Nothing
 waiting_of (Pushed w) = waiting.Nothing
 waiting_of (Stored x) = waiting.Byte x
 
--- an instruction that leaves these registers, writes this and takes n clocks
-abbrev pub worked_out : CpuRegisters → Writing → ℕ → Worked
-worked_out r w n = record { registers = r; writing = w; length = n }
-
 abbrev pub executed : CpuRegisters → Writing → ℕ → Bus → Executed
-executed r w n b = record { worked = worked_out r w n; bus = b }
+executed r w n b = record { worked = record { registers = r; writing = w; length = n }; bus = b }
 
 -- nothing is written
 abbrev pub read_only : CpuRegisters → ℕ → Bus → Executed
@@ -108,14 +102,14 @@ unfoldable pub returned : List ℕ → List ℕ → Operand → CpuRegisters →
 returned answers memory o r = return_to o r (pull_address answers memory r.sp o.bus)
 
 -- RTI: the status is pulled, then PC
-abbrev pub rti_to : Operand → CpuRegisters → Status → PulledAddress → Executed
-rti_to o r s w = read_only (with_pc w.value (with_status s (with_sp w.sp r))) o.length w.bus
+abbrev pub resume_at : Operand → CpuRegisters → Status → PulledAddress → Executed
+resume_at o r s w = read_only (with_pc w.value (with_status s (with_sp w.sp r))) o.length w.bus
 
-abbrev pub rti_pulled : List ℕ → List ℕ → Operand → CpuRegisters → Pulled → Executed
-rti_pulled answers memory o r p = rti_to o r (unpacked p.value) (pull_address answers memory p.sp p.bus)
+abbrev pub resume_with : List ℕ → List ℕ → Operand → CpuRegisters → Pulled → Executed
+resume_with answers memory o r p = resume_at o r (unpacked p.value) (pull_address answers memory p.sp p.bus)
 
 unfoldable pub returned_from_interrupt : List ℕ → List ℕ → Operand → CpuRegisters → Executed
-returned_from_interrupt answers memory o r = rti_pulled answers memory o r (pull_of answers memory r.sp o.bus)
+returned_from_interrupt answers memory o r = resume_with answers memory o r (pull_of answers memory r.sp o.bus)
 
 -- 01, One clock, 4: "An entry .. sets I; NMI and IRQ push PC high, PC low, P", "each 7 clocks"; p is P as it is pushed
 unfoldable pub interrupted : List ℕ → ℕ → ℕ → CpuRegisters → Worked

@@ -1,4 +1,5 @@
 // What an instruction leaves: CPU registers, nothing written or pushes or one store, and its length.
+#![tactic(auto)]
 ghost use Rattle.std.specs.Prelude.{◌≡◌};
 ghost use Rattle.cpu_effects.specs.Effects.{pushes_of, waiting_of};
 
@@ -9,7 +10,7 @@ use cpu_access::{Bus, CpuRegisters};
 pub mod effects; // effects.rt: what an instruction leaves, by kind
 
 // What an instruction or an entry writes: nothing, pushes in their order, or one store; never pushes and a store.
-#[derive(Drop)]
+#[derive(Clone, Copy)]
 pub enum Writing {
     Nothing,
     Pushed(Writes),
@@ -17,7 +18,7 @@ pub enum Writing {
 }
 
 // An instruction, or an entry, that is done: the registers after it, what it writes, and its clocks.
-#[derive(Drop)]
+#[derive(Clone, Copy)]
 pub struct Worked {
     pub registers: CpuRegisters,
     pub writing: Writing,
@@ -25,7 +26,7 @@ pub struct Worked {
 }
 
 // The operand of an instruction, its byte read where the operation reads one; of a branch the address is the target.
-#[derive(Drop)]
+#[derive(Clone, Copy)]
 pub struct Operand {
     pub address: u16,
     pub value: u8,
@@ -36,7 +37,7 @@ pub struct Operand {
 }
 
 // An instruction worked to its end, with what it asked for.
-#[derive(Drop)]
+#[derive(Clone, Copy)]
 pub struct Executed {
     pub worked: Worked,
     pub bus: Bus,

@@ -32,8 +32,8 @@ use Rattle.cpu_access.specs.declared.CpuRegisters.{CpuRegisters}
 use Rattle.cpu_kinds.specs.Kinds.{with_read, changed_by, with_pulled, with_register, with_flag}
 
 -- a list names an operation by its mnemonic, RMB, SMB, BBR and BBS whatever their bit
-abbrev pub names_operation : List Operation → Operation → Bool
-names_operation l o = any_of (λ p. eqb (operation_number p) (operation_number o)) l
+abbrev pub listed : List Operation → Operation → Bool
+listed l o = any_of (λ p. eqb (operation_number p) (operation_number o)) l
 
 -- 001, 3.8.1: SEC, CLC; "Other operations which affect the Carry Bit are ADC, ASL, CMP, CPX, CPY, LSR, PLP, ROL, ROR,
 -- RTI, and SBC."
@@ -70,12 +70,12 @@ Unless false A = A
 
 -- the flags t after operation o, where they were s: one whose list does not name o is kept
 pub record Kept (o : Operation) (s t : Status) : Type 0 where
-  pub n : Unless (names_operation affect_nZ o) (t.n ≡ s.n)
-  pub v : Unless (names_operation affect_v o) (t.v ≡ s.v)
-  pub d : Unless (names_operation affect_d o) (t.d ≡ s.d)
-  pub i : Unless (names_operation affect_i o) (t.i ≡ s.i)
-  pub z : Unless (names_operation affect_nZ o) (t.z ≡ s.z)
-  pub c : Unless (names_operation affect_c o) (t.c ≡ s.c)
+  pub n : Unless (listed affect_nZ o) (t.n ≡ s.n)
+  pub v : Unless (listed affect_v o) (t.v ≡ s.v)
+  pub d : Unless (listed affect_d o) (t.d ≡ s.d)
+  pub i : Unless (listed affect_i o) (t.i ≡ s.i)
+  pub z : Unless (listed affect_nZ o) (t.z ≡ s.z)
+  pub c : Unless (listed affect_c o) (t.c ≡ s.c)
 
 pub unlisted : {A : Type 0} (b : Bool) → b ≡ false → Unless b A → A
 unlisted b e u = rw e at u
@@ -151,10 +151,10 @@ unless_same false a = a
 
 pub same_kept : (o : Operation) (s t : Status) → t ≡ s → Kept o s t
 same_kept o s t e = record {
-  n = unless_same (names_operation affect_nZ o) (rw e);
-  v = unless_same (names_operation affect_v o) (rw e);
-  d = unless_same (names_operation affect_d o) (rw e);
-  i = unless_same (names_operation affect_i o) (rw e);
-  z = unless_same (names_operation affect_nZ o) (rw e);
-  c = unless_same (names_operation affect_c o) (rw e);
+  n = unless_same (listed affect_nZ o) (rw e);
+  v = unless_same (listed affect_v o) (rw e);
+  d = unless_same (listed affect_d o) (rw e);
+  i = unless_same (listed affect_i o) (rw e);
+  z = unless_same (listed affect_nZ o) (rw e);
+  c = unless_same (listed affect_c o) (rw e);
 }

@@ -21,16 +21,14 @@ use Rattle.cpu_opcodes.specs.declared.operation.PullOperation.TheVariants.{Pla, 
 use Rattle.cpu_opcodes.specs.declared.operation.RegisterOperation.TheVariants.{Dex, Dey, Inx, Iny, Tax, Tay, Tsx, Txa}
 use Rattle.cpu_opcodes.specs.declared.operation.RegisterOperation.TheVariants.{Txs, Tya}
 use Rattle.cpu_opcodes.specs.declared.operation.FlagOperation.TheVariants.{Clc, Cld, Cli, Clv, Sec, Sed, Sei}
-use Rattle.cpu_alu.specs.Copies.{with_v, with_d, with_i, with_c}
-use Rattle.cpu_alu.specs.Status.{pushed, unpacked}
+use Rattle.cpu_alu.specs.Status.{pushed, unpacked, with_v, with_d, with_i, with_c}
 use Rattle.cpu_alu.specs.Arithmetic.{adc_of, sbc_of, compare_of}
 use Rattle.cpu_alu.specs.Logic.{and_of, ora_of, eor_of, bit_of}
 use Rattle.cpu_alu.specs.Shift.{asl_of, lsr_of, rol_of, ror_of, increment_of, decrement_of, reset_bit_of, set_bit_of}
 use Rattle.cpu_alu.specs.declared.Status.{Status}
 use Rattle.cpu_alu.specs.declared.Computed.{Computed}
 use Rattle.cpu_access.specs.declared.CpuRegisters.{CpuRegisters}
-use Rattle.cpu_kinds.specs.Updates.{with_sp, with_status, into_a, into_x, into_y}
-use Rattle.cpu_kinds.specs.Loads.{load_a, load_x, load_y}
+use Rattle.cpu_kinds.specs.Updates.{with_sp, with_status, into_a, into_x, into_y, load_a, load_x, load_y}
 
 -- the registers after the byte v was read
 unfoldable pub with_read : ReadOperation → CpuRegisters → ℕ → CpuRegisters

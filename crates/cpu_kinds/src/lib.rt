@@ -1,4 +1,5 @@
 // What an operation computes, by its kind.
+#![tactic(auto)]
 
 // The operations of each kind.
 pub mod kinds;

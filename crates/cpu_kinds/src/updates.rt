@@ -1,7 +1,7 @@
 // One register as given, the others kept. Built field by field, so that the registers stay in the host's own.
 ghost use Rattle.std.specs.Prelude.{◌≡◌};
-ghost use Rattle.cpu_kinds.specs.Updates.{with_sp, with_pc, with_status, into_a, into_x, into_y};
-ghost use Rattle.cpu_kinds.specs.Loads.{load_a, load_x, load_y};
+ghost use Rattle.cpu_kinds.specs.Updates.{with_sp, with_pc, with_status, into_a, into_x, into_y, load_a, load_x};
+ghost use Rattle.cpu_kinds.specs.Updates.{load_y};
 
 use cpu_access::CpuRegisters;
 use cpu_alu::{Computed, Status};

@@ -4,7 +4,7 @@ use Rattle.std.proofs.Common.{◌≡◌, ℕ, ◌+◌, ◌-◌, ◌*◌, ◌/◌
 use Rattle.cpu_access.specs.Bus.{next_address}
 use Rattle.cpu_modes.specs.Modes.{second_address}
 
-pub record PointerExamples : Type 0 where
+pub record Examples : Type 0 where
   -- "pointer 02FFh takes 02FFh and 0200h"
   pub page_two : second_address 0x02FF ≡ 0x0200
   -- port A's register; the last page, and no register
@@ -13,8 +13,8 @@ pub record PointerExamples : Type 0 where
   -- from the last register into memory
   pub behind_the_registers : second_address 0x003F ≡ 0x0040
 
-pub pointer_examples : PointerExamples
-pointer_examples = record { page_two = refl; page_zero = refl; last_page = refl; behind_the_registers = refl }
+pub examples : Examples
+examples = record { page_two = refl; page_zero = refl; last_page = refl; behind_the_registers = refl }
 
 module _ (p : ℕ) (sixteen : p < 65536) where
   -- the page of the pointer, and its low byte plus 1

@@ -1,4 +1,5 @@
 // Addressing modes: where the operand lies, whether finding it crossed a page, and PC past the operand bytes.
+#![tactic(auto)]
 ghost use Rattle.std.specs.Prelude.{◌≡◌};
 ghost use Rattle.cpu_modes.specs.Modes.{place_at, no_place, other_page, zero_page_address, at_zero_page};
 ghost use Rattle.cpu_modes.specs.Modes.{at_zero_page_indexed, at_absolute, at_indexed, at_indexed_indirect};
@@ -9,7 +10,7 @@ use cpu_access::{Bus, CpuRegisters, Fetched, FetchedAddress, GotAddress, next_ad
 use cpu_opcodes::Mode;
 
 // Where an operand is; of a branch, its target.
-#[derive(Drop)]
+#[derive(Clone, Copy)]
 pub struct Place {
     pub address: u16,
     pub crossed: bool,

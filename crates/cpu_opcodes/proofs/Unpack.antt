@@ -20,8 +20,8 @@ same_at f g n k e h =
     at (sym (get_d_tabulate f n 0 k (f k) h) ∙ ap (λ l. get_or l k (f k)) e ∙ get_d_tabulate g n 0 k (f k) h)
 
 -- the table's number e of opcode o, taken apart as the code does
-abbrev pub unpacked_entry : ℕ → ℕ → Decoded
-unpacked_entry o e =
+abbrev pub entry_of : ℕ → ℕ → Decoded
+entry_of o e =
     cond (eqb e 0) Undefined
     (Defined (record {
       operation = operation_of (e / 4096) (e / 256 % 16) (o / 16 % 8);
@@ -29,7 +29,7 @@ unpacked_entry o e =
       length = e % 16;
     }))
 
-numbers_decode : tabulate (λ o. unpacked_entry o (entry_number (decode_of o))) 256 0 ≡ tabulate decode_of 256 0
+numbers_decode : tabulate (λ o. entry_of o (entry_number (decode_of o))) 256 0 ≡ tabulate decode_of 256 0
 unfolding decode_of
 numbers_decode = refl
 
@@ -37,9 +37,9 @@ pub table_length : length opcode_table ≡ 256
 unfolding opcode_table
 table_length = refl
 
-pub table_decodes : (o : ℕ) → o < 256 → unpacked_entry o (get_or opcode_table o 0) ≡ decode_of o
+pub table_decodes : (o : ℕ) → o < 256 → entry_of o (get_or opcode_table o 0) ≡ decode_of o
 unfolding opcode_table
 table_decodes o h =
-    ap (unpacked_entry o)
+    ap (entry_of o)
     (get_d_tabulate (λ k. entry_number (decode_of k)) 256 0 o 0 h ∙ ap (λ k. entry_number (decode_of k)) (zero-add o))
-    ∙ same_at (λ k. unpacked_entry k (entry_number (decode_of k))) decode_of 256 o numbers_decode h
+    ∙ same_at (λ k. entry_of k (entry_number (decode_of k))) decode_of 256 o numbers_decode h

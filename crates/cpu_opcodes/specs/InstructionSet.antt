@@ -27,16 +27,13 @@ use Rattle.cpu_opcodes.specs.declared.Mode.TheVariants.{ZeroPageY, Absolute, Abs
 use Rattle.cpu_opcodes.specs.declared.Mode.TheVariants.{IndexedIndirect, IndirectIndexed, Indirect, Relative}
 use Rattle.cpu_opcodes.specs.declared.Mode.TheVariants.{ZeroPageRelative}
 
-abbrev pub entry_of : Operation → Mode → ℕ → Entry
-entry_of p m n = record { operation = p; mode = m; length = n }
-
 -- one line of the set; the length is in clocks, without those that a page crossing or a taken branch adds
 pub record Row : Type 0 where
   pub opcode : ℕ
   pub entry : Entry
 
 abbrev pub row : ℕ → Operation → Mode → ℕ → Row
-row o p m n = record { opcode = o; entry = entry_of p m n }
+row o p m n = record { opcode = o; entry = record { operation = p; mode = m; length = n } }
 
 -- 01, Instructions: "151 opcodes of the 6502"
 abbrev pub standard_rows : List Row

@@ -1,4 +1,5 @@
 // The opcodes of the enhanced R6502: which operation, addressing mode and length each of the 256 has, if any.
+#![tactic(auto)]
 ghost use Rattle.std.specs.Prelude.{◌≡◌};
 ghost use Rattle.cpu_opcodes.specs.Decode.{decode_of};
 ghost use Rattle.cpu_opcodes.specs.TableInCode.{opcode_table, mode_of};
@@ -9,7 +10,7 @@ pub mod operation; // operation.rt: the operations, by kind
 mod table; // table.rt: the table of opcodes
 
 // Where an instruction finds its operand.
-#[derive(Drop)]
+#[derive(Clone, Copy)]
 pub enum Mode {
     Implied,
     Accumulator,
@@ -29,14 +30,14 @@ pub enum Mode {
 
 // What the table says of a defined opcode. The length is in clocks, without those that a page crossing or a taken
 // branch adds.
-#[derive(Drop)]
+#[derive(Clone, Copy)]
 pub struct Entry {
     pub operation: Operation,
     pub mode: Mode,
     pub length: u8,
 }
 
-#[derive(Drop)]
+#[derive(Clone, Copy)]
 pub enum Decoded {
     Undefined,
     Defined(Entry),

@@ -6,7 +6,7 @@ ghost use Rattle.cpu_opcodes.specs.TableInCode.{pull_operation};
 ghost use Rattle.cpu_opcodes.specs.TableInCode.{register_operation, flag_operation};
 
 // Reads of the byte at the operand's address.
-#[derive(Drop)]
+#[derive(Clone, Copy)]
 pub enum ReadOperation {
     Adc,
     And,
@@ -23,7 +23,7 @@ pub enum ReadOperation {
 }
 
 // The read-modify-write operations: a byte is read, changed and written back. RMB and SMB hold the number of their bit.
-#[derive(Drop)]
+#[derive(Clone, Copy)]
 pub enum ModifyOperation {
     Asl,
     Dec,
@@ -36,7 +36,7 @@ pub enum ModifyOperation {
 }
 
 // A register is stored.
-#[derive(Drop)]
+#[derive(Clone, Copy)]
 pub enum StoreOperation {
     Sta,
     Stx,
@@ -44,7 +44,7 @@ pub enum StoreOperation {
 }
 
 // Branches, each on one flag.
-#[derive(Drop)]
+#[derive(Clone, Copy)]
 pub enum BranchOperation {
     Bcc,
     Bcs,
@@ -57,28 +57,28 @@ pub enum BranchOperation {
 }
 
 // Branches on a bit of a byte that is read. Each holds the number of its bit.
-#[derive(Drop)]
+#[derive(Clone, Copy)]
 pub enum BitBranchOperation {
     Bbr(u8),
     Bbs(u8),
 }
 
 // A byte is pushed.
-#[derive(Drop)]
+#[derive(Clone, Copy)]
 pub enum PushOperation {
     Pha,
     Php,
 }
 
 // A byte is pulled.
-#[derive(Drop)]
+#[derive(Clone, Copy)]
 pub enum PullOperation {
     Pla,
     Plp,
 }
 
 // Registers of the CPU alone: counted by one, or moved to another.
-#[derive(Drop)]
+#[derive(Clone, Copy)]
 pub enum RegisterOperation {
     Dex,
     Dey,
@@ -93,7 +93,7 @@ pub enum RegisterOperation {
 }
 
 // One flag is cleared or set.
-#[derive(Drop)]
+#[derive(Clone, Copy)]
 pub enum FlagOperation {
     Clc,
     Cld,
@@ -105,7 +105,7 @@ pub enum FlagOperation {
 }
 
 // An operation: one of a kind, or one that is a kind of its own.
-#[derive(Drop)]
+#[derive(Clone, Copy)]
 pub enum Operation {
     Read(ReadOperation),
     Modify(ModifyOperation),

@@ -32,8 +32,8 @@ pub record Cost : Type 0 where
   pub reads : ℕ → ℕ
   pub extra : ℕ
 
-abbrev pub plain_cost : Cost
-plain_cost = record { reads = λ k. k; extra = 0 }
+abbrev pub plain : Cost
+plain = record { reads = λ k. k; extra = 0 }
 
 abbrev pub settling : Cost
 settling = record { reads = λ k. k; extra = 1 }
@@ -50,24 +50,24 @@ pulling = record { reads = λ k. suc k; extra = 0 }
 abbrev pub returning : Cost
 returning = record { reads = λ k. suc (suc k); extra = 0 }
 
-abbrev pub rti_cost : Cost
-rti_cost = record { reads = λ k. suc (suc (suc k)); extra = 0 }
+abbrev pub resuming : Cost
+resuming = record { reads = λ k. suc (suc (suc k)); extra = 0 }
 
 abbrev pub cost_of : Operation → Cost
 cost_of (operation.Read p) = settling
-cost_of (operation.Modify p) = plain_cost
-cost_of (operation.Store p) = plain_cost
+cost_of (operation.Modify p) = plain
+cost_of (operation.Store p) = plain
 cost_of (operation.Branch p) = branching
 cost_of (operation.BitBranch p) = bit_branching
-cost_of (operation.Push p) = plain_cost
+cost_of (operation.Push p) = plain
 cost_of (operation.Pull p) = pulling
 cost_of (operation.Register p) = settling
 cost_of (operation.Flag p) = settling
-cost_of operation.Brk = plain_cost
-cost_of operation.Jmp = plain_cost
+cost_of operation.Brk = plain
+cost_of operation.Jmp = plain
 cost_of operation.Jsr = settling
 cost_of operation.Nop = settling
-cost_of operation.Rti = rti_cost
+cost_of operation.Rti = resuming
 cost_of operation.Rts = returning
 
 -- n: the length of the opcode's entry
@@ -89,19 +89,19 @@ module _ (P : ℕ → Bus → Type 0) (answers memory : List ℕ)
       record { bus = h; writes = lit≤ tt; least = λ l. omega arith; most = λ l. omega arith }
 
   stored_sound : (k : ℕ) (o : Operand) (r : CpuRegisters) (v : ℕ) → P k o.bus
-      → Sound P k o.length plain_cost (stored o r v)
+      → Sound P k o.length plain (stored o r v)
   unfolding stored pushes_of
   stored_sound k o r v h = record { bus = h; writes = lit≤ tt; least = λ l. l; most = λ l. omega arith }
 
-  read_only_sound : (k n : ℕ) (r : CpuRegisters) (b : Bus) → P k b → Sound P k n plain_cost (read_only r n b)
+  read_only_sound : (k n : ℕ) (r : CpuRegisters) (b : Bus) → P k b → Sound P k n plain (read_only r n b)
   unfolding pushes_of
   read_only_sound k n r b h = record { bus = h; writes = lit≤ tt; least = λ l. l; most = λ l. omega arith }
 
   modified_sound : (k : ℕ) (o : Operand) (r : CpuRegisters) (v : Computed) → P k o.bus
-      → Sound P k o.length plain_cost (modified o r v)
+      → Sound P k o.length plain (modified o r v)
   unfolding modified
   modified_sound k o r v h =
-      cond_both (Sound P k o.length plain_cost) o.accumulator (read_only (into_a v r) o.length o.bus)
+      cond_both (Sound P k o.length plain) o.accumulator (read_only (into_a v r) o.length o.bus)
       (stored o (with_status v.status r) v.value)
       (λ t. read_only_sound k o.length (into_a v r) o.bus h)
       (λ t. stored_sound k o (with_status v.status r) v.value h)
@@ -128,12 +128,12 @@ module _ (P : ℕ → Bus → Type 0) (answers memory : List ℕ)
       let s = branched_sound (suc k) (branch_operand o p) (with_pc p.pc r) taken q in
       record { bus = s.bus; writes = s.writes; least = s.least; most = s.most }
 
-  jumped_sound : (k : ℕ) (o : Operand) (r : CpuRegisters) → P k o.bus → Sound P k o.length plain_cost (jumped o r)
+  jumped_sound : (k : ℕ) (o : Operand) (r : CpuRegisters) → P k o.bus → Sound P k o.length plain (jumped o r)
   unfolding jumped
   jumped_sound k o r h = read_only_sound k o.length (with_pc o.address r) o.bus h
 
   pushed_sound : (k : ℕ) (o : Operand) (r : CpuRegisters) (v : ℕ) → P k o.bus
-      → Sound P k o.length plain_cost (pushed_byte o r v)
+      → Sound P k o.length plain (pushed_byte o r v)
   unfolding pushed_byte pushes_of
   pushed_sound k o r v h = record { bus = h; writes = lit≤ tt; least = λ l. l; most = λ l. omega arith }
 
@@ -160,7 +160,7 @@ module _ (P : ℕ → Bus → Type 0) (answers memory : List ℕ)
       }
 
   returned_from_interrupt_sound : (k : ℕ) (o : Operand) (r : CpuRegisters) → P k o.bus
-      → Sound P k o.length rti_cost (returned_from_interrupt answers memory o r)
+      → Sound P k o.length resuming (returned_from_interrupt answers memory o r)
   unfolding returned_from_interrupt pushes_of
   returned_from_interrupt_sound k o r h =
       let p = pull_of answers memory r.sp o.bus in
@@ -174,7 +174,7 @@ module _ (P : ℕ → Bus → Type 0) (answers memory : List ℕ)
       }
 
   break_taken_sound : (k : ℕ) (o : Operand) (r : CpuRegisters) → P k o.bus
-      → Sound P k o.length plain_cost (break_taken memory o r)
+      → Sound P k o.length plain (break_taken memory o r)
   unfolding break_taken interrupted push_interrupt pushes_of
   break_taken_sound k o r h = record { bus = h; writes = lit≤ tt; least = λ l. lit≤ tt; most = λ l. lit≤ tt }
 

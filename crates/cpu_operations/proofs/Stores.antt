@@ -28,7 +28,7 @@ use Rattle.cpu_effects.specs.Effects.{completed, stored, modified, branched, bra
 use Rattle.cpu_effects.specs.Effects.{jumped, pushed_byte, pulled_byte, returned, returned_from_interrupt}
 use Rattle.cpu_effects.specs.Effects.{interrupted, break_taken}
 use Rattle.cpu_operations.specs.Operations.{access_of, operate_of}
-use Rattle.cpu_kinds.proofs.Flags.{names_operation}
+use Rattle.cpu_kinds.proofs.Flags.{listed}
 
 -- 001, 4.1: "Read/Modify/Write instructions are: ASL, DEC, INC, LSR, RMB, ROL, ROR, and SMB."
 abbrev pub read_modify_write : List Operation
@@ -44,15 +44,15 @@ modifies access.Modify = true
 modifies access.Jsr = false
 
 eight_modify : Entry → Bool
-eight_modify e = beq (modifies (access_of e.operation)) (names_operation read_modify_write e.operation)
+eight_modify e = beq (modifies (access_of e.operation)) (listed read_modify_write e.operation)
 
 -- of all instructions just these eight read a byte to change it, and so a port's latch
 pub just_eight : (o : ℕ) (e : Entry) → decode_of o ≡ Defined e
-    → modifies (access_of e.operation) ≡ names_operation read_modify_write e.operation
+    → modifies (access_of e.operation) ≡ listed read_modify_write e.operation
 unfolding decode_of eight_modify
 just_eight o e h =
     let t : T (eight_modify e) = rw h at (looked_up eight_modify o rows tt) in
-    equal (modifies (access_of e.operation)) (names_operation read_modify_write e.operation) t
+    equal (modifies (access_of e.operation)) (listed read_modify_write e.operation) t
 
 -- one store, and so no push
 abbrev pub is_store : Writing → Bool

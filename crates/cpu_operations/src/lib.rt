@@ -1,4 +1,5 @@
 // What each operation does: how it uses the byte at its operand's address, and what it leaves.
+#![tactic(auto)]
 ghost use Rattle.std.specs.Prelude.{◌≡◌, ◌≤◌};
 ghost use Rattle.cpu_operations.specs.Operations.{access_of, is_jsr, operate_of};
 
@@ -16,7 +17,7 @@ use cpu_kinds::updates::with_status;
 use cpu_opcodes::operation::Operation;
 
 // What an operation does with the byte at its operand's address; JSR reads its operand itself.
-#[derive(Drop)]
+#[derive(Clone, Copy)]
 pub enum Access {
     Nothing,
     Read,

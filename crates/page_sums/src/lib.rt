@@ -1,4 +1,5 @@
 // Page sums beside a memory: one commit of a byte to both, and the total (document 02, U7).
+#![tactic(auto)]
 ghost use Rattle.std.specs.Prelude.{◌≡◌, ◌+◌, ◌<◌, ◌^◌, length, set};
 ghost use Rattle.page_sums.specs.PageSums.{sum_changed, sum_at, sums_after_part, page_list_refused, total_call};
 
@@ -14,7 +15,7 @@ const PAGE_LENGTH: usize = 256;
 pub const WRONG_PAGE_LIST: u8 = 13;
 
 // What the call for the total hands back: 0 and the total, or the number of a refusal and 0.
-#[derive(Drop)]
+#[derive(Clone, Copy)]
 pub struct TotalResult {
     pub number: u8,
     pub total: u16,

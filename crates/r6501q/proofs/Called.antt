@@ -15,10 +15,10 @@ use Rattle.r6501q_host.specs.Host.{state_from_host, flags_fit, host_result}
 use Rattle.r6501q.specs.Calls.{host_handed, host_call}
 
 module _ (call : Halt → World → Handed) (n : ℕ) (memory input_clocks input_codes output_clocks output_words : List ℕ) where
-  pub host_called_lem : (h : HostState) (s : State) (halt refused : Halt) (q : CallResult) (r : HostResult)
-      (later times words : List ℕ) → flags_fit h ≡ true → s ≡ state_from_host h → refused ≡ halt → r ≡ host_result q
-      → handed q later times words ≡ call refused (call_start s memory input_clocks input_codes output_clocks output_words)
+  pub host_called_lem : (h : HostState) (s : State) (halt told : Halt) (q : CallResult) (r : HostResult)
+      (later times words : List ℕ) → flags_fit h ≡ true → s ≡ state_from_host h → told ≡ halt → r ≡ host_result q
+      → handed q later times words ≡ call told (call_start s memory input_clocks input_codes output_clocks output_words)
       → host_handed r later times words
       ≡ host_call (call halt) n (call_start h memory input_clocks input_codes output_clocks output_words)
   unfolding host_call
-  host_called_lem h s halt refused q r later times words fit e k t went = rw (fit, ← e, ← k, ← went, t)
+  host_called_lem h s halt told q r later times words fit e k t went = rw (fit, ← e, ← k, ← went, t)

@@ -98,7 +98,7 @@ module _ (halt k : ℕ) (w v : HostWorld) (r : ShiftedWorld host_shifted k w v) 
   later_fits = ap flags_fit r.state ∙ fit_shifted k w.state ∙ fits
 
   -- the exported single clock and the exported run hand back the same but for the clock, leaps too, refused or not,
-  -- where 4 is handed back at both clocks or at neither;
+  -- where 4 is told at both clocks or at neither;
   pub host_call_shifted : (c : Call)
       → RefusedAlike (r6501q (halt_of halt)) (count_of c) (world_from_host w) (world_from_host v)
       → ShiftedHanded host_shifted k (host_called halt c w) (host_called halt c v)

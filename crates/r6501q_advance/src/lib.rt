@@ -1,4 +1,5 @@
 // One clock of the chip with its memory and pin lists.
+#![tactic(auto)]
 ghost use Rattle.std.specs.Prelude.{◌≡◌, ◌+◌, ◌≤◌, ◌<◌, ◌^◌, length, take, drop};
 ghost use Rattle.bits.specs.Bits.{one_where};
 ghost use Rattle.page_sums.specs.PageSums.{sums_after};
@@ -19,7 +20,7 @@ use r6501q_clock::{Clocked, Ended, HALTED};
 use r6501q_state::state::State;
 
 // How far a call has come: the state, the inputs read, the records written, and the stop, 0 where nothing stopped.
-#[derive(Drop)]
+#[derive(Clone, Copy)]
 pub struct Progress {
     pub state: State,
     pub read: usize,

@@ -16,7 +16,7 @@ use Rattle.cpu_access.specs.declared.halt.Halt.{Halt}
 use Rattle.cpu_access.specs.declared.halt.Halt.TheVariants.{Nowhere, At}
 use Rattle.cpu_access.specs.Stack.{no_writes}
 use Rattle.cpu_access.specs.Halt.{halts}
-use Rattle.cpu_access.proofs.WritesInOrder.{writes_in_order, in_turn, each_written, unwritten}
+use Rattle.cpu_access.proofs.Told.{told, in_turn, each_told, unwritten}
 use Rattle.leaps.specs.Leaps.{plains}
 use Rattle.leaps.specs.World.{stopped_at, moved_to, after, input_count_in, running_in, plain_of}
 use Rattle.r6501q_state.specs.declared.state.State.{State}
@@ -34,12 +34,12 @@ use Rattle.r6501q_events.proofs.Gaps.{gap_clock, gap_event}
 use Rattle.r6501q_events.proofs.Passing.{pass_driven}
 use Rattle.r6501q_chip.specs.R6501q.{World, end_of, clock_outcome, r6501q, plain, system}
 
--- ---- what a clock writes
+-- ---- what a clock tells
 
 -- the writes of a clock that is done; nothing where it stops
-abbrev pub writes_by : Clocked → Writes
-writes_by (Stopped number) = no_writes
-writes_by (Done e) = e.writes
+abbrev pub told_by : Clocked → Writes
+told_by (Stopped number) = no_writes
+told_by (Done e) = e.writes
 
 -- what the next clock comes to: no halt address has a part in it
 abbrev pub clock_in : World → Clocked
@@ -49,7 +49,7 @@ clock_in w =
 
 -- the next clock is done and writes the halt address
 abbrev pub writes_halt : Halt → World → Bool
-writes_halt halt w = running_in w && halts halt (writes_by (clock_in w))
+writes_halt halt w = running_in w && halts halt (told_by (clock_in w))
 
 -- ---- the stop
 
@@ -65,7 +65,7 @@ stop_twelve halt w on = rw (eq-eqb w.stop 0 on) (by_clock (clock_in w) refl)
   where
     by_clock : (x : Clocked) → clock_in w ≡ x
         → eqb (after (r6501q halt) w (input_count_in (r6501q halt) w) (clock_outcome halt w.memory x)).stop 12
-        ≡ halts halt (writes_by x)
+        ≡ halts halt (told_by x)
     by_clock (Stopped number) e =
         stop_either (λ (k : ℕ). eqb k 12 ≡ false) refl refl w.state _ w.memory _ number e
         ∙ sym (unwritten halt no_writes refl)
@@ -88,7 +88,7 @@ plain_halts halt w = by_running (running_in w) refl
 
     by_clock : (x : Clocked) → let inputs = input_count_in (r6501q halt) w in
         after (r6501q halt) w inputs (clock_outcome halt w.memory x)
-        ≡ cond (halts halt (writes_by x))
+        ≡ cond (halts halt (told_by x))
         (stopped_at halt_stop (after (r6501q Nowhere) w inputs (clock_outcome Nowhere w.memory x)))
         (after (r6501q Nowhere) w inputs (clock_outcome Nowhere w.memory x))
     by_clock (Stopped number) = sym (cond_no (halts halt no_writes) _ _ (unwritten halt no_writes refl))
@@ -98,7 +98,7 @@ plain_halts halt w = by_running (running_in w) refl
 
     by_running : (t : Bool) → running_in w ≡ t
         → cond t (after (r6501q halt) w (input_count_in (r6501q halt) w) (clock_outcome halt w.memory (clock_in w))) w
-        ≡ cond (t && halts halt (writes_by (clock_in w)))
+        ≡ cond (t && halts halt (told_by (clock_in w)))
         (stopped_at halt_stop
         (cond t (after (r6501q Nowhere) w (input_count_in (r6501q Nowhere) w)
         (clock_outcome Nowhere w.memory (clock_in w))) w))
@@ -220,7 +220,7 @@ plains_twelve halt n w on = rw (plains_halt halt n w) (by_test (ltb (clocks_befo
 
 -- ---- memory
 
--- a write of a clock, put into memory: at 40h or above
+-- a write told, put into memory: at 40h or above
 abbrev pub stored_in : Write → List ℕ → List ℕ
 stored_in x memory = cond (ltb x.address 0x40) memory (set memory x.address x.value)
 
@@ -243,21 +243,21 @@ no_put : (x : Write) (memory : List ℕ) → put_write false x memory ≡ memory
 unfolding put_write
 no_put x memory = refl
 
-committed_written : (memory : List ℕ) (w : Writes) → committed memory w ≡ in_turn stored_in (writes_in_order w) memory
+committed_told : (memory : List ℕ) (w : Writes) → committed memory w ≡ in_turn stored_in (told w) memory
 unfolding committed
-committed_written memory w = each_written put_write no_put w memory ∙ turns_same (writes_in_order w) memory
+committed_told memory w = each_told put_write no_put w memory ∙ turns_same (told w) memory
 
--- memory after a clock is memory before it with exactly the writes of the clock, in order
-pub memory_written : (halt : Halt) (w : World) → running_in w ≡ true
-    → (plain halt w).memory ≡ in_turn stored_in (writes_in_order (writes_by (clock_in w))) w.memory
+-- memory after a clock is memory before it with exactly the writes told, in order
+pub memory_told : (halt : Halt) (w : World) → running_in w ≡ true
+    → (plain halt w).memory ≡ in_turn stored_in (told (told_by (clock_in w))) w.memory
 unfolding plain_of
-memory_written halt w e = rw e (by_clock (clock_in w))
+memory_told halt w e = rw e (by_clock (clock_in w))
   where
     by_clock : (x : Clocked)
         → (after (r6501q halt) w (input_count_in (r6501q halt) w) (clock_outcome halt w.memory x)).memory
-        ≡ in_turn stored_in (writes_in_order (writes_by x)) w.memory
+        ≡ in_turn stored_in (told (told_by x)) w.memory
     by_clock (Stopped number) = refl
-    by_clock (Done ended) = committed_written w.memory ended.writes
+    by_clock (Done ended) = committed_told w.memory ended.writes
 
 -- ---- leaps
 
@@ -265,10 +265,10 @@ no_inputs : (clock : ℕ) → pins_right last_pin clock [] [] ≡ true
 unfolding pins_right
 no_inputs clock = refl
 
-gap_writes_nothing : (s : State) (memory : List ℕ) (free : Bool) → 0 < (gap_of 1 s []).0
-    → writes_by (clock_of s [] memory free) ≡ no_writes
+gap_untold : (s : State) (memory : List ℕ) (free : Bool) → 0 < (gap_of 1 s []).0
+    → told_by (clock_of s [] memory free) ≡ no_writes
 unfolding clock_of finished
-gap_writes_nothing s memory free inside =
+gap_untold s memory free inside =
     rw (
       gap_clock 1 s [] inside memory,
       pass_driven s 1,
@@ -276,14 +276,14 @@ gap_writes_nothing s memory free inside =
     )
 
 -- "a leap never passes it": a clock that is no event clock tells no write
-pub quiet_writes_nothing : (s : State) (codes memory : List ℕ) (free : Bool) → event_of s codes ≡ false
-    → writes_by (clock_of s codes memory free) ≡ no_writes
+pub quiet_untold : (s : State) (codes memory : List ℕ) (free : Bool) → event_of s codes ≡ false
+    → told_by (clock_of s codes memory free) ≡ no_writes
 unfolding event_of has_input input_count
-quiet_writes_nothing s (code ∷ codes) memory free e = absurd (false≢true (sym e))
-quiet_writes_nothing s [] memory free e = by_gap (eqb (gap_of 1 s []).0 0) refl
+quiet_untold s (code ∷ codes) memory free e = absurd (false≢true (sym e))
+quiet_untold s [] memory free e = by_gap (eqb (gap_of 1 s []).0 0) refl
   where
-    by_gap : (t : Bool) → eqb (gap_of 1 s []).0 0 ≡ t → writes_by (clock_of s [] memory free) ≡ no_writes
+    by_gap : (t : Bool) → eqb (gap_of 1 s []).0 0 ≡ t → told_by (clock_of s [] memory free) ≡ no_writes
     by_gap true z =
         absurd (false≢true
         (sym e ∙ gap_event 1 s [] [] (no_inputs s.clock) (omega arith) (eqb-true (gap_of 1 s []).0 0 z)))
-    by_gap false z = gap_writes_nothing s memory free (omega (arith, eqb-false (gap_of 1 s []).0 0 z))
+    by_gap false z = gap_untold s memory free (omega (arith, eqb-false (gap_of 1 s []).0 0 z))

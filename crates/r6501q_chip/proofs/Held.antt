@@ -16,7 +16,7 @@ use Rattle.serial_receiver.specs.Receiver.{receiver_clock}
 use Rattle.serial_transmitter.specs.Transmitter.{transmitter_clock}
 use Rattle.cpu_access.specs.declared.halt.Halt.{Halt}
 use Rattle.cpu_access.specs.Stack.{no_writes}
-use Rattle.cpu_access.proofs.WritesInOrder.{unwritten}
+use Rattle.cpu_access.proofs.Told.{unwritten}
 use Rattle.cpu_access.specs.Waiting.{byte_waits}
 use Rattle.r6501q_state.specs.declared.state.State.{State}
 use Rattle.r6501q_state.specs.State.{fresh_cpu, fresh_due, fresh_peripherals, fresh_levels, fresh}
@@ -31,10 +31,9 @@ use Rattle.r6501q_clock.specs.Clock.{finished}
 use Rattle.r6501q_clock.specs.Clock.{clock_of}
 use Rattle.memory_writes.specs.Commit.{put_write, committed}
 use Rattle.r6501q_events.specs.Events.{has_input, same_levels, levels_change, underflows_a, underflows_b, ports_fresh}
-use Rattle.r6501q_events.specs.Events.{control_fresh, transmitter_fresh, receiver_fresh, is_reset, reset_changes, cpu_starts}
+use Rattle.r6501q_events.specs.Events.{control_fresh, transmitter_idle, receiver_idle, is_reset, reset_changes, cpu_starts}
 use Rattle.r6501q_events.specs.Events.{puts_byte, event_of}
-use Rattle.r6501q_events.specs.Gaps.{counting_a, counting_b, to_input, to_change, to_underflow_a, to_underflow_b, to_reset}
-use Rattle.r6501q_events.specs.Gaps.{to_cpu}
+use Rattle.r6501q_events.specs.Gaps.{counting_a, counting_b, to_input, to_change, to_underflow_a, to_underflow_b, to_reset, to_cpu}
 use Rattle.r6501q_events.specs.Gaps.{gap_of}
 use Rattle.r6501q_events.proofs.Gaps.{gap_no_event}
 use Rattle.leaps.specs.Leaps.{events_in, quiet_end, plains, trace, leap_count}
@@ -168,27 +167,27 @@ module _ (halt : Halt) (memory times words : List ℕ) where
   -- ---- event clocks
 
   event_at : (ifr clock : ℕ) → event_in (r6501q halt) (held_in (held_with 0 ifr clock)) ≡ true
-  unfolding event_in has_input same_levels levels_change underflows_a underflows_b ports_fresh control_fresh transmitter_fresh
-      receiver_fresh is_reset reset_changes cpu_starts puts_byte event_of with_bit set_where flip_where input_count ticks_of
-      in_force down_a counts_a clock_a reload_b down_b clock_b transmitter_asynchronous receiver_asynchronous receiver_shifting
-      holds_a receiver_clock transmitter_clock mode_a mode_b drive_a drive_d driven_word levels_of rose fell edges with_edges
-      reset_of sensed_at sensed with_inputs count_a count_b sent_by heard_by peripherals_clock before_cpu finished clock_of
-      put_write committed processor_of plain_of put_record byte_waits
+  unfolding event_in has_input same_levels levels_change underflows_a underflows_b ports_fresh control_fresh transmitter_idle
+      receiver_idle is_reset reset_changes cpu_starts puts_byte event_of with_bit set_where flip_where input_count ticks_of in_force
+      down_a counts_a clock_a reload_b down_b clock_b transmitter_asynchronous receiver_asynchronous receiver_shifting holds_a
+      receiver_clock transmitter_clock mode_a mode_b drive_a drive_d driven_word levels_of rose fell edges with_edges reset_of
+      sensed_at sensed with_inputs count_a count_b sent_by heard_by peripherals_clock before_cpu finished clock_of put_write
+      committed processor_of plain_of put_record byte_waits
   event_at ifr clock = refl
 
   event_after : (clock : ℕ) → event_in (r6501q halt) (held_in (held_with 0xFFFF 0x30 clock)) ≡ true
-  unfolding event_in has_input same_levels levels_change underflows_a underflows_b ports_fresh control_fresh transmitter_fresh
-      receiver_fresh is_reset reset_changes cpu_starts puts_byte event_of with_bit set_where flip_where input_count ticks_of
-      in_force down_a counts_a clock_a reload_b down_b clock_b transmitter_asynchronous receiver_asynchronous receiver_shifting
-      holds_a receiver_clock transmitter_clock mode_a mode_b drive_a drive_d driven_word levels_of rose fell edges with_edges
-      reset_of sensed_at sensed with_inputs count_a count_b sent_by heard_by peripherals_clock before_cpu finished clock_of
-      put_write committed processor_of plain_of put_record byte_waits
+  unfolding event_in has_input same_levels levels_change underflows_a underflows_b ports_fresh control_fresh transmitter_idle
+      receiver_idle is_reset reset_changes cpu_starts puts_byte event_of with_bit set_where flip_where input_count ticks_of in_force
+      down_a counts_a clock_a reload_b down_b clock_b transmitter_asynchronous receiver_asynchronous receiver_shifting holds_a
+      receiver_clock transmitter_clock mode_a mode_b drive_a drive_d driven_word levels_of rose fell edges with_edges reset_of
+      sensed_at sensed with_inputs count_a count_b sent_by heard_by peripherals_clock before_cpu finished clock_of put_write
+      committed processor_of plain_of put_record byte_waits
   event_after clock = refl
 
   in_gap : (count clock : ℕ) → 0 < count → 0 < (gap_of 1 (held_with count 0 clock) []).0
   unfolding gap_of to_input to_change to_underflow_a to_underflow_b to_reset to_cpu counting_a counting_b counts_through_a
       counts_through_b event_in
-      has_input same_levels levels_change underflows_a underflows_b ports_fresh control_fresh transmitter_fresh receiver_fresh
+      has_input same_levels levels_change underflows_a underflows_b ports_fresh control_fresh transmitter_idle receiver_idle
       is_reset reset_changes cpu_starts puts_byte event_of with_bit set_where flip_where input_count ticks_of in_force down_a
       counts_a
       clock_a reload_b down_b clock_b transmitter_asynchronous receiver_asynchronous receiver_shifting holds_a receiver_clock

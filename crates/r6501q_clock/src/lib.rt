@@ -1,5 +1,6 @@
 // One clock, in document 01's order: inputs and pins, counters, serial channel, CPU, output record (document 01, "One
 // clock").
+#![tactic(auto)]
 ghost use Rattle.std.specs.Prelude.{◌≡◌, ◌<◌};
 ghost use Rattle.cpu_opcodes.specs.TableInCode.{opcode_table};
 ghost use Rattle.refusals.specs.Refusals.{last_clock};
@@ -20,7 +21,7 @@ const FULL: u8 = 7;
 pub const HALTED: u8 = 12;
 
 // A clock that is done: the state after it, what it writes, and its driven word.
-#[derive(Drop)]
+#[derive(Clone, Copy)]
 pub struct Ended {
     pub state: State,
     pub writes: Writes,
@@ -29,14 +30,14 @@ pub struct Ended {
 }
 
 // What a clock comes to: the number of a stop, or its end.
-#[derive(Drop)]
+#[derive(Clone, Copy)]
 pub enum Clocked {
     Stopped(u8),
     Done(Ended),
 }
 
 // The peripherals after counter A, and the clock's ticks.
-#[derive(Drop)]
+#[derive(Clone, Copy)]
 pub struct Counted {
     pub peripherals: Peripherals,
     pub ticks: Ticks,

@@ -37,14 +37,14 @@ use Rattle.r6501q_cpu.specs.declared.Processed.TheVariants.{Stopped, Done}
 use Rattle.r6501q_cpu.specs.declared.Round.TheVariants.{Over, Answered}
 use Rattle.r6501q_cpu.specs.Processor.{registers_of, register_file, performed_in, next_after, processed_by}
 use Rattle.r6501q_cpu.specs.Processor.{processed_after, whole_instruction, reset_start, nmi_start, irq_start}
-use Rattle.r6501q_cpu.specs.Asking.{put_register, peripherals_after_writes, answer_of, next_of, round_by, round_of}
+use Rattle.r6501q_cpu.specs.Asking.{put_register, registers_after, answer_of, next_of, round_by, round_of}
 use Rattle.r6501q_cpu.specs.Asking.{instruction_from, answered_instruction}
 use Rattle.r6501q_cpu.proofs.Asks.{round_over, round_answered}
 
 -- writes as a list, and as the code has them
 all_after : (levels : ℕ) (p : Peripherals) (ws : List Write) → (in_order ws).count ≤ 3
-    → peripherals_after_writes p (in_order ws) ≡ all_written (register_file levels) p ws
-unfolding peripherals_after_writes put_register in_order all_written peripherals_written
+    → registers_after p (in_order ws) ≡ all_written (register_file levels) p ws
+unfolding registers_after put_register in_order all_written peripherals_written
 all_after levels p [] h = refl
 all_after levels p (a ∷ []) h = refl
 all_after levels p (a ∷ b ∷ []) h = refl
@@ -122,7 +122,7 @@ module _ (s : State) (memory : List ℕ) where
       → next_after s due (performed_in s memory (interrupt_accesses vector registers))
       ≡ next_of s due s.peripherals (interrupt_entry memory vector registers)
   unfolding interrupt_accesses entry_accesses interrupt_entry interrupted pushes_of waiting_of push_interrupt vector_of
-      performed peripherals_read peripherals_written value_read in_order peripherals_after_writes put_register
+      performed peripherals_read peripherals_written value_read in_order registers_after put_register
   interrupt_answered due vector low high under under' =
       let p = pushed registers.status false in
       rw (low, high, unpushed p registers vector _ under, unpushed p registers (next_address vector) _ under')
@@ -130,7 +130,7 @@ module _ (s : State) (memory : List ℕ) where
   pub reset_answered : reset_start s memory
       ≡ next_of s (record { reset = false; nmi = s.due.nmi }) s.peripherals (reset_entry memory registers)
   unfolding reset_start reset_accesses reset_entry pushes_of waiting_of vector_of performed peripherals_read value_read
-      byte_after in_order peripherals_after_writes put_register
+      byte_after in_order registers_after put_register
   reset_answered = refl
 
   pub nmi_answered : nmi_start s memory

@@ -45,8 +45,7 @@ use Rattle.r6501q_cpu.specs.declared.Processed.TheVariants.{Stopped, Done}
 use Rattle.r6501q_cpu.specs.declared.Round.{Round}
 use Rattle.r6501q_cpu.specs.Processor.{registers_of, cpu_of, irq_due, start_of, without_writes, wait_less, byte_put}
 use Rattle.r6501q_cpu.specs.Processor.{waited_by, processor_of}
-use Rattle.r6501q_cpu.specs.Asking.{put_register, peripherals_after_writes, answer_of, next_of, round_by, after_round}
-use Rattle.r6501q_cpu.specs.Asking.{round_of}
+use Rattle.r6501q_cpu.specs.Asking.{put_register, registers_after, answer_of, next_of, round_by, after_round, round_of}
 use Rattle.r6501q_cpu.specs.Asking.{instruction_from, answered_instruction}
 use Rattle.r6501q_cpu.proofs.Answered.{instruction_answered, reset_answered, nmi_answered, irq_answered}
 
@@ -82,9 +81,8 @@ put_fits there w p e =
     (write_of p w.address w.value) p
     (λ _. write_fits p w.address w.value e) (λ _. e)
 
-after_fits : (p : Peripherals) (w : Writes) → peripherals_fit p ≡ true
-    → peripherals_fit (peripherals_after_writes p w) ≡ true
-unfolding peripherals_after_writes
+after_fits : (p : Peripherals) (w : Writes) → peripherals_fit p ≡ true → peripherals_fit (registers_after p w) ≡ true
+unfolding registers_after
 after_fits p w e =
     put_fits (ltb 2 w.count) w.third _
     (put_fits (ltb 1 w.count) w.second _ (put_fits (ltb 0 w.count) w.first p e))

@@ -30,15 +30,15 @@ unfoldable pub put_register : Bool → Write → Peripherals → Peripherals
 put_register there w p = cond (there && is_register w.address) (write_of p w.address w.value) p
 
 -- the writes of an instruction that are register writes, in their order
-unfoldable pub peripherals_after_writes : Peripherals → Writes → Peripherals
-peripherals_after_writes p w = each_write put_register w p
+unfoldable pub registers_after : Peripherals → Writes → Peripherals
+registers_after p w = each_write put_register w p
 
 -- An answer: the register's value as the writes so far leave it, and the effect of the read. The writes come again with
 -- the end of the instruction, so that they are looked at here and not kept; reads' effects and writes commute
 -- (`read_write_commute` of `r6501q_registers/proofs/Order.antt`).
 unfoldable pub answer_of : Peripherals → ℕ → Ask → Reading
 answer_of p levels ask = record {
-  value = register_value (peripherals_after_writes p ask.writes) levels ask.modify ask.address;
+  value = register_value (registers_after p ask.writes) levels ask.modify ask.address;
   peripherals = after_read p ask.address;
 }
 
@@ -48,7 +48,7 @@ next_of s due p w = record {
   state = record {
     cpu = cpu_of w.registers (w.length - 1) (waiting_of w.writing);
     due = due;
-    peripherals = peripherals_after_writes p (pushes_of w.writing);
+    peripherals = registers_after p (pushes_of w.writing);
     external = s.external;
     last = s.last;
     clock = s.clock;

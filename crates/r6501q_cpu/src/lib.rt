@@ -1,9 +1,10 @@
 // One instruction of the CPU on the chip's state: its questions are answered, and its register writes done. Nothing is
 // written to memory here.
+#![tactic(auto)]
 ghost use Rattle.std.specs.Prelude.{◌≡◌, []};
 ghost use Rattle.cpu_opcodes.specs.TableInCode.{opcode_table};
 ghost use Rattle.r6501q_cpu.specs.Processor.{registers_of, cpu_of};
-ghost use Rattle.r6501q_cpu.specs.Asking.{put_register, peripherals_after_writes, answer_of, next_of, round_of};
+ghost use Rattle.r6501q_cpu.specs.Asking.{put_register, registers_after, answer_of, next_of, round_of};
 ghost use Rattle.r6501q_cpu.specs.Asking.{instruction_from};
 ghost use Rattle.r6501q_cpu.specs.Asking.{answered_instruction};
 
@@ -19,21 +20,21 @@ use r6501q_state::state::{Cpu, Due, Peripherals, State};
 
 // The state after the CPU's part of a clock, and its writes: those at register addresses are done, the others are not
 // yet.
-#[derive(Drop)]
+#[derive(Clone, Copy)]
 pub struct Next {
     pub state: State,
     pub writes: Writes,
 }
 
 // What the CPU's part of a clock comes to: the number of a stop, or the state after it.
-#[derive(Drop)]
+#[derive(Clone, Copy)]
 pub enum Processed {
     Stopped(u8),
     Done(Next),
 }
 
 // An instruction with the answers so far: it is over, or one more answer is given.
-#[derive(Drop)]
+#[derive(Clone, Copy)]
 pub enum Round {
     Over(Processed),
     Answered(Reading),
@@ -84,8 +85,8 @@ pub fn put_register(there: bool, w: Write, p: Peripherals) -> Peripherals
 }
 
 // The register writes of an instruction, in their order. Most write nothing or one byte.
-fn peripherals_after_writes(p: Peripherals, w: Writes) -> Peripherals
-    ensures { result ≡ peripherals_after_writes p w }
+fn registers_after(p: Peripherals, w: Writes) -> Peripherals
+    ensures { result ≡ registers_after p w }
 {
     if w.count == 0 {
         return p;
@@ -102,7 +103,7 @@ fn peripherals_after_writes(p: Peripherals, w: Writes) -> Peripherals
 fn answer(p: Peripherals, levels: u32, ask: Ask) -> Reading
     ensures { result ≡ answer_of p levels ask }
 {
-    let after = peripherals_after_writes(p, ask.writes);
+    let after = registers_after(p, ask.writes);
     Reading {
         value: r6501q_registers::read::value(after, levels, ask.modify, ask.address),
         peripherals: r6501q_registers::read::after_read(p, ask.address),
@@ -116,7 +117,7 @@ pub fn next_state(s: State, due: Due, p: Peripherals, w: Worked) -> Next
     let writing = w.writing;
     let cpu = cpu_of(w.registers, bits::one_less(w.length), waiting_of(writing));
     let writes = pushes_of(writing);
-    let peripherals = peripherals_after_writes(p, writes);
+    let peripherals = registers_after(p, writes);
     let mut state = s;
     state.cpu = cpu;
     state.due = due;

@@ -21,8 +21,7 @@ use Rattle.r6501q_state.specs.Inputs.{last_pin}
 use Rattle.pin_lists.specs.PinLists.{pins_right, input_count}
 use Rattle.pin_lists.proofs.PinLists.{right_above}
 use Rattle.r6501q_events.specs.Events.{has_input, same_levels, levels_change, is_reset, reset_changes, event_of}
-use Rattle.r6501q_events.specs.Gaps.{clocks_of, counting_a, counting_b, to_input, to_change, to_underflow_a}
-use Rattle.r6501q_events.specs.Gaps.{to_underflow_b}
+use Rattle.r6501q_events.specs.Gaps.{clocks_of, counting_a, counting_b, to_input, to_change, to_underflow_a, to_underflow_b}
 use Rattle.r6501q_events.specs.Gaps.{to_reset, until_cpu, to_cpu, gap_of, wait_after, pass_of}
 use Rattle.r6501q_events.proofs.Same.{same_levels_lem, levels_same}
 use Rattle.r6501q_events.proofs.Quiet.{Quiet, no_both, both_no, clock_quiet, quiet_event, event_quiet}
@@ -56,11 +55,11 @@ pub start_next : (n : ℕ) (s : State) (clocks : List ℕ) → s.last.res ≡ tr
 unfolding until_cpu
 start_next n s clocks high over = cpu_next n s clocks high (omega arith)
 
-pub byte_put_next : (n : ℕ) (s : State) (clocks : List ℕ) → s.last.res ≡ true → s.cpu.wait ≡ 1
+pub put_next : (n : ℕ) (s : State) (clocks : List ℕ) → s.last.res ≡ true → s.cpu.wait ≡ 1
     → byte_waits s.cpu.waiting ≡ true
     → gap_of n s clocks ≡ clocks_of 0
 unfolding until_cpu
-byte_put_next n s clocks high last waits = cpu_next n s clocks high (rw (last, waits))
+put_next n s clocks high last waits = cpu_next n s clocks high (rw (last, waits))
 
 -- ---- a gap above 0
 

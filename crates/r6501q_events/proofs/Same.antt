@@ -17,8 +17,7 @@ use Rattle.r6501q_state.specs.declared.state.Levels.{Levels}
 use Rattle.r6501q_state.specs.declared.state.State.{State}
 use Rattle.r6501q_state.specs.State.{fresh_ports, fresh_control}
 use Rattle.r6501q_state.specs.Pins.{reset_of}
-use Rattle.r6501q_events.specs.Events.{same_levels, ports_fresh, control_fresh, transmitter_fresh, receiver_fresh}
-use Rattle.r6501q_events.specs.Events.{is_reset}
+use Rattle.r6501q_events.specs.Events.{same_levels, ports_fresh, control_fresh, transmitter_idle, receiver_idle, is_reset}
 
 beq_true : (a b : Bool) → beq a b ≡ true → a ≡ b
 beq_true true true e = refl
@@ -84,9 +83,9 @@ control_fresh_lem c e =
       scsr = eqb-true c.scsr 0x40 (and_right (ifr && ier && mcr && sccr) scsr e) i;
     }
 
-transmitter_fresh_lem : (t : Transmitter) → transmitter_fresh t ≡ true → t ≡ idle_transmitter
-unfolding transmitter_fresh
-transmitter_fresh_lem t e =
+transmitter_idle_lem : (t : Transmitter) → transmitter_idle t ≡ true → t ≡ idle_transmitter
+unfolding transmitter_idle
+transmitter_idle_lem t e =
     let left = eqb t.left 0 in
     let phase = eqb t.phase 0 in
     let register = eqb t.register 0 in
@@ -97,9 +96,9 @@ transmitter_fresh_lem t e =
       register = eqb-true t.register 0 (and_right (left && phase) register e) i;
     }
 
-receiver_fresh_lem : (r : Receiver) → receiver_fresh r ≡ true → r ≡ idle_receiver
-unfolding receiver_fresh
-receiver_fresh_lem r e =
+receiver_idle_lem : (r : Receiver) → receiver_idle r ≡ true → r ≡ idle_receiver
+unfolding receiver_idle
+receiver_idle_lem r e =
     let sub = eqb r.subinterval 0 in
     let half = not r.half in
     let left = eqb r.left 0 in
@@ -129,8 +128,8 @@ reset_same s e =
     let nmi = not s.due.nmi in
     let ports = ports_fresh s.peripherals.ports in
     let control = control_fresh s.peripherals.control in
-    let transmitter = transmitter_fresh s.peripherals.transmitter in
-    let receiver = receiver_fresh s.peripherals.receiver in
+    let transmitter = transmitter_idle s.peripherals.transmitter in
+    let receiver = receiver_idle s.peripherals.receiver in
     let six = and_left (wait && reset && nmi && ports && control && transmitter) receiver e in
     let five = and_left (wait && reset && nmi && ports && control) transmitter six in
     let four = and_left (wait && reset && nmi && ports) control five in
@@ -159,10 +158,10 @@ reset_same s e =
         control = control_fresh_lem s.peripherals.control (and_right (wait && reset && nmi && ports) control five) i;
         serial = s.peripherals.serial;
         transmitter =
-            transmitter_fresh_lem s.peripherals.transmitter
+            transmitter_idle_lem s.peripherals.transmitter
             (and_right (wait && reset && nmi && ports && control) transmitter six) i;
         receiver =
-            receiver_fresh_lem s.peripherals.receiver
+            receiver_idle_lem s.peripherals.receiver
             (and_right (wait && reset && nmi && ports && control && transmitter) receiver e) i;
       };
       external = s.external;
@@ -172,5 +171,5 @@ reset_same s e =
 
 -- and where RES low changes no field, they pass
 pub same_reset : (s : State) → reset_of s ≡ s → is_reset s ≡ true
-unfolding is_reset ports_fresh control_fresh transmitter_fresh receiver_fresh reset_of byte_waits
+unfolding is_reset ports_fresh control_fresh transmitter_idle receiver_idle reset_of byte_waits
 same_reset s e = ap is_reset (sym e)

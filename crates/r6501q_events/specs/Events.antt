@@ -7,7 +7,6 @@ use Rattle.bits.specs.Lists.{any_of}
 use Rattle.counters.specs.Counters.{clock_a, clock_b}
 use Rattle.serial_transmitter.specs.declared.Transmitter.{Transmitter}
 use Rattle.serial_receiver.specs.declared.Receiver.{Receiver}
-use Rattle.r6501q_state.specs.State.{fresh_control}
 use Rattle.r6501q_state.specs.declared.state.Ports.{Ports}
 use Rattle.r6501q_state.specs.declared.state.Control.{Control}
 use Rattle.r6501q_state.specs.declared.state.Levels.{Levels}
@@ -48,14 +47,13 @@ unfoldable pub ports_fresh : Ports → Bool
 ports_fresh p = eqb p.a 0xFF && eqb p.b 0xFF && eqb p.c 0xFF && eqb p.d 0xFF
 
 unfoldable pub control_fresh : Control → Bool
-control_fresh c =
-    eqb c.ifr 0 && eqb c.ier 0 && eqb c.mcr 0 && eqb c.sccr 0 && eqb c.scsr fresh_control.scsr
+control_fresh c = eqb c.ifr 0 && eqb c.ier 0 && eqb c.mcr 0 && eqb c.sccr 0 && eqb c.scsr 0x40
 
-unfoldable pub transmitter_fresh : Transmitter → Bool
-transmitter_fresh t = eqb t.left 0 && eqb t.phase 0 && eqb t.register 0
+unfoldable pub transmitter_idle : Transmitter → Bool
+transmitter_idle t = eqb t.left 0 && eqb t.phase 0 && eqb t.register 0
 
-unfoldable pub receiver_fresh : Receiver → Bool
-receiver_fresh r = eqb r.subinterval 0 && not r.half && eqb r.left 0 && eqb r.register 0
+unfoldable pub receiver_idle : Receiver → Bool
+receiver_idle r = eqb r.subinterval 0 && not r.half && eqb r.left 0 && eqb r.register 0
 
 -- RES low changes no field: those, and "drops NMI due, sets wait to 0 and makes reset due", and 02, U6: "drops a
 -- waiting byte" (`reset_same`, `same_reset` of `r6501q_events/proofs/Same.antt`)
@@ -63,7 +61,7 @@ unfoldable pub is_reset : State → Bool
 is_reset s =
     eqb s.cpu.wait 0 && not (byte_waits s.cpu.waiting) && s.due.reset && not s.due.nmi
     && ports_fresh s.peripherals.ports && control_fresh s.peripherals.control
-    && transmitter_fresh s.peripherals.transmitter && receiver_fresh s.peripherals.receiver
+    && transmitter_idle s.peripherals.transmitter && receiver_idle s.peripherals.receiver
 
 -- "where RES low changes any field", of a state whose last levels are this clock's and whose edges are recorded
 unfoldable pub reset_changes : State → Bool

@@ -4,7 +4,6 @@ use Rattle.bits.specs.Bits.{bit, one_where}
 use Rattle.cpu_access.specs.Waiting.{byte_waits}
 use Rattle.counters.specs.declared.time.Clocks.{Clocks}
 use Rattle.counters.specs.Counters.{counts_through_a, counts_through_b, pass_a, pass_b}
-pub use Rattle.counters.specs.Counters.{clocks_of}
 use Rattle.r6501q_state.specs.declared.state.Control.{Control}
 use Rattle.r6501q_state.specs.declared.state.Cpu.{Cpu}
 use Rattle.r6501q_state.specs.declared.state.Peripherals.{Peripherals}
@@ -12,6 +11,9 @@ use Rattle.r6501q_state.specs.declared.state.State.{State}
 use Rattle.r6501q_state.specs.Copies.{at_wait, with_counter_a, with_counter_b}
 use Rattle.r6501q_state.specs.Control.{mode_a, mode_b}
 use Rattle.r6501q_events.specs.Events.{levels_change, reset_changes}
+
+abbrev pub clocks_of : ℕ → Clocks
+clocks_of n = record { 0 = n }
 
 -- a counter that "counts in all of" a gap: A by its mode in force and PA4's level
 unfoldable pub counting_a : Control → ℕ → Bool

@@ -13,17 +13,15 @@ use Rattle.serial_format.specs.Format.{transmitter_asynchronous, receiver_asynch
 use Rattle.serial_format.specs.Format.{keeps_transmitter, keeps_receiver, parity_bit, frame_bits, pace}
 use Rattle.serial_transmitter.specs.Transmitter.{sent_bits}
 use Rattle.serial_receiver.specs.Receiver.{start_detected, with_level, received_byte, wrong_parity, scsr_after, kept_with}
-use Rattle.serial_receiver.specs.Receiver.{frame_ended, look_taken, looked, receive_tick, shifted_at_rise, byte_ended}
-use Rattle.serial_receiver.specs.Receiver.{receive_rise}
+use Rattle.serial_receiver.specs.Receiver.{frame_ended, look_taken, looked, receive_tick, shifted_at_rise, byte_ended, receive_rise}
 use Rattle.serial_receiver.specs.Receiver.{receiver_clock, receiver_with_sccr}
-use Rattle.serial_transmitter.specs.Transmitter.{framed, taken, idle_tick, frame_end, next_phase, ticked, bit_tick}
-use Rattle.serial_transmitter.specs.Transmitter.{send_tick}
+use Rattle.serial_transmitter.specs.Transmitter.{framed, taken, idle_tick, frame_end, next_phase, ticked, bit_tick, send_tick}
 use Rattle.serial_transmitter.specs.Transmitter.{transmitter_clock, line, shift_clock, transmitter_with_sccr}
 use Rattle.cpu_opcodes.specs.Decode.{decode_of}
 use Rattle.cpu_alu.specs.Status.{packed, unpacked, pushed}
 use Rattle.cpu_access.specs.declared.halt.Halt.TheVariants.{Nowhere, At}
 use Rattle.cpu_access.specs.Halt.{is_written, halts}
-use Rattle.cpu_access.proofs.WritesInOrder.{writes_in_order}
+use Rattle.cpu_access.proofs.Told.{told}
 use Rattle.cpu_access.specs.Stack.{write_at}
 use Rattle.cpu_access.specs.Bus.{memory_byte}
 use Rattle.cpu_access.specs.declared.waiting.Waiting.TheVariants.{Nothing, Byte}
@@ -60,10 +58,10 @@ use Rattle.r6501q_clock.specs.Clock.{inputs_set}
 use Rattle.leaps.specs.Leaps.{events_in, quiet_end, plains, trace, leap_count}
 use Rattle.leaps.specs.World.{put_record, plain_of, done_in, event_in}
 use Rattle.r6501q_events.specs.Events.{has_input, same_levels, levels_change, underflows_a, underflows_b, ports_fresh}
-use Rattle.r6501q_events.specs.Events.{control_fresh, transmitter_fresh, receiver_fresh, is_reset, reset_changes, cpu_starts}
+use Rattle.r6501q_events.specs.Events.{control_fresh, transmitter_idle, receiver_idle, is_reset, reset_changes, cpu_starts}
 use Rattle.r6501q_events.specs.Events.{puts_byte, event_of}
 use Rattle.r6501q_chip.specs.R6501q.{World, plain, system}
-use Rattle.r6501q_chip.proofs.Halted.{writes_by, clock_in}
+use Rattle.r6501q_chip.proofs.Halted.{told_by, clock_in}
 use lib.ListN.{replicate}
 use Rattle.cpu_alu.specs.Shift.{increment_of, set_bit_of}
 use Rattle.bits.specs.Bits.{word16}
@@ -123,7 +121,7 @@ pub record AccessOrder : Type 0 where
   pub read_by_levels : (plains (system Nowhere) 1
       (start_at (ready_at 0xFF 0 0 0 0xFFFFFFFE) (0xA5 ∷ 0x00 ∷ []))).state.cpu.a ≡ 0xFE
   -- an IRQ entry pushes PC high, PC low, P with bit 5 and not bit 4
-  pub entry_pushes_lem : writes_in_order (writes_by (clock_in (start_at (ready_at 0xFF 0x01 0x01 0x01 0xFFFFFFFF) [])))
+  pub entry_pushes_lem : told (told_by (clock_in (start_at (ready_at 0xFF 0x01 0x01 0x01 0xFFFFFFFF) [])))
       ≡ write_at 0x00FF 0x00 ∷ write_at 0x00FE 0x40 ∷ write_at 0x00FD 0x21 ∷ []
   -- RTI pulls P, then PC, low byte first
   pub return_pulls : (plains (system Nowhere) 1

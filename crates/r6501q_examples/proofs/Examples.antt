@@ -16,17 +16,15 @@ use Rattle.serial_format.specs.Format.{transmitter_asynchronous, receiver_asynch
 use Rattle.serial_format.specs.Format.{keeps_transmitter, keeps_receiver, parity_bit, frame_bits, pace}
 use Rattle.serial_transmitter.specs.Transmitter.{sent_bits}
 use Rattle.serial_receiver.specs.Receiver.{start_detected, with_level, received_byte, wrong_parity, scsr_after, kept_with}
-use Rattle.serial_receiver.specs.Receiver.{frame_ended, look_taken, looked, receive_tick, shifted_at_rise, byte_ended}
-use Rattle.serial_receiver.specs.Receiver.{receive_rise}
+use Rattle.serial_receiver.specs.Receiver.{frame_ended, look_taken, looked, receive_tick, shifted_at_rise, byte_ended, receive_rise}
 use Rattle.serial_receiver.specs.Receiver.{receiver_clock, receiver_with_sccr}
-use Rattle.serial_transmitter.specs.Transmitter.{framed, taken, idle_tick, frame_end, next_phase, ticked, bit_tick}
-use Rattle.serial_transmitter.specs.Transmitter.{send_tick}
+use Rattle.serial_transmitter.specs.Transmitter.{framed, taken, idle_tick, frame_end, next_phase, ticked, bit_tick, send_tick}
 use Rattle.serial_transmitter.specs.Transmitter.{transmitter_clock, line, shift_clock, transmitter_with_sccr}
 use Rattle.cpu_opcodes.specs.Decode.{decode_of}
 use Rattle.cpu_alu.specs.Status.{packed, unpacked, pushed}
 use Rattle.cpu_access.specs.declared.halt.Halt.TheVariants.{Nowhere, At}
 use Rattle.cpu_access.specs.Halt.{is_written, halts}
-use Rattle.cpu_access.proofs.WritesInOrder.{writes_in_order}
+use Rattle.cpu_access.proofs.Told.{told}
 use Rattle.cpu_access.specs.Stack.{write_at}
 use Rattle.cpu_access.specs.Bus.{memory_byte}
 use Rattle.cpu_access.specs.declared.waiting.Waiting.TheVariants.{Nothing, Byte}
@@ -63,10 +61,10 @@ use Rattle.r6501q_clock.specs.Clock.{inputs_set}
 use Rattle.leaps.specs.Leaps.{events_in, quiet_end, plains, trace, leap_count}
 use Rattle.leaps.specs.World.{put_record, plain_of, done_in, event_in}
 use Rattle.r6501q_events.specs.Events.{has_input, same_levels, levels_change, underflows_a, underflows_b, ports_fresh}
-use Rattle.r6501q_events.specs.Events.{control_fresh, transmitter_fresh, receiver_fresh, is_reset, reset_changes, cpu_starts}
+use Rattle.r6501q_events.specs.Events.{control_fresh, transmitter_idle, receiver_idle, is_reset, reset_changes, cpu_starts}
 use Rattle.r6501q_events.specs.Events.{puts_byte, event_of}
 use Rattle.r6501q_chip.specs.R6501q.{World, plain, system}
-use Rattle.r6501q_chip.proofs.Halted.{writes_by, clock_in}
+use Rattle.r6501q_chip.proofs.Halted.{told_by, clock_in}
 
 -- a world at a call's start
 abbrev pub start_with : State → List ℕ → List ℕ → List ℕ → List ℕ → List ℕ → World
@@ -394,8 +392,8 @@ unfolding with_bit set_where flip_where input_count ticks_of in_force down_a cou
     register_value after_read start_b start_a entering kept_flag kept_flags write_of whole_instruction irq_due reset_start
     nmi_start irq_start start_of byte_put processor_of with_inputs count_a count_b sent_by heard_by peripherals_clock before_cpu
     finished clock_of is_written halts put_write committed plain_of plains put_record events_in quiet_end trace leap_count
-    done_in event_in has_input same_levels levels_change underflows_a underflows_b ports_fresh control_fresh transmitter_fresh
-    receiver_fresh is_reset reset_changes cpu_starts puts_byte byte_waits event_of located byte_after peripherals_read
+    done_in event_in has_input same_levels levels_change underflows_a underflows_b ports_fresh control_fresh transmitter_idle
+    receiver_idle is_reset reset_changes cpu_starts puts_byte byte_waits event_of located byte_after peripherals_read
     peripherals_written value_read performed in_order completion store_at modify_accesses branch_on bit_branch_accesses jump_to
     push_accesses pull_accesses return_accesses interrupt_return_accesses entry_accesses break_accesses jsr_accesses
     operation_accesses with_read changed_by byte_to_store branch_taken bit_branch_taken byte_to_push with_pulled with_register
@@ -526,7 +524,7 @@ unfolding with_bit set_where flip_where input_count ticks_of in_force down_a cou
     with_flag instruction_accesses reset_accesses interrupt_accesses
 full_waiting = refl
 
--- STA 00h and an undefined opcode: "the clock after it isn't looked at", whose 6 is not handed back
+-- STA 00h and an undefined opcode: "the clock after it isn't looked at", whose 6 is not told
 abbrev pub undefined_next : World
 undefined_next = start_with (after_reset 0) (replicate 0x40 0 ++ (0x85 ∷ 0x00 ∷ 0x02 ∷ [])) [] [] (0 ∷ []) (0 ∷ [])
 
@@ -561,7 +559,7 @@ at_call = record {
 abbrev pub calling_start : World
 calling_start = start_with at_call (replicate 0x40 0 ++ (0x20 ∷ 0x00 ∷ 0x02 ∷ [])) [] [] (0 ∷ []) (0 ∷ [])
 
-pub call_handed_back : writes_in_order (writes_by (clock_in calling_start)) ≡ write_at 0x0000 0x00 ∷ write_at 0x00FF 0x42 ∷ []
+pub call_told : told (told_by (clock_in calling_start)) ≡ write_at 0x0000 0x00 ∷ write_at 0x00FF 0x42 ∷ []
 unfolding with_bit set_where flip_where input_count ticks_of in_force down_a counts_a clock_a lower_a upper_a load_counter_a reload_b
     down_b clock_b lower_b upper_b copy_b load_counter_b turn_to_c transmitter_asynchronous receiver_asynchronous receiver_shifting
     holds_a keeps_transmitter keeps_receiver parity_bit frame_bits sent_bits pace start_detected with_level received_byte
@@ -576,4 +574,4 @@ unfolding with_bit set_where flip_where input_count ticks_of in_force down_a cou
     push_accesses pull_accesses return_accesses interrupt_return_accesses entry_accesses break_accesses jsr_accesses
     operation_accesses with_read changed_by byte_to_store branch_taken bit_branch_taken byte_to_push with_pulled with_register
     with_flag instruction_accesses reset_accesses interrupt_accesses
-call_handed_back = refl
+call_told = refl

@@ -1,5 +1,5 @@
 -- 02, U6, of whole clocks: what the clocks of a store tell. A store's start tells no write, nor do the clocks between;
--- the last writes just the byte that waited, and with RES low nothing is written.
+-- the last tells just the byte that waited, and with RES low nothing is told.
 use mathlib.Core.Path.{◌≡◌, refl, ap, ◌∙◌}
 use mathlib.Core.Bool.{Bool, true, false, ◌&&◌, not, cond}
 use Prim.Native.Nat.{ℕ, ◌+◌, ◌<◌}
@@ -26,7 +26,7 @@ use Rattle.r6501q_cpu.proofs.Stores.{instruction_starts, instruction_begun, cloc
 use Rattle.r6501q_cpu.proofs.Stores.{held_writes}
 use Rattle.r6501q_clock.specs.Clock.{before_cpu, finished, recorded, clock_of}
 use Rattle.r6501q_chip.specs.R6501q.{World}
-use Rattle.r6501q_chip.proofs.Halted.{writes_by, clock_in}
+use Rattle.r6501q_chip.proofs.Halted.{told_by, clock_in}
 
 -- the state that steps 1 to 3 of the next clock leave
 abbrev pub ready_in : World → State
@@ -38,49 +38,46 @@ full_in w n =
     not (eqb (driven_word n.state.peripherals) (driven_word w.state.peripherals))
     && not (ltb w.written (length w.output_clocks))
 
-never_written : (t : Bool) → cond {A = Writes} t no_writes no_writes ≡ no_writes
-never_written true = refl
-never_written false = refl
+never_told : (t : Bool) → cond {A = Writes} t no_writes no_writes ≡ no_writes
+never_told true = refl
+never_told false = refl
 
 module _ (w : World) where
   -- a clock tells what step 4 writes, unless it is not done
-  pub written_by : (n : Next) → processor_of (ready_in w) w.memory ≡ processed.Done n
-      → writes_by (clock_in w) ≡ cond (full_in w n) no_writes n.writes
+  pub told_by_lem : (n : Next) → processor_of (ready_in w) w.memory ≡ processed.Done n
+      → told_by (clock_in w) ≡ cond (full_in w n) no_writes n.writes
   unfolding clock_of finished
-  written_by n e =
-      ap (λ (x : Processed). writes_by
+  told_by_lem n e =
+      ap (λ (x : Processed). told_by
       (recorded (driven_word w.state.peripherals) (ltb w.written (length w.output_clocks)) x)) e
-      ∙ cond_map writes_by (full_in w n) _ _
+      ∙ cond_map told_by (full_in w n) _ _
 
-  nothing_written : (n : Next) → processor_of (ready_in w) w.memory ≡ processed.Done n → n.writes ≡ no_writes
-      → writes_by (clock_in w) ≡ no_writes
-  nothing_written n e none =
-      written_by n e ∙ ap (λ (x : Writes). cond (full_in w n) no_writes x) none ∙ never_written (full_in w n)
+  untold : (n : Next) → processor_of (ready_in w) w.memory ≡ processed.Done n → n.writes ≡ no_writes
+      → told_by (clock_in w) ≡ no_writes
+  untold n e none = told_by_lem n e ∙ ap (λ (x : Writes). cond (full_in w n) no_writes x) none ∙ never_told (full_in w n)
 
   -- "A store's start": its row is e
-  pub start_writes_nothing : (e : Entry) → (ready_in w).last.res ≡ true → (ready_in w).cpu.wait ≡ 0
+  pub start_untold : (e : Entry) → (ready_in w).last.res ≡ true → (ready_in w).cpu.wait ≡ 0
       → (ready_in w).due.reset ≡ false → (ready_in w).due.nmi ≡ false
       → irq_due (ready_in w) ≡ false → decode_of (opcode_at (ready_in w) w.memory) ≡ Defined e → stores_of e ≡ true
-      → writes_by (clock_in w) ≡ no_writes
-  start_writes_nothing e high over reset nmi irq d store =
+      → told_by (clock_in w) ≡ no_writes
+  start_untold e high over reset nmi irq d store =
       let begun = instruction_begun (ready_in w) w.memory e d in
-      nothing_written begun.next (instruction_starts (ready_in w) w.memory high over reset nmi irq ∙ begun.done)
+      untold begun.next (instruction_starts (ready_in w) w.memory high over reset nmi irq ∙ begun.done)
       (begun.writes store)
 
   -- the clocks between
-  pub between_writes_nothing : (ready_in w).last.res ≡ true → 0 < (ready_in w).cpu.wait
-      → (byte_waits (ready_in w).cpu.waiting && eqb (ready_in w).cpu.wait 1) ≡ false → writes_by (clock_in w) ≡ no_writes
-  between_writes_nothing high some more =
-      nothing_written _ (clock_waits (ready_in w) w.memory high some ∙ waited_less (ready_in w) more) refl
+  pub between_untold : (ready_in w).last.res ≡ true → 0 < (ready_in w).cpu.wait
+      → (byte_waits (ready_in w).cpu.waiting && eqb (ready_in w).cpu.wait 1) ≡ false → told_by (clock_in w) ≡ no_writes
+  between_untold high some more =
+      untold _ (clock_waits (ready_in w) w.memory high some ∙ waited_less (ready_in w) more) refl
 
   -- the put
-  pub put_written : (x : Write) → (ready_in w).last.res ≡ true → (ready_in w).cpu.wait ≡ 1
-      → (ready_in w).cpu.waiting ≡ Byte x
-      → writes_by (clock_in w) ≡ cond (full_in w (byte_put (ready_in w) x)) no_writes (one_write x)
+  pub put_told : (x : Write) → (ready_in w).last.res ≡ true → (ready_in w).cpu.wait ≡ 1 → (ready_in w).cpu.waiting ≡ Byte x
+      → told_by (clock_in w) ≡ cond (full_in w (byte_put (ready_in w) x)) no_writes (one_write x)
   unfolding byte_put
-  put_written x high last waits =
-      written_by (byte_put (ready_in w) x) (byte_put_lem (ready_in w) w.memory x high last waits)
+  put_told x high last waits = told_by_lem (byte_put (ready_in w) x) (byte_put_lem (ready_in w) w.memory x high last waits)
 
   -- a dropped byte
-  pub dropped_writes_nothing : (ready_in w).last.res ≡ false → writes_by (clock_in w) ≡ no_writes
-  dropped_writes_nothing low = nothing_written _ (held_writes (ready_in w) w.memory low) refl
+  pub dropped_untold : (ready_in w).last.res ≡ false → told_by (clock_in w) ≡ no_writes
+  dropped_untold low = untold _ (held_writes (ready_in w) w.memory low) refl

@@ -9,7 +9,7 @@ use Rattle.bits.specs.Lists.{tabulate}
 use Rattle.cpu_opcodes.specs.Decode.{decode_of, count_defined}
 use Rattle.cpu_opcodes.proofs.Laws as opcodes
 use Rattle.cpu_access.specs.Stack.{write_at}
-use Rattle.cpu_access.proofs.WritesInOrder.{writes_in_order}
+use Rattle.cpu_access.proofs.Told.{told}
 use Rattle.cpu_access.specs.declared.halt.Halt.{Halt}
 use Rattle.cpu_access.specs.declared.halt.Halt.TheVariants.{Nowhere, At}
 use Rattle.cpu_alu.specs.Arithmetic.{adc_of}
@@ -26,7 +26,7 @@ use Rattle.leaps.specs.CallLists.{run_for, calls}
 use Rattle.leaps.specs.Calls.{call_start, Fit}
 use Rattle.cpu_access.specs.declared.waiting.Waiting.TheVariants.{Nothing, Byte}
 use Rattle.r6501q_chip.specs.R6501q.{World, r6501q, system, machine}
-use Rattle.r6501q_chip.proofs.Halted.{writes_by, clock_in}
+use Rattle.r6501q_chip.proofs.Halted.{told_by, clock_in}
 use Rattle.r6501q_examples.proofs.Examples as clocks
 use Rattle.r6501q_examples.proofs.ShiftRegister.{ShiftRegister, shift_register}
 use Rattle.r6501q_examples.proofs.AccessOrder.{AccessOrder, access_order}
@@ -98,8 +98,7 @@ pub record Examples : Type 0 where
   -- and 12 stands where the next clock would be 6: STA 00h before an undefined opcode
   pub halt_before_six : clocks.reached (plains (system (At 0)) 10 clocks.undefined_next) ≡ 12 ∷ 3 ∷ 0 ∷ 1 ∷ []
   -- 02, U4, JSR with SP 00h: it tells 0000h, then 00FFh
-  pub call_handed_back :
-      writes_in_order (writes_by (clock_in clocks.calling_start)) ≡ write_at 0x0000 0x00 ∷ write_at 0x00FF 0x42 ∷ []
+  pub call_told : told (told_by (clock_in clocks.calling_start)) ≡ write_at 0x0000 0x00 ∷ write_at 0x00FF 0x42 ∷ []
   -- 01, One clock, 4, "All its reads and writes happen now": JSR over its own operand, a port's latch and its levels,
   -- an entry's pushes, RTI's pulls; 02, U6, SMB0 00h over an underflow (r6501q_examples/proofs/AccessOrder.antt has the
   -- rows)
@@ -152,7 +151,7 @@ examples = record {
   halt_waiting = clocks.halt_waiting;
   full_waiting = clocks.full_waiting;
   halt_before_six = clocks.halt_before_six;
-  call_handed_back = clocks.call_handed_back;
+  call_told = clocks.call_told;
   access_order = access_order;
   indirect_jump = indirect_jump;
   fresh_fields = fresh_fields;

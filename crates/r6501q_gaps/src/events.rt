@@ -1,10 +1,10 @@
 // Events that the next clock brings: pin levels unlike the last ones, and RES low where it changes a field.
 ghost use Rattle.std.specs.Prelude.{◌≡◌};
-ghost use Rattle.r6501q_events.specs.Events.{same_levels, levels_change, ports_fresh, control_fresh, transmitter_fresh};
-ghost use Rattle.r6501q_events.specs.Events.{receiver_fresh, is_reset, reset_changes};
+ghost use Rattle.r6501q_events.specs.Events.{same_levels, levels_change, ports_fresh, control_fresh, transmitter_idle};
+ghost use Rattle.r6501q_events.specs.Events.{receiver_idle, is_reset, reset_changes};
 
 use cpu_access::waiting::byte_waits;
-use r6501q_state::state::{Control, FRESH_SCSR, Levels, Ports, State};
+use r6501q_state::state::{Control, Levels, Ports, State};
 use serial_receiver::Receiver;
 use serial_transmitter::Transmitter;
 
@@ -34,19 +34,19 @@ fn ports_fresh(p: Ports) -> bool
 fn control_fresh(c: Control) -> bool
     ensures { result ≡ control_fresh c }
 {
-    (c.ifr == 0) & (c.ier == 0) & (c.mcr == 0) & (c.sccr == 0) & (c.scsr == FRESH_SCSR)
+    (c.ifr == 0) & (c.ier == 0) & (c.mcr == 0) & (c.sccr == 0) & (c.scsr == 64)
 }
 
 // Whether the transmitter's progress is 0.
-fn transmitter_fresh(t: Transmitter) -> bool
-    ensures { result ≡ transmitter_fresh t }
+fn transmitter_idle(t: Transmitter) -> bool
+    ensures { result ≡ transmitter_idle t }
 {
     (t.left == 0) & (t.phase == 0) & (t.register == 0)
 }
 
 // Whether the receiver's progress is 0.
-fn receiver_fresh(t: Receiver) -> bool
-    ensures { result ≡ receiver_fresh t }
+fn receiver_idle(t: Receiver) -> bool
+    ensures { result ≡ receiver_idle t }
 {
     (t.subinterval == 0) & !t.half & (t.left == 0) & (t.register == 0)
 }
@@ -57,8 +57,8 @@ fn is_reset(s: State) -> bool
 {
     let ports = ports_fresh(s.peripherals.ports);
     let control = control_fresh(s.peripherals.control);
-    let transmitter = transmitter_fresh(s.peripherals.transmitter);
-    let receiver = receiver_fresh(s.peripherals.receiver);
+    let transmitter = transmitter_idle(s.peripherals.transmitter);
+    let receiver = receiver_idle(s.peripherals.receiver);
     let cpu = s.cpu;
     let waiting = cpu.waiting;
     let waits = byte_waits(waiting);

@@ -1,5 +1,6 @@
 // The gap before the next event clock, and the gap passed (document 01, "Run and leaps"). Neither is lent memory or
 // output space.
+#![tactic(auto)]
 
 // Events that the next clock brings.
 pub mod events;

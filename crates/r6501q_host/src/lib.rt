@@ -1,5 +1,6 @@
 // The state and what is handed back as the host, a program in C or Rust, holds them: each flag and level is a byte, 0
-// or 1, and no byte waiting is 0, 0, 0; and the refusals of a call that come before its state is taken over.
+// or 1, and no byte waiting is 0, 0, 0; and the refusals of a call that are told before its state is taken over.
+#![tactic(auto)]
 ghost use Rattle.std.specs.Prelude.{◌≡◌, false};
 ghost use Rattle.refusals.specs.Refusals.{refusal_of};
 ghost use Rattle.r6501q_chip.specs.R6501q.{r6501q_limits};
@@ -26,7 +27,7 @@ use serial_transmitter::Transmitter;
 use tape::LoadResult;
 
 #[repr(C)]
-#[derive(Drop)]
+#[derive(Clone, Copy)]
 pub struct HostWaiting {
     pub there: u8,
     pub address: u16,
@@ -34,7 +35,7 @@ pub struct HostWaiting {
 }
 
 #[repr(C)]
-#[derive(Drop)]
+#[derive(Clone, Copy)]
 pub struct HostCpu {
     pub a: u8,
     pub x: u8,
@@ -47,14 +48,14 @@ pub struct HostCpu {
 }
 
 #[repr(C)]
-#[derive(Drop)]
+#[derive(Clone, Copy)]
 pub struct HostDue {
     pub reset: u8,
     pub nmi: u8,
 }
 
 #[repr(C)]
-#[derive(Drop)]
+#[derive(Clone, Copy)]
 pub struct HostCounterB {
     pub count: u16,
     pub latchb: u16,
@@ -63,7 +64,7 @@ pub struct HostCounterB {
 }
 
 #[repr(C)]
-#[derive(Drop)]
+#[derive(Clone, Copy)]
 pub struct HostReceiver {
     pub subinterval: u8,
     pub half: u8,
@@ -72,7 +73,7 @@ pub struct HostReceiver {
 }
 
 #[repr(C)]
-#[derive(Drop)]
+#[derive(Clone, Copy)]
 pub struct HostPeripherals {
     pub ports: Ports,
     pub countera: CounterA,
@@ -84,7 +85,7 @@ pub struct HostPeripherals {
 }
 
 #[repr(C)]
-#[derive(Drop)]
+#[derive(Clone, Copy)]
 pub struct HostLevels {
     pub ports: u32,
     pub nmi: u8,
@@ -92,7 +93,7 @@ pub struct HostLevels {
 }
 
 #[repr(C)]
-#[derive(Drop)]
+#[derive(Clone, Copy)]
 pub struct HostState {
     pub cpu: HostCpu,
     pub due: HostDue,
@@ -103,7 +104,7 @@ pub struct HostState {
 }
 
 #[repr(C)]
-#[derive(Drop)]
+#[derive(Clone, Copy)]
 pub struct HostResult {
     pub number: u8,
     pub state: HostState,
@@ -113,14 +114,14 @@ pub struct HostResult {
 }
 
 #[repr(C)]
-#[derive(Drop)]
+#[derive(Clone, Copy)]
 pub struct HostLoadResult {
     pub number: u8,
     pub place: usize,
 }
 
 #[repr(C)]
-#[derive(Drop)]
+#[derive(Clone, Copy)]
 pub struct HostLatchResult {
     pub number: u8,
     pub found: u8,
@@ -128,7 +129,7 @@ pub struct HostLatchResult {
 }
 
 #[repr(C)]
-#[derive(Drop)]
+#[derive(Clone, Copy)]
 pub struct HostTotalResult {
     pub number: u8,
     pub total: u16,

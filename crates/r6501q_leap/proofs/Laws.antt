@@ -9,7 +9,7 @@ use borrow.Author.Tests.{eq-eqb}
 use Rattle.cpu_access.specs.declared.halt.Halt.{Halt}
 use Rattle.cpu_access.specs.Stack.{no_writes}
 use Rattle.cpu_access.specs.Halt.{halts}
-use Rattle.cpu_access.proofs.WritesInOrder.{unwritten}
+use Rattle.cpu_access.proofs.Told.{unwritten}
 use Rattle.leaps.specs.Chip.{ClockEnd, ClockOutcome, stopped, ended}
 use Rattle.leaps.specs.Calls.{is_stop, stop_of}
 use Rattle.leaps.proofs.Laws.{Lawful}

@@ -3,7 +3,6 @@ use Rattle.std.specs.Prelude.{◌≡◌, Bool, ◌&&◌, List, ℕ, ◌+◌, ◌
 use Rattle.counters.specs.declared.time.Clocks.{Clocks}
 use Rattle.cpu_access.specs.declared.halt.Halt.{Halt}
 use Rattle.refusals.specs.Refusals.{last_clock}
-use Rattle.leaps.specs.Lent.{Lent}
 use Rattle.leaps.specs.Leaps.{Run, run}
 use Rattle.r6501q_state.specs.declared.state.State.{State}
 use Rattle.r6501q_events.specs.Gaps.{clocks_of, pass_of}
@@ -32,17 +31,6 @@ run_from halt l memory input_clocks input_codes output_clocks output_words =
 abbrev pub run_ended : Leaped → List ℕ → List ℕ → List ℕ → List ℕ → List ℕ → Run World
 run_ended l memory input_clocks input_codes output_clocks output_words =
     record { world = world_of l.progress memory input_clocks input_codes output_clocks output_words; leaps = l.leaps }
-
--- the same of lent lists, at a call's entry and at its exit; the inputs do not change
-abbrev pub run_at_entry : Halt → Leaped → Lent → Lent → Lent → Lent → Lent → Run World
-run_at_entry halt l memory input_clocks input_codes output_clocks output_words =
-    run_from halt l memory.entry.now input_clocks.entry.now input_codes.entry.now
-    output_clocks.entry.now output_words.entry.now
-
-abbrev pub ended_at_exit : Leaped → Lent → Lent → Lent → Lent → Lent → Run World
-ended_at_exit l memory input_clocks input_codes output_clocks output_words =
-    run_ended l memory.exit.now input_clocks.entry.now input_codes.entry.now output_clocks.exit.now
-    output_words.exit.now
 
 -- a run that has just begun
 abbrev pub begin_run : State → ℕ → Leaped

@@ -1,4 +1,5 @@
 // One leap of a run: the gap, the gap passed, and the event clock.
+#![tactic(auto)]
 ghost use Rattle.std.specs.Prelude.{◌≡◌, ◌+◌, ◌-◌, ◌≤◌, ◌<◌, length, drop};
 ghost use Rattle.page_sums.specs.PageSums.{sums_after};
 ghost use Rattle.leaps.specs.Leaps.{leap_of, left_after};
@@ -15,7 +16,7 @@ use r6501q_advance::{Progress, advance};
 use r6501q_step::leaps_from;
 
 // How far a run has come: the clocks left, and the leaps done.
-#[derive(Drop)]
+#[derive(Clone, Copy)]
 pub struct Leaped {
     pub progress: Progress,
     pub left: Clocks,

@@ -9,7 +9,7 @@ use Rattle.bits.specs.Bits.{bit, with_bit}
 use Rattle.bits.proofs.Cond.{cond_both}
 use Rattle.bits.proofs.Bits.{bit_within}
 use Rattle.counters.specs.Counters.{lower_a, upper_a, lower_b, upper_b, copy_b}
-use Rattle.serial.proofs.Ranges.{transmitter_fits_after_sccr, receiver_fits_after_sccr}
+use Rattle.serial.proofs.Ranges.{transmitter_under_fits, receiver_under_fits}
 use Rattle.r6501q_state.specs.declared.state.Peripherals.{Peripherals}
 use Rattle.r6501q_state.specs.State.{peripherals_fit}
 use Rattle.r6501q_state.specs.Copies.{with_counter_a, with_counter_b, with_control, flagged, scsr_set, latched_a}
@@ -68,8 +68,8 @@ sccr_in : (p : Peripherals) (v : ℕ) → InPeripherals p → InPeripherals (wri
 unfolding entering
 sccr_in p v i = record {
   ifr = i.ifr;
-  transmitter = transmitter_fits_after_sccr p.control.sccr v p.transmitter i.transmitter;
-  receiver = receiver_fits_after_sccr p.control.sccr v p.receiver i.receiver;
+  transmitter = transmitter_under_fits p.control.sccr v p.transmitter i.transmitter;
+  receiver = receiver_under_fits p.control.sccr v p.receiver i.receiver;
 }
 
 -- 01, Registers: writes

@@ -1,7 +1,6 @@
 -- Reads of 00h to 3Fh: 001, C.1, column READ, a row for each address in its order; 01, Registers.
 use Rattle.std.specs.Prelude.{Bool, true, false, cond, ℕ, ◌/◌, ◌%◌, eqb}
 use Rattle.bits.specs.Bits.{low_byte, high_byte, with_bit}
-use Rattle.serial_format.specs.ScsrBits.{receiver_full, overrun, parity_error, framing_error}
 use Rattle.r6501q_state.specs.declared.state.Peripherals.{Peripherals}
 use Rattle.r6501q_state.specs.Copies.{flagged, scsr_set}
 use Rattle.r6501q_state.specs.Control.{flags_of}
@@ -40,8 +39,7 @@ register_value p levels modify at =
 
 -- "reading clears SCSR0 to 3"
 abbrev pub received_read : ℕ → ℕ
-received_read scsr =
-    with_bit framing_error false (with_bit parity_error false (with_bit overrun false (with_bit receiver_full false scsr)))
+received_read scsr = with_bit 3 false (with_bit 2 false (with_bit 1 false (with_bit 0 false scsr)))
 
 -- What a read leaves. C.1, "CLR Flag"; 01: "Data 17h: reading clears SCSR0 to 3"; "reading 18h or 1Ch clears the flag".
 unfoldable pub after_read : Peripherals → ℕ → Peripherals

@@ -4,7 +4,6 @@ use Rattle.bits.specs.Bits.{bit, with_bit, set_where, flip_where}
 use Rattle.counters.specs.Counters.{lower_a, upper_a, load_counter_a, lower_b, upper_b, copy_b, load_counter_b, turn_to_c}
 use Rattle.serial_transmitter.specs.Transmitter.{transmitter_with_sccr}
 use Rattle.serial_receiver.specs.Receiver.{receiver_with_sccr}
-use Rattle.serial_format.specs.ScsrBits.{wake_up, end_of_transmission, transmitter_empty, underrun}
 use Rattle.r6501q_state.specs.declared.state.Control.{Control}
 use Rattle.r6501q_state.specs.declared.state.Peripherals.{Peripherals}
 use Rattle.r6501q_state.specs.Copies.{with_counter_a, with_counter_b, with_control, with_sent, with_progress, flagged}
@@ -38,15 +37,11 @@ start_a p v =
 -- 17h, "writing clears SCSR6, SCSR7"; 001, 5.3, SCSR 5: cleared "upon writing a new data word into the Transmitter
 -- Data Register"
 abbrev pub write_data : Peripherals → ℕ → Peripherals
-write_data p v =
-    let waiting = with_bit transmitter_empty false (with_bit end_of_transmission false p.control.scsr) in
-    with_sent (scsr_set p (with_bit underrun false waiting)) v
+write_data p v = with_sent (scsr_set p (with_bit 7 false (with_bit 6 false (with_bit 5 false p.control.scsr)))) v
 
 -- 16h, "bits 4, 5 can be written"
 abbrev pub write_scsr : Peripherals → ℕ → Peripherals
-write_scsr p v =
-    scsr_set p
-    (with_bit end_of_transmission (bit end_of_transmission v) (with_bit wake_up (bit wake_up v) p.control.scsr))
+write_scsr p v = scsr_set p (with_bit 5 (bit 5 v) (with_bit 4 (bit 4 v) p.control.scsr))
 
 -- 001, 6.1.2: "The CA output is initialized high when entering the mode": pulse mode is in force and was not before
 unfoldable pub entering : Peripherals → Control → Peripherals

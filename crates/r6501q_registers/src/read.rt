@@ -7,10 +7,9 @@ use crate::addresses::{
     PORT_C, PORT_D, SERIAL_CONTROL, SERIAL_DATA, SERIAL_STATUS, START_A, START_B, UPPER_A, UPPER_B,
 };
 use r6501q_state::state::Peripherals;
-use serial_format::scsr::{FRAMING_ERROR, OVERRUN, PARITY_ERROR, RECEIVER_FULL};
 
 // The value read, and what the read leaves.
-#[derive(Drop)]
+#[derive(Clone, Copy)]
 pub struct Reading {
     pub value: u8,
     pub peripherals: Peripherals,
@@ -57,12 +56,8 @@ pub fn value(p: Peripherals, levels: u32, modify: bool, address: u16) -> u8
 fn received_read(scsr: u8) -> u8
     ensures { result ≡ received_read scsr }
 {
-    let lower = bits::with_bit(bits::with_bit(scsr, RECEIVER_FULL, false), OVERRUN, false);
-    bits::with_bit(
-        bits::with_bit(lower, PARITY_ERROR, false),
-        FRAMING_ERROR,
-        false,
-    )
+    let lower = bits::with_bit(bits::with_bit(scsr, 0, false), 1, false);
+    bits::with_bit(bits::with_bit(lower, 2, false), 3, false)
 }
 
 // The effect of a read: flags cleared.

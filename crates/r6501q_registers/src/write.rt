@@ -8,7 +8,6 @@ use crate::addresses::{
     SERIAL_CONTROL, SERIAL_DATA, SERIAL_STATUS, START_A, START_B, UPPER_A, UPPER_B,
 };
 use r6501q_state::state::{Control, Peripherals};
-use serial_format::scsr::{END_OF_TRANSMISSION, TRANSMITTER_EMPTY, UNDERRUN, WAKE_UP};
 
 // 1Eh: the upper latch, and counter B started.
 fn start_b(mut p: Peripherals, value: u8) -> Peripherals
@@ -46,9 +45,8 @@ fn start_a(mut p: Peripherals, value: u8) -> Peripherals
 fn write_data(mut p: Peripherals, value: u8) -> Peripherals
     ensures { result ≡ write_data p value }
 {
-    let begun = bits::with_bit(p.control.scsr, END_OF_TRANSMISSION, false);
-    let waiting = bits::with_bit(begun, TRANSMITTER_EMPTY, false);
-    let status = bits::with_bit(waiting, UNDERRUN, false);
+    let waiting = bits::with_bit(bits::with_bit(p.control.scsr, 5, false), 6, false);
+    let status = bits::with_bit(waiting, 7, false);
     p.control.scsr = status;
     p.serial.sent = value;
     p
@@ -57,9 +55,8 @@ fn write_data(mut p: Peripherals, value: u8) -> Peripherals
 fn write_scsr(mut p: Peripherals, value: u8) -> Peripherals
     ensures { result ≡ write_scsr p value }
 {
-    let woken = bits::with_bit(p.control.scsr, WAKE_UP, bits::bit8(value, WAKE_UP));
-    let ended = bits::bit8(value, END_OF_TRANSMISSION);
-    let status = bits::with_bit(woken, END_OF_TRANSMISSION, ended);
+    let woken = bits::with_bit(p.control.scsr, 4, bits::bit8(value, 4));
+    let status = bits::with_bit(woken, 5, bits::bit8(value, 5));
     p.control.scsr = status;
     p
 }
@@ -81,8 +78,8 @@ fn entering_mode(mut p: Peripherals, control: Control) -> Peripherals
 fn zero_progress(mut p: Peripherals, old: u8, sccr: u8) -> Peripherals
     ensures { result ≡ zeroed p old sccr }
 {
-    let transmitter = p.transmitter.on_sccr_write(old, sccr);
-    let receiver = p.receiver.on_sccr_write(old, sccr);
+    let transmitter = p.transmitter.with_sccr(old, sccr);
+    let receiver = p.receiver.with_sccr(old, sccr);
     p.transmitter = transmitter;
     p.receiver = receiver;
     p

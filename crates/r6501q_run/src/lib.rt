@@ -1,4 +1,5 @@
 // The leaping run: from event clock to event clock.
+#![tactic(auto)]
 ghost use Rattle.std.specs.Prelude.{◌≡◌, ◌+◌, ◌≤◌};
 ghost use Rattle.page_sums.specs.PageSums.{sums_after};
 ghost use Rattle.leaps.specs.CallLists.{run_of, plain_run_of};
@@ -7,7 +8,7 @@ ghost use Rattle.leaps.specs.Summed.{with_sums};
 ghost use Rattle.cpu_opcodes.specs.TableInCode.{opcode_table};
 ghost use Rattle.r6501q_chip.specs.R6501q.{machine};
 ghost use Rattle.r6501q_step.specs.Calls.{at_exit};
-ghost use Rattle.r6501q_leap.specs.RunInCode.{goes_on, run_at_entry, ended_at_exit, begin_run, Leaping};
+ghost use Rattle.r6501q_leap.specs.RunInCode.{goes_on, run_from, run_ended, begin_run, Leaping};
 
 use counters::time::Clocks;
 use cpu_access::halt::Halt;
@@ -41,8 +42,10 @@ fn leap_on(
         outputwords.old }
     requires left_bound { start.leaps + start.left.0 ≤ 4294967295 }
     requires entries_value { entries.now ≡ opcode_table }
-    ensures outputwords_value { ended_at_exit result memory inputclocks inputcodes outputclocks outputwords
-        ≡ run_at_entry halt start memory inputclocks inputcodes outputclocks outputwords }
+    ensures outputwords_after { run_ended result memory.new inputclocks.now inputcodes.now
+        outputclocks.new outputwords.new
+        ≡ run_from halt start memory.old inputclocks.now inputcodes.now
+        outputclocks.old outputwords.old }
     ensures sums_after { sums.new ≡ sums_after sums.old memory.old memory.new }
 {
     let mut at = start;

@@ -27,12 +27,12 @@ use Rattle.memory_writes.specs.Commit.{put_write, committed}
 use Rattle.r6501q_chip.specs.R6501q.{system}
 use Rattle.r6501q_advance.specs.World.{world_of}
 use Rattle.r6501q_spans.specs.Spans.{none_waiting}
-use Rattle.r6501q_span_work.specs.SpanWork.{continued_by, committed_by, work_by, memory_by}
+use Rattle.r6501q_span_work.specs.Work.{continued_by, committed_by, work_by, memory_by}
 use Rattle.cpu_access.specs.Halt.{ends_span}
 use Rattle.r6501q_span_reads.specs.Steady.{outcome_within}
 use Rattle.r6501q_spans.specs.Spans.{next_working, put_work}
-use Rattle.r6501q_span_work.specs.SpanWork.{work_after, memory_after, puts_within, work_put}
-use Rattle.r6501q_span_work.specs.SpanWork.{memory_put}
+use Rattle.r6501q_span_work.specs.Work.{work_after, memory_after, puts_within, work_put}
+use Rattle.r6501q_span_work.specs.Work.{memory_put}
 use Rattle.r6501q_spans.specs.declared.Working.{Working}
 use Rattle.cpu_access.proofs.Ends.{no_writes_end}
 use Rattle.r6501q_spans.proofs.Ticked.{byte_waiting}

@@ -41,12 +41,12 @@ use Rattle.r6501q_advance.specs.declared.Progress.{Progress}
 use Rattle.r6501q_chip.specs.R6501q.{World, r6501q, system}
 use Rattle.r6501q_advance.specs.World.{world_of}
 use Rattle.r6501q_spans.specs.Spans.{begin_work, none_waiting, next_working}
-use Rattle.r6501q_span_work.specs.SpanWork.{work_after}
+use Rattle.r6501q_span_work.specs.Work.{work_after}
 use Rattle.cpu_access.specs.Halt.{ends_span}
 use Rattle.r6501q_span_reads.specs.Steady.{outcome_within}
 use Rattle.r6501q_spans.specs.Spans.{put_work}
-use Rattle.r6501q_span_work.specs.SpanWork.{memory_after, work_put}
-use Rattle.r6501q_span_work.specs.SpanWork.{memory_put, WorkedOn}
+use Rattle.r6501q_span_work.specs.Work.{memory_after, work_put}
+use Rattle.r6501q_span_work.specs.Work.{memory_put, WorkedOn}
 use Rattle.r6501q_spans.specs.Ticked.{AloneSeen, ticked_state}
 use Rattle.r6501q_spans.specs.declared.Working.{Working}
 use Rattle.cpu_access.proofs.Ends.{ends_neither}
@@ -55,11 +55,11 @@ use Rattle.r6501q_spans.proofs.Ticked.{waited, byte_waiting, ticked_left_b, tick
 use Rattle.r6501q_spans.proofs.Ticked.{ticked_waits, tick_gap, cpu_gap, ticked_passed, ticked_none, until_start}
 use Rattle.r6501q_spans.proofs.Ticked.{instruction_there, until_put, byte_there}
 use Rattle.r6501q_leap.specs.declared.Leaped.{Leaped}
-use Rattle.r6501q_span_opcodes.specs.declared.RanOn.{RanOn}
+use Rattle.r6501q_fast.specs.declared.RanOn.{RanOn}
 use Rattle.cpu_attempts.specs.Attempts as attempts
-use Rattle.r6501q_span_opcodes.specs.Instructions as instructions
-use Rattle.r6501q_span_opcodes.specs.Instructions.{ByInstructions, shared_by, RunsOn}
-use Rattle.r6501q_span_opcodes.proofs.Instructions.{shared_most}
+use Rattle.r6501q_fast.specs.Instructions as instructions
+use Rattle.r6501q_fast.specs.Instructions.{ByInstructions, shared_by, RunsOn}
+use Rattle.r6501q_fast.proofs.Instructions.{shared_most}
 use Rattle.r6501q_span_leaps.specs.declared.Stepped.{Stepped}
 use Rattle.r6501q_span_leaps.specs.Ticked.{SpanBegun, shared_in, leaps_to, ticked_to, EndFits, StepsOn}
 use Rattle.r6501q_span_leaps.specs.Spanned.{Spanned}
@@ -527,7 +527,7 @@ some_period ports p t e =
     (λ _. omega arith) (λ _. omega arith))
 
 -- what holds after each step of the CPU
-pub record SpanSoFar (halt : Halt) (at : Leaped) (clocks : List ℕ) (span : ℕ) (memory₀ memory : List ℕ) (v : Working)
+pub record Within (halt : Halt) (at : Leaped) (clocks : List ℕ) (span : ℕ) (memory₀ memory : List ℕ) (v : Working)
     (shared : ℕ) : Type 0 where
   pub begun : SpanBegun at clocks span
   pub leapt : LeaptTo halt at clocks span begun.on begun.alone memory₀ v shared memory
@@ -546,7 +546,7 @@ module _ (halt : Halt) (at : Leaped) (clocks : List ℕ) (span : ℕ) (memory₀
   here = at.progress.state.peripherals
 
   pub within_begins : SpanBegun at clocks span
-      → SpanSoFar halt at clocks span memory₀ memory₀ (begin_work at.progress.state) 0
+      → Within halt at clocks span memory₀ memory₀ (begin_work at.progress.state) 0
   unfolding ticks_in
   within_begins b = record {
     begun = b;
@@ -568,10 +568,10 @@ module _ (halt : Halt) (at : Leaped) (clocks : List ℕ) (span : ℕ) (memory₀
   module _ (t : Ticking)
       (ticks : (g : ℕ) → g < span → ticks_next ports (peripherals_clocks g ports here) ≡ on_tick t (g + 1)) where
     within_after : (memory memory' : List ℕ) (w : Work) (shared : ℕ) (v : Working)
-        → SpanSoFar halt at clocks span memory₀ memory (none_waiting w) shared
+        → Within halt at clocks span memory₀ memory (none_waiting w) shared
         → v ≡ work_after halt start span w memory → memory' ≡ memory_after halt start span w memory → length memory'
         ≡ length memory
-        → SpanSoFar halt at clocks span memory₀ memory' v (shared + shared_in t (none_waiting w) v)
+        → Within halt at clocks span memory₀ memory' v (shared + shared_in t (none_waiting w) v)
     within_after memory memory' w shared v i e m k =
         let b = i.begun in
         record {
@@ -591,9 +591,9 @@ module _ (halt : Halt) (at : Leaped) (clocks : List ℕ) (span : ℕ) (memory₀
         }
 
     within_put : (memory memory' : List ℕ) (w : Work) (x : Write) (shared : ℕ) (v : Working)
-        → SpanSoFar halt at clocks span memory₀ memory (byte_waiting w x) shared
+        → Within halt at clocks span memory₀ memory (byte_waiting w x) shared
         → v ≡ work_put halt span w x → memory' ≡ memory_put halt span w x memory → length memory' ≡ length memory
-        → SpanSoFar halt at clocks span memory₀ memory' v (shared + shared_in t (byte_waiting w x) v)
+        → Within halt at clocks span memory₀ memory' v (shared + shared_in t (byte_waiting w x) v)
     within_put memory memory' w x shared v i e m k =
         let b = i.begun in
         record {
@@ -613,24 +613,24 @@ module _ (halt : Halt) (at : Leaped) (clocks : List ℕ) (span : ℕ) (memory₀
         }
 
     within_on : (memory memory' : List ℕ) (w : Work) (waits : Waiting) (shared : ℕ) (v : Working)
-        → SpanSoFar halt at clocks span memory₀ memory (record { work = w; waiting = waits }) shared
+        → Within halt at clocks span memory₀ memory (record { work = w; waiting = waits }) shared
         → WorkedOn halt start span w waits memory v memory' → length memory' ≡ length memory
-        → SpanSoFar halt at clocks span memory₀ memory' v (shared + shared_in t (record { work = w; waiting = waits }) v)
+        → Within halt at clocks span memory₀ memory' v (shared + shared_in t (record { work = w; waiting = waits }) v)
     within_on memory memory' w waiting.Nothing shared v i o k = within_after memory memory' w shared v i o.0 o.1 k
     within_on memory memory' w (waiting.Byte x) shared v i o k =
         within_put memory memory' w x shared v i o.0 o.1 k
 
     pub within_goes : (memory memory' : List ℕ) (u v : Working) (shared : ℕ)
-        → SpanSoFar halt at clocks span memory₀ memory u shared
+        → Within halt at clocks span memory₀ memory u shared
         → WorkedOn halt start span u.work u.waiting memory v memory' → length memory' ≡ length memory
-        → SpanSoFar halt at clocks span memory₀ memory' v (shared + shared_in t u v)
+        → Within halt at clocks span memory₀ memory' v (shared + shared_in t u v)
     within_goes memory memory' u v shared i o k = within_on memory memory' u.work u.waiting shared v i o k
 
     within_ran : (memory memory' : List ℕ) (w : Work) (waits : Waiting) (shared : ℕ) (r : RanOn)
-        → SpanSoFar halt at clocks span memory₀ memory (record { work = w; waiting = waits }) shared
+        → Within halt at clocks span memory₀ memory (record { work = w; waiting = waits }) shared
         → RunsOn halt span t w waits memory r memory' → WithinSpan r.working.work span
         → length memory' ≡ length memory
-        → SpanSoFar halt at clocks span memory₀ memory' r.working (shared + r.shared)
+        → Within halt at clocks span memory₀ memory' r.working (shared + r.shared)
     within_ran memory memory' w waiting.Nothing shared r i o room k =
         let b = i.begun in
         let none : r.working ≡ none_waiting r.working.work =
@@ -647,8 +647,8 @@ module _ (halt : Halt) (at : Leaped) (clocks : List ℕ) (span : ℕ) (memory₀
     within_ran memory memory' w (waiting.Byte x) shared r i o room k = rw (o.0, o.1, add-zero shared) i
 
     pub within_steps : (memory memory' : List ℕ) (v : Working) (shared : ℕ) (r : Stepped)
-        → SpanSoFar halt at clocks span memory₀ memory v shared → StepsOn halt start span t v memory r memory'
-        → SpanSoFar halt at clocks span memory₀ memory' r.working (shared + r.shared)
+        → Within halt at clocks span memory₀ memory v shared → StepsOn halt start span t v memory r memory'
+        → Within halt at clocks span memory₀ memory' r.working (shared + r.shared)
     within_steps memory memory' v shared r i o =
         let ran =
         within_ran memory o.between v.work v.waiting shared o.middle i o.ran o.room o.kept in
@@ -659,8 +659,7 @@ module _ (halt : Halt) (at : Leaped) (clocks : List ℕ) (span : ℕ) (memory₀
         o.keeps)
 
   -- what is handed back at its end
-  module _ (memory : List ℕ) (v : Working) (shared : ℕ)
-      (i : SpanSoFar halt at clocks span memory₀ memory v shared) where
+  module _ (memory : List ℕ) (v : Working) (shared : ℕ) (i : Within halt at clocks span memory₀ memory v shared) where
     made_so : i.leapt.made ≡ leaps_to at v - shared
     made_so = omega (arith, i.leapt.counted)
 

@@ -8,10 +8,10 @@ use Rattle.r6501q_events.specs.Gaps.{clocks_of}
 use Rattle.r6501q_unseen.specs.declared.Ticking.{Ticking}
 use Rattle.r6501q_unseen.specs.Unseen.{ticks_in, Unseen, on_tick}
 use Rattle.r6501q_spans.specs.declared.Working.{Working}
-use Rattle.r6501q_span_work.specs.SpanWork.{WorkedOn}
+use Rattle.r6501q_span_work.specs.Work.{WorkedOn}
 use Rattle.r6501q_spans.specs.Ticked.{AloneSeen, ticked_state}
-use Rattle.r6501q_span_opcodes.specs.declared.RanOn.{RanOn}
-use Rattle.r6501q_span_opcodes.specs.Instructions.{RunsOn}
+use Rattle.r6501q_fast.specs.declared.RanOn.{RanOn}
+use Rattle.r6501q_fast.specs.Instructions.{RunsOn}
 use Rattle.r6501q_span_leaps.specs.declared.Stepped.{Stepped}
 use Rattle.r6501q_leap.specs.declared.Leaped.{Leaped}
 
@@ -54,8 +54,7 @@ pub record EndFits (at : Leaped) (v : Working) (shared : ℕ) : Type 0 where
   pub leaps : at.leaps + (leaps_to at v - shared) ≤ 4294967295
 
 -- the leaps of a span that began with the state s, further on from `v`: instructions by their opcodes (`middle`,
--- `between`; how many is left free), then one more step of the CPU, with how many of the clocks that it acted on had a
--- tick too
+-- `between`), then one more step of the CPU, with how many of the clocks that it acted on had a tick too
 pub record StepsOn (halt : Halt) (s : State) (span : ℕ) (t : Ticking) (v : Working) (memory : List ℕ) (r : Stepped)
     (memory' : List ℕ) : Type 0 where
   pub middle : RanOn

@@ -1,4 +1,5 @@
 // The leaps of a span, made one after the other on a small record.
+#![tactic(auto)]
 ghost use Rattle.std.specs.Prelude.{◌≡◌, ◌+◌, ◌≤◌, ◌<◌, length};
 ghost use Rattle.page_sums.specs.PageSums.{sums_after};
 ghost use Rattle.cpu_opcodes.specs.TableInCode.{opcode_table};
@@ -9,29 +10,25 @@ ghost use Rattle.r6501q_span_leaps.specs.Ticked.{SpanBegun, shared_in, ticked_to
 use counters::time::Clocks;
 use cpu_access::halt::Halt;
 use r6501q_advance::Progress;
+use r6501q_fast::run_working;
 use r6501q_leap::Leaped;
-use r6501q_span_opcodes::run_working;
 use r6501q_span_work::work_once;
 use r6501q_spans::{Working, begin_work};
 use r6501q_state::state::State;
 use r6501q_unseen::{Ticking, on_tick, ticking_of, ticks_in};
 
 // The CPU in a span after some leaps, and how many of the clocks that it acted on had a tick too.
-#[derive(Drop)]
+#[derive(Clone, Copy)]
 pub struct Stepped {
     pub working: Working,
     pub shared: u32,
 }
 
-// The clocks in which nothing but the CPU does what can be seen; none where no clock is left or the run has stopped.
-// Any smaller number, none too, would meet the contract. No clock left is looked at first, for calls of few clocks.
+// The clocks in which nothing but the CPU does what can be seen; none where the run has stopped.
 fn span_from(at: Leaped, inputclocks: &[u32]) -> Clocks
     requires { at.progress.read ≤ length inputclocks.now }
     ensures { 0 < result.0 → SpanBegun at inputclocks.now result.0 }
 {
-    if at.left.0 == 0 {
-        return Clocks(0);
-    }
     if at.progress.stop != 0 {
         return Clocks(0);
     }

@@ -21,7 +21,7 @@ use Rattle.cpu_access.specs.Stack.{write_at, no_writes}
 use Rattle.cpu_effects.specs.declared.Worked.{Worked}
 use Rattle.cpu_effects.specs.declared.Writing.{Writing}
 use Rattle.cpu_effects.specs.declared.Writing.TheVariants.{Nothing, Stored}
-use Rattle.cpu_effects.specs.Effects.{worked_out, completed, stored, modified, branched, bit_branched}
+use Rattle.cpu_effects.specs.Effects.{completed, stored, modified, branched, bit_branched}
 use Rattle.cpu_kinds.specs.Kinds.{with_read, changed_by, byte_to_store, bit_branch_taken}
 use Rattle.cpu_operations.specs.Operations.{operate_of}
 use Rattle.cpu_kinds.specs.Updates.{with_pc, with_status}
@@ -34,6 +34,9 @@ use Rattle.r6501q_registers.specs.Read.{register_value}
 use Rattle.r6501q_span_reads.specs.Steady.{steady_at, steady_ask, outcome_within}
 use Rattle.r6501q_span_reads.specs.Known.{Encoded}
 use Rattle.r6501q_span_reads.proofs.SteadyReads.{within_done}
+
+abbrev worked_out : CpuRegisters → Writing → ℕ → Worked
+worked_out r x n = record { registers = r; writing = x; length = n }
 
 module _ (r : CpuRegisters) (memory : List ℕ) (e : Entry) (a : ℕ) (i : Encoded r memory e a) where
   abbrev behind : CpuRegisters

@@ -17,14 +17,14 @@ use Rattle.cpu.specs.InstructionInCode.{instruction_of}
 use Rattle.r6501q_state.specs.declared.state.Peripherals.{Peripherals}
 use Rattle.r6501q_state.specs.declared.state.State.{State}
 use Rattle.r6501q_registers.specs.Read.{register_value, after_read}
-use Rattle.r6501q_cpu.specs.Asking.{put_register, peripherals_after_writes, answer_of}
+use Rattle.r6501q_cpu.specs.Asking.{put_register, registers_after, answer_of}
 use Rattle.r6501q_unseen.specs.Unseen.{SameSeen}
 use Rattle.r6501q_span_reads.specs.Steady.{steady_at, steady_ask, outcome_within}
 
-abbrev pub asks_no_more : Outcome → Bool
-asks_no_more (Stopped number) = false
-asks_no_more (Asked ask) = false
-asks_no_more (Done worked) = true
+abbrev pub is_done : Outcome → Bool
+is_done (Stopped number) = false
+is_done (Asked ask) = false
+is_done (Done worked) = true
 
 -- an instruction that asks for no register
 pub within_done : (s : State) (r : CpuRegisters) (memory : List ℕ) (worked : Worked)
@@ -66,8 +66,8 @@ steady_value p q same levels modify a e =
       same.ports,
     )
 
-no_writes : (p : Peripherals) (w : Writes) → eqb w.count 0 ≡ true → peripherals_after_writes p w ≡ p
-unfolding peripherals_after_writes put_register
+no_writes : (p : Peripherals) (w : Writes) → eqb w.count 0 ≡ true → registers_after p w ≡ p
+unfolding registers_after put_register
 no_writes p w e = rw (eqb-true w.count 0 e)
 
 -- the answer, and what is left, on any clock of the span

@@ -11,17 +11,17 @@ use Rattle.cpu_access.specs.Bus.{next_address, memory_byte}
 use Rattle.cpu_access.specs.Stack.{no_writes}
 use Rattle.cpu_effects.specs.declared.Writing.{Writing}
 use Rattle.cpu_effects.specs.declared.Writing.TheVariants.{Nothing}
-use Rattle.cpu_effects.specs.Effects.{worked_out, pushes_of}
+use Rattle.cpu_effects.specs.Effects.{pushes_of}
 use Rattle.cpu.specs.declared.Outcome.TheVariants.{Done}
 use Rattle.r6501q_state.specs.declared.state.State.{State}
 use Rattle.r6501q_span_reads.specs.declared.known.Known.{Known}
 use Rattle.r6501q_span_reads.specs.Steady.{outcome_within}
 
 abbrev pub known_work : CpuRegisters → Writing → ℕ → Known
-known_work r w n = record { known = true; worked = worked_out r w n }
+known_work r w n = record { known = true; worked = record { registers = r; writing = w; length = n } }
 
 abbrev pub unknown_work : CpuRegisters → Known
-unknown_work r = record { known = false; worked = worked_out r Nothing 1 }
+unknown_work r = record { known = false; worked = record { registers = r; writing = Nothing; length = 1 } }
 
 -- the three bytes from PC on lie in memory; the first is the opcode of the entry, which takes 7 clocks at most, the
 -- second is a, a register's address

@@ -23,7 +23,7 @@ use r6501q_registers::read::value;
 use r6501q_state::state::State;
 
 // What an instruction comes to, where that is known.
-#[derive(Drop)]
+#[derive(Clone, Copy)]
 pub struct Known {
     pub known: bool,
     pub worked: Worked,

@@ -1,4 +1,5 @@
 // Instructions of a span that read a register of the chip, whose value stays in the span.
+#![tactic(auto)]
 
 // By asking: one question is answered.
 pub mod steady;

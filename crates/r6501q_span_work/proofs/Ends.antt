@@ -15,7 +15,7 @@ use Rattle.cpu_access.specs.Halt.{ends_span}
 use Rattle.cpu_access.proofs.Ends.{no_writes_end}
 use Rattle.memory_writes.specs.Commit.{put_write, committed}
 use Rattle.r6501q_spans.specs.Spans.{next_working}
-use Rattle.r6501q_span_work.specs.SpanWork.{continued_by, committed_by, puts_within}
+use Rattle.r6501q_span_work.specs.Work.{continued_by, committed_by, puts_within}
 
 and_first : (a b : Bool) → a ≡ false → (a && b) ≡ false
 and_first a b e = rw e refl

@@ -1,1 +1,1 @@
-pub mod SpanWork
+pub mod Work

@@ -1,13 +1,13 @@
 // The CPU's steps in a span, one at a time: an instruction that starts in it, or the byte that waits put.
+#![tactic(auto)]
 ghost use Rattle.std.specs.Prelude.{◌≡◌, ◌+◌, ◌≤◌};
 ghost use Rattle.page_sums.specs.PageSums.{sums_after};
 ghost use Rattle.cpu_opcodes.specs.TableInCode.{opcode_table};
 ghost use Rattle.cpu.specs.Work.{WithinSpan};
 ghost use Rattle.r6501q_span_reads.specs.Steady.{outcome_within};
 ghost use Rattle.r6501q_spans.specs.Spans.{next_working};
-ghost use Rattle.r6501q_span_work.specs.SpanWork.{continued_by, committed_by, work_after, memory_after, work_put};
-ghost use Rattle.r6501q_span_work.specs.SpanWork.{memory_put};
-ghost use Rattle.r6501q_span_work.specs.SpanWork.{WorkedOn, work_by, memory_by};
+ghost use Rattle.r6501q_span_work.specs.Work.{continued_by, committed_by, work_after, memory_after, work_put, memory_put};
+ghost use Rattle.r6501q_span_work.specs.Work.{WorkedOn, work_by, memory_by};
 
 use counters::time::Clocks;
 use cpu::Outcome;

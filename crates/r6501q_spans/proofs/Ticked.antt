@@ -37,7 +37,7 @@ use Rattle.r6501q_cpu.specs.declared.Processed.{Processed}
 use Rattle.r6501q_cpu.specs.declared.Processed.TheVariants as processed
 use Rattle.r6501q_cpu.specs.declared.Round.TheVariants.{Over, Answered}
 use Rattle.r6501q_cpu.specs.Processor.{irq_due, byte_put, processor_of}
-use Rattle.r6501q_cpu.specs.Asking.{put_register, peripherals_after_writes, round_of, instruction_from, answered_instruction}
+use Rattle.r6501q_cpu.specs.Asking.{put_register, registers_after, round_of, instruction_from, answered_instruction}
 use Rattle.r6501q_cpu.proofs.Asks.{round_over, round_answered}
 use Rattle.r6501q_cpu.proofs.Answered.{instruction_answered}
 use Rattle.r6501q_cpu.proofs.Ranges.{never_both}
@@ -63,12 +63,12 @@ use Rattle.r6501q_span_reads.specs.Steady.{answered_once, outcome_within}
 use Rattle.r6501q_spans.specs.Spans.{next_working}
 use Rattle.r6501q_spans.specs.Ticked.{AloneSeen, ticked_state}
 use Rattle.bits.proofs.Cond.{either_false}
-use Rattle.r6501q_span_reads.proofs.SteadyReads.{asks_no_more, steady_answer_lem}
+use Rattle.r6501q_span_reads.proofs.SteadyReads.{is_done, steady_answer_lem}
 
 -- ---- no write at a register's address
 
-pub no_registers : (p : Peripherals) (w : Writes) → writes_register w ≡ false → peripherals_after_writes p w ≡ p
-unfolding writes_register peripherals_after_writes put_register
+pub no_registers : (p : Peripherals) (w : Writes) → writes_register w ≡ false → registers_after p w ≡ p
+unfolding writes_register registers_after put_register
 no_registers p w e =
     let later = either_false
     ((ltb 0 w.count && is_register w.first.address) || (ltb 1 w.count && is_register w.second.address)) _
@@ -98,8 +98,8 @@ waited v d = record {
 }
 
 -- the clock after, with the wait as before it
-abbrev pub clock_counted : Working → Working
-clock_counted v = record {
+abbrev pub counted : Working → Working
+counted v = record {
   work =
       record {
         registers = v.work.registers;
@@ -163,7 +163,7 @@ module _ (n : ℕ) (s : State) (clocks : List ℕ) (span : ℕ) (a : AloneSeen n
       ticked_levels n s clocks span a v (omega arith) ∙ same_levels_lem (levels_of s) s.last (not-false _ a.change)
 
   -- steps 1 to 3
-  ticked_ready : before_cpu (ticked_state s v) [] ≡ ticked_state s (clock_counted v)
+  ticked_ready : before_cpu (ticked_state s v) [] ≡ ticked_state s (counted v)
   ticked_ready =
       before_cpu_peripherals (ticked_state s v) levels_last (λ e. absurd (false≢true (sym e ∙ a.res)))
       ∙ rw (
@@ -173,7 +173,7 @@ module _ (n : ℕ) (s : State) (clocks : List ℕ) (span : ℕ) (a : AloneSeen n
 
   -- steps 1 to 5, by what step 4 comes to: the word stays
   pub ticked_clock : (memory : List ℕ) (next : Working) (writes : Writes) → next.work.gone.0 ≤ span
-      → processor_of (ticked_state s (clock_counted v)) memory
+      → processor_of (ticked_state s (counted v)) memory
       ≡ processed.Done (record { state = ticked_state s next; writes = writes })
       → (free : Bool) → clock_of (ticked_state s v) [] memory free
       ≡ Done (ended_with (record { state = ticked_state s next; writes = writes }) (driven_word s.peripherals) false)
@@ -189,14 +189,14 @@ module _ (n : ℕ) (s : State) (clocks : List ℕ) (span : ℕ) (a : AloneSeen n
 
   -- where the CPU acts later, it waits
   pub ticked_waits : (memory : List ℕ) → 0 < until_cpu (ticked_state s v).cpu
-      → processor_of (ticked_state s (clock_counted v)) memory
+      → processor_of (ticked_state s (counted v)) memory
       ≡ processed.Done (record { state = ticked_state s (waited v 1); writes = no_writes })
   unfolding until_cpu
   ticked_waits memory later =
       let waits = byte_waits v.waiting in
       let some = not_over true _ v.work.wait (λ _. later) refl in
-      clock_waits (ticked_state s (clock_counted v)) memory a.res some
-      ∙ waited_less (ticked_state s (clock_counted v)) (not_put true waits v.work.wait (λ _. later))
+      clock_waits (ticked_state s (counted v)) memory a.res some
+      ∙ waited_less (ticked_state s (counted v)) (not_put true waits v.work.wait (λ _. later))
 
 -- ---- the gap before the next event clock, and the gap passed
 
@@ -307,8 +307,8 @@ module _ (n : ℕ) (s : State) (clocks : List ℕ) (span : ℕ) (a : AloneSeen n
     (inside : w.gone.0 + w.wait < span)
     (memory : List ℕ) (worked : Worked) (done : outcome_within s w.registers memory ≡ outcome.Done worked)
     (in_memory : writes_register (pushes_of worked.writing) ≡ false) where
-  abbrev at_start : State
-  at_start = ticked_state s (clock_counted (waited (none_waiting w) w.wait))
+  abbrev begun : State
+  begun = ticked_state s (counted (waited (none_waiting w) w.wait))
 
   abbrev next : Processed
   next =
@@ -316,29 +316,29 @@ module _ (n : ℕ) (s : State) (clocks : List ℕ) (span : ℕ) (a : AloneSeen n
 
   -- the round that ends it
   round_there : (answers : List ℕ) → instruction_of w.registers answers memory ≡ outcome.Done worked
-      → round_of at_start at_start.peripherals answers memory ≡ Over next
+      → round_of begun begun.peripherals answers memory ≡ Over next
   unfolding round_of
   round_there answers e =
       rw (
         unpacked_packed w.registers.status,
         e,
-        no_registers at_start.peripherals (pushes_of worked.writing) in_memory,
+        no_registers begun.peripherals (pushes_of worked.writing) in_memory,
       )
 
   -- a round that asks for a register whose value stays
   asks_there : (ask : Ask) → instruction_of w.registers [] memory ≡ outcome.Asked ask → steady_ask ask ≡ true
-      → round_of at_start at_start.peripherals [] memory
-      ≡ Answered (record { value = steady_answer s ask; peripherals = at_start.peripherals })
+      → round_of begun begun.peripherals [] memory
+      ≡ Answered (record { value = steady_answer s ask; peripherals = begun.peripherals })
   unfolding round_of
   asks_there ask e t =
       let seen = a.unseen.same (w.gone.0 + w.wait + 1) (omega arith) in
       rw (
         unpacked_packed w.registers.status,
         e,
-        steady_answer_lem s.peripherals at_start.peripherals seen s.last.ports ask t,
+        steady_answer_lem s.peripherals begun.peripherals seen s.last.ports ask t,
       )
 
-  ends_there : answered_instruction at_start memory ≡ next
+  ends_there : answered_instruction begun memory ≡ next
   unfolding answered_instruction outcome_within
   ends_there = by_outcome (instruction_of w.registers [] memory) refl done
     where
@@ -346,27 +346,27 @@ module _ (n : ℕ) (s : State) (clocks : List ℕ) (span : ℕ) (a : AloneSeen n
           → steady_ask ask ≡ t
           → cond t (instruction_of w.registers (steady_answer s ask ∷ []) memory) (outcome.Asked ask)
           ≡ outcome.Done worked
-          → instruction_from (processed.Stopped undefined_stop) 6 at_start at_start.peripherals [] memory ≡ next
+          → instruction_from (processed.Stopped undefined_stop) 6 begun begun.peripherals [] memory ≡ next
       by_ask ask e true t d =
-          round_answered _ at_start at_start.peripherals [] memory 6 5 _ refl (asks_there ask e t)
-          ∙ round_over _ at_start at_start.peripherals (steady_answer s ask ∷ []) memory 5 _ (omega arith)
+          round_answered _ begun begun.peripherals [] memory 6 5 _ refl (asks_there ask e t)
+          ∙ round_over _ begun begun.peripherals (steady_answer s ask ∷ []) memory 5 _ (omega arith)
           (round_there (steady_answer s ask ∷ []) d)
-      by_ask ask e false t d = absurd (false≢true (ap asks_no_more d))
+      by_ask ask e false t d = absurd (false≢true (ap is_done d))
 
       by_outcome : (o : Outcome) → instruction_of w.registers [] memory ≡ o
           → answered_once s w.registers memory o ≡ outcome.Done worked
-          → instruction_from (processed.Stopped undefined_stop) 6 at_start at_start.peripherals [] memory ≡ next
-      by_outcome (outcome.Stopped number) e d = absurd (false≢true (ap asks_no_more d))
+          → instruction_from (processed.Stopped undefined_stop) 6 begun begun.peripherals [] memory ≡ next
+      by_outcome (outcome.Stopped number) e d = absurd (false≢true (ap is_done d))
       by_outcome (outcome.Asked ask) e d = by_ask ask e (steady_ask ask) refl d
       by_outcome (outcome.Done x) e d =
-          round_over _ at_start at_start.peripherals [] memory 6 _ (omega arith) (round_there [] (e ∙ d))
+          round_over _ begun begun.peripherals [] memory 6 _ (omega arith) (round_there [] (e ∙ d))
 
-  pub instruction_there : processor_of (ticked_state s (clock_counted (waited (none_waiting w) w.wait))) memory
+  pub instruction_there : processor_of (ticked_state s (counted (waited (none_waiting w) w.wait))) memory
       ≡ processed.Done (record { state = ticked_state s (next_working w worked); writes = pushes_of worked.writing })
   instruction_there =
-      let irq = ticked_irq n s clocks span a (clock_counted (waited (none_waiting w) w.wait)) (omega arith) in
-      instruction_starts at_start memory a.res (omega arith) a.reset a.nmi irq
-      ∙ instruction_answered at_start memory
+      let irq = ticked_irq n s clocks span a (counted (waited (none_waiting w) w.wait)) (omega arith) in
+      instruction_starts begun memory a.res (omega arith) a.reset a.nmi irq
+      ∙ instruction_answered begun memory
       ∙ ends_there
 
 -- ---- a byte is put
@@ -381,7 +381,7 @@ until_put s w x = refl
 module _ (s : State) (w : Work) (x : Write) (high : s.last.res ≡ true) (some : 0 < w.wait) (memory : List ℕ)
     (in_memory : writes_register (one_write x) ≡ false) where
   abbrev last : State
-  last = ticked_state s (clock_counted (waited (byte_waiting w x) (w.wait - 1)))
+  last = ticked_state s (counted (waited (byte_waiting w x) (w.wait - 1)))
 
   put_there : byte_put last x ≡ record { state = ticked_state s (put_work w); writes = one_write x }
   unfolding byte_put peripherals_written
@@ -389,7 +389,7 @@ module _ (s : State) (w : Work) (x : Write) (high : s.last.res ≡ true) (some :
       let gone : w.gone.0 + (w.wait - 1) + 1 ≡ w.gone.0 + w.wait = omega arith in
       rw (not_register x in_memory, gone)
 
-  pub byte_there : processor_of (ticked_state s (clock_counted (waited (byte_waiting w x) (w.wait - 1)))) memory
+  pub byte_there : processor_of (ticked_state s (counted (waited (byte_waiting w x) (w.wait - 1)))) memory
       ≡ processed.Done (record { state = ticked_state s (put_work w); writes = one_write x })
   byte_there = byte_put_lem last memory x high (omega arith) refl ∙ ap processed.Done put_there
 

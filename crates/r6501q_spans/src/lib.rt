@@ -1,5 +1,6 @@
 // Spans: clocks in which nothing but the CPU does what can be seen. Each instruction that starts in a span is a leap of
 // its own; it is done on a small record, `Working`, and the rest of the chip is brought up to date once, at the end.
+#![tactic(auto)]
 ghost use Rattle.std.specs.Prelude.{◌≡◌, ◌+◌, ◌≤◌, ◌<◌};
 ghost use Rattle.r6501q_unseen.specs.Unseen.{Unseen};
 ghost use Rattle.r6501q_spans.specs.Spans.{only_cpu, begin_work, none_waiting, put_work};
@@ -15,7 +16,7 @@ use r6501q_state::state::State;
 use r6501q_unseen::{pass_unseen, unseen_clocks};
 
 // The CPU at work in a span, and the byte that waits.
-#[derive(Drop)]
+#[derive(Clone, Copy)]
 pub struct Working {
     pub work: Work,
     pub waiting: Waiting,
@@ -31,7 +32,7 @@ fn only_cpu(s: State) -> bool
 }
 
 // The clocks in which nothing but the CPU does what can be seen, at most those left. `clocks` are those of the rest of
-// the input list. Any smaller number, none too, would meet the contract: what follows goes leap by leap.
+// the input list.
 pub fn span(s: State, left: Clocks, clocks: &[u32]) -> Clocks
     ensures { (0 < result.0 → AloneSeen left.0 s clocks.now result.0) × (result.0 ≤ 2147483647) }
 {

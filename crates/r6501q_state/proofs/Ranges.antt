@@ -86,12 +86,12 @@ unfolding well_formed fresh byte_waits
 fresh_formed = refl
 
 -- 01, One clock, 1: an input sets an external level, on which the ranges do not hang
-abbrev pub external_set : State → Levels → State
-external_set s l =
+abbrev pub with_external : State → Levels → State
+with_external s l =
     record { cpu = s.cpu; due = s.due; peripherals = s.peripherals; external = l; last = s.last; clock = s.clock }
 
 pub input_formed : (s : State) (code : ℕ) → well_formed s ≡ true
-    → well_formed (external_set s (with_input s.external code)) ≡ true
+    → well_formed (with_external s (with_input s.external code)) ≡ true
 unfolding well_formed
 input_formed s code e = e
 
@@ -140,9 +140,9 @@ sensed_last s =
 -- ---- 02, U6
 
 -- "RES low drops a waiting byte.": on the very clock
-pub waiting_byte_dropped : (s : State) → (levels_of s).res ≡ false → (sensed s).cpu.waiting ≡ Nothing
+pub byte_dropped : (s : State) → (levels_of s).res ≡ false → (sensed s).cpu.waiting ≡ Nothing
 unfolding sensed sensed_at reset_of
-waiting_byte_dropped s low = rw low refl
+byte_dropped s low = rw low refl
 
 -- "A byte waiting with wait 0 isn't well-formed."; with wait 1 it is
 abbrev pub waiting_for : ℕ → Write → State

@@ -1,5 +1,5 @@
 -- Document 01, "Pin lists": the R6501Q's last pin, and the external level that an input sets.
-use Rattle.std.specs.Prelude.{Bool, true, false, cond, ℕ, ◌+◌, ltb, eqb}
+use Rattle.std.specs.Prelude.{Bool, true, false, cond, ℕ, ltb, eqb}
 use Rattle.bits.specs.Bits.{with_bit}
 use Rattle.pin_lists.specs.PinLists.{pin_of, high_of}
 use Rattle.r6501q_state.specs.declared.state.Levels.{Levels}
@@ -10,7 +10,7 @@ last_pin = 33
 
 -- RES high: "33 RES, plus 64 where the new level is high"
 abbrev pub res_high : ℕ
-res_high = last_pin + 64
+res_high = 97
 
 abbrev pub levels_at : ℕ → Bool → Bool → Levels
 levels_at ports nmi res = record { ports = ports; nmi = nmi; res = res }

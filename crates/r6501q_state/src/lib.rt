@@ -1,4 +1,5 @@
 // The R6501Q's state and pins: what the registers, and the steps of a clock, stand on.
+#![tactic(auto)]
 
 // The machine state.
 pub mod state;

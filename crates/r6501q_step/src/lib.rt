@@ -1,4 +1,5 @@
 // The single-clock call, and what every call begins and ends with.
+#![tactic(auto)]
 ghost use Rattle.std.specs.Prelude.{◌≡◌};
 ghost use Rattle.page_sums.specs.PageSums.{sums_after};
 ghost use Rattle.refusals.specs.Refusals.{refusal_of};
@@ -20,7 +21,7 @@ use refusals::{Limits, refusal};
 // What a call hands back beside the lent lists: document 01's number, the state, the leaps, the inputs read and the
 // records written.
 #[repr(C)]
-#[derive(Drop)]
+#[derive(Clone, Copy)]
 pub struct CallResult {
     pub number: u8,
     pub state: State,

@@ -10,8 +10,7 @@ use Rattle.bits.specs.Bits.{bit, with_bit}
 use Rattle.counters.specs.Counters.{ticks_of}
 use Rattle.serial_transmitter.specs.declared.Transmitter.{Transmitter}
 use Rattle.serial_format.specs.Format.{pace}
-use Rattle.serial_transmitter.specs.Transmitter.{sending, idle_tick, next_phase, ticked, bit_tick, send_tick}
-use Rattle.serial_transmitter.specs.Transmitter.{transmitter_clock, line}
+use Rattle.serial_transmitter.specs.Transmitter.{sending, idle_tick, next_phase, ticked, bit_tick, send_tick, transmitter_clock, line}
 use Rattle.serial_transmitter.specs.Transmitter.{shift_clock}
 use Rattle.r6501q_state.specs.Pins.{with_shift_clock}
 use Rattle.r6501q_unseen.specs.Ticks.{most_ticks, unseen_sends, at_phase, sends, sent_after}

@@ -1,5 +1,6 @@
 // Clocks of which nothing can be seen but what counts: how many there are, the counters and the serial channel after
 // them, and the ticks in them. Between these clocks no port level changes.
+#![tactic(auto)]
 mod counter; // counter.rt: counter A over clocks
 mod receiver; // receiver.rt: the receiver over ticks
 mod transmitter; // transmitter.rt: the transmitter over ticks
@@ -21,13 +22,13 @@ use transmitter::{sent_after, unseen_sends};
 const PULSE: u8 = 1;
 
 // The most clocks that are passed together.
-const MOST_UNSEEN: u32 = 2147483647;
+const MOST_CLOCKS: u32 = 2147483647;
 
 // A first tick that no clock passed together with others reaches.
 const NO_TICK: u32 = 4294967295;
 
 // The clocks, the next one being clock 1, on which counter A underflows: the first, and then one in each period.
-#[derive(Drop)]
+#[derive(Clone, Copy)]
 pub struct Ticking {
     pub first: u32,
     pub period: u32,
@@ -71,7 +72,7 @@ fn before_b(p: Peripherals, room: Clocks) -> Clocks
 pub fn unseen_clocks(p: Peripherals, ports: u32, room: Clocks) -> Clocks
     ensures { (result.0 ≤ room.0) × (result.0 ≤ 2147483647) × Unseen result.0 ports p }
 {
-    let b = before_b(p, nearer(room, Clocks(MOST_UNSEEN)));
+    let b = before_b(p, nearer(room, Clocks(MOST_CLOCKS)));
     if !counting_a(p.control, ports) {
         return b;
     }

@@ -1,6 +1,7 @@
 // What a program prints of a run, as text: a line for each record, `10 FFFFFF55`, then the end line, `end 100 0`.
 //
 // Each `put` function writes characters into the lent text from `at` on, and gives the place behind them.
+#![tactic(auto)]
 ghost use Rattle.std.specs.Prelude.{◌≡◌, ◌+◌, ◌*◌, ◌≤◌, ◌<◌, length};
 ghost use Rattle.record_text.specs.Lines.{
   digit_of,

@@ -1,11 +1,12 @@
 // What a call checks before anything else (document 01, "What is handed back", 1 to 5), of any chip.
+#![tactic(auto)]
 ghost use Rattle.std.specs.Prelude.{◌≡◌, ◌+◌, ltb};
 ghost use Rattle.refusals.specs.Refusals.{last_clock, refusal_of};
 
 use pin_lists::pins_right;
 
 // What chips differ in: the bytes of a memory, and the last pin.
-#[derive(Drop)]
+#[derive(Clone, Copy)]
 pub struct Limits {
     pub memory: usize,
     pub pin: u8,

@@ -12,8 +12,7 @@ use Rattle.serial_receiver.specs.declared.Receiver.{Receiver}
 use Rattle.serial_receiver.specs.declared.Receiving.{Receiving}
 use Rattle.serial_format.specs.Format.{receiver_asynchronous, receiver_shifting, holds_a, frame_bits, pace}
 use Rattle.serial_transmitter.specs.Transmitter.{sent_bits}
-use Rattle.serial_transmitter.specs.Transmitter.{sending, transmitter_clock, send_tick, idle_tick, next_phase, ticked}
-use Rattle.serial_transmitter.specs.Transmitter.{bit_tick}
+use Rattle.serial_transmitter.specs.Transmitter.{sending, transmitter_clock, send_tick, idle_tick, next_phase, ticked, bit_tick}
 use Rattle.serial_transmitter.specs.Transmitter.{frame_end, taken, framed, line, shift_clock, idle_transmitter}
 use Rattle.serial_receiver.specs.Receiver.{receiver_clock, receive_tick, looked, start_detected, receiving, idle_receiver}
 use Rattle.serial_receiver.specs.Receiver.{with_level, shifted_at_rise, receive_rise, byte_ended, kept_with, scsr_after}
@@ -42,33 +41,33 @@ waiting = record { counter = record { count = 0; latch = 0 }; sender = sending i
 
 -- P5, "41h, 8 bits, no parity, latch 0: 176 clocks from start to idle": SCCR 80h. The first clock takes the byte, the
 -- start bit is on the line; 175 clocks later one bit is left; 176 clocks later it is idle, with an under_run.
-pub frame_started : (mode : ℕ)
+pub p5_start : (mode : ℕ)
     → (driven_for 1 mode 0x80 0x41 waiting).sender.transmitter ≡ record { left = 11; phase = 0; register = 0x682 }
 unfolding in_force holds_a clock_a counts_a down_a ticks_of transmitter_clock send_tick idle_tick taken framed sent_bits frame_bits
     with_bit
-frame_started mode = refl
+p5_start mode = refl
 
-pub frame_last_bit : (mode : ℕ) → (driven_for 176 mode 0x80 0x41 waiting).sender.transmitter.left ≡ 1
+pub p5_last_bit : (mode : ℕ) → (driven_for 176 mode 0x80 0x41 waiting).sender.transmitter.left ≡ 1
 unfolding in_force holds_a clock_a counts_a down_a ticks_of transmitter_clock send_tick idle_tick next_phase pace ticked bit_tick
     frame_end taken framed sent_bits frame_bits with_bit
-frame_last_bit mode = refl
+p5_last_bit mode = refl
 
-pub frame_ended_lem : (mode : ℕ) → (driven_for 177 mode 0x80 0x41 waiting).sender ≡ sending idle_transmitter 0xC0
+pub p5_idle : (mode : ℕ) → (driven_for 177 mode 0x80 0x41 waiting).sender ≡ sending idle_transmitter 0xC0
 unfolding in_force holds_a clock_a counts_a down_a ticks_of transmitter_clock send_tick idle_tick next_phase pace ticked bit_tick
     frame_end taken framed sent_bits frame_bits with_bit
-frame_ended_lem mode = refl
+p5_idle mode = refl
 
 -- ticks with one level of PA7
-abbrev pub heard_clocks : ℕ → ℕ → Bool → Receiving → Receiving
-heard_clocks zero sccr high r = r
-heard_clocks (suc n) sccr high r =
-    heard_clocks n sccr high (receiver_clock r.receiver (ticks_of true) false sccr r.scsr r.received high)
+abbrev pub heard_for : ℕ → ℕ → Bool → Receiving → Receiving
+heard_for zero sccr high r = r
+heard_for (suc n) sccr high r =
+    heard_for n sccr high (receiver_clock r.receiver (ticks_of true) false sccr r.scsr r.received high)
 
 -- P6, "one low sub-interval at the receiver: no start": two ticks with PA7 low and two with it high leave the receiver,
 -- the status and the data as they were, with no bits left
 pub p6 : (register scsr received : ℕ) →
     let r : Receiver = record { subinterval = 0; half = false; left = 0; register = register } in
-    heard_clocks 2 0x40 true (heard_clocks 2 0x40 false (receiving r scsr received)) ≡ receiving r scsr received
+    heard_for 2 0x40 true (heard_for 2 0x40 false (receiving r scsr received)) ≡ receiving r scsr received
 unfolding ticks_of receiver_clock receiver_asynchronous receive_tick looked start_detected
 p6 register scsr received = refl
 

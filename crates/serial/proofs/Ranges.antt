@@ -25,8 +25,7 @@ use Rattle.serial_transmitter.specs.Transmitter.{transmitter_fits, sending, fram
 use Rattle.serial_transmitter.specs.Transmitter.{ticked, bit_tick, send_tick, transmitter_clock, raised, shifted_down}
 use Rattle.serial_transmitter.specs.Transmitter.{transmitter_with_sccr, idle_transmitter}
 use Rattle.serial_receiver.specs.Receiver.{receiver_fits, receiving, at_sub, at_half, started, shifted_in, start_detected}
-use Rattle.serial_receiver.specs.Receiver.{with_level, kept_with, frame_ended, look_taken, looked, receive_tick}
-use Rattle.serial_receiver.specs.Receiver.{shifted_at_rise}
+use Rattle.serial_receiver.specs.Receiver.{with_level, kept_with, frame_ended, look_taken, looked, receive_tick, shifted_at_rise}
 use Rattle.serial_receiver.specs.Receiver.{byte_ended, receive_rise, receiver_clock, receiver_with_sccr, idle_receiver}
 use Rattle.serial_format.proofs.Frames.{frame_length}
 
@@ -116,10 +115,10 @@ transmitter_clock_fits t ticks sccr scsr byte e =
     (cond_both SendingIn (not (eqb ticks.0 0) && bit 7 sccr) (send_tick t sccr scsr byte) (sending t scsr)
     (λ _. tick_in t sccr scsr byte (in_transmitter t e)) (λ _. in_transmitter t e))
 
-pub transmitter_fits_after_sccr : (old sccr : ℕ) (t : Transmitter) → transmitter_fits t ≡ true
+pub transmitter_under_fits : (old sccr : ℕ) (t : Transmitter) → transmitter_fits t ≡ true
     → transmitter_fits (transmitter_with_sccr old sccr t) ≡ true
 unfolding transmitter_with_sccr
-transmitter_fits_after_sccr old sccr t e =
+transmitter_under_fits old sccr t e =
     cond_both (λ (u : Transmitter). transmitter_fits u ≡ true) (keeps_transmitter old sccr) t idle_transmitter (λ _. e)
     (λ _. refl)
 
@@ -220,8 +219,8 @@ receiver_clock_fits r ticks rise sccr scsr received high e =
     (receiving r scsr received)
     (λ _. rise_in r scsr received high (in_receiver r e)) (λ _. in_receiver r e)))
 
-pub receiver_fits_after_sccr : (old sccr : ℕ) (r : Receiver) → receiver_fits r ≡ true
+pub receiver_under_fits : (old sccr : ℕ) (r : Receiver) → receiver_fits r ≡ true
     → receiver_fits (receiver_with_sccr old sccr r) ≡ true
 unfolding receiver_with_sccr
-receiver_fits_after_sccr old sccr r e =
+receiver_under_fits old sccr r e =
     cond_both (λ (u : Receiver). receiver_fits u ≡ true) (keeps_receiver old sccr) r idle_receiver (λ _. e) (λ _. refl)

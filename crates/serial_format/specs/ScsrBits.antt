@@ -13,9 +13,6 @@ parity_error = 2
 abbrev pub framing_error : ℕ
 framing_error = 3
 
-abbrev pub wake_up : ℕ
-wake_up = 4
-
 abbrev pub end_of_transmission : ℕ
 end_of_transmission = 5
 

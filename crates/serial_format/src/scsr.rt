@@ -7,8 +7,6 @@ pub const PARITY_ERROR: u8 = 2;
 
 pub const FRAMING_ERROR: u8 = 3;
 
-pub const WAKE_UP: u8 = 4;
-
 pub const END_OF_TRANSMISSION: u8 = 5;
 
 pub const TRANSMITTER_EMPTY: u8 = 6;

@@ -80,14 +80,14 @@ abbrev pub risen : List Bool → Receiving → Receiving
 risen [] x = x
 risen (high ∷ levels) x = risen levels (receive_rise x.receiver x.scsr x.received high)
 
-abbrev pub register_held : Receiver → ℕ → ℕ → Receiver
-register_held r left register = record { subinterval = r.subinterval; half = r.half; left = left; register = register }
+abbrev pub with_register : Receiver → ℕ → ℕ → Receiver
+with_register r left register = record { subinterval = r.subinterval; half = r.half; left = left; register = register }
 
 -- eight levels, from no bits left, whatever register, sub-interval and half: the byte is their number
 pub byte_received : (r : Receiver) (scsr received : ℕ) (a b c d e f g h : Bool) → r.register < 2048
     → let levels : List Bool = a ∷ b ∷ c ∷ d ∷ e ∷ f ∷ g ∷ h ∷ [] in
-    risen levels (receiving (register_held r 0 r.register) scsr received)
-    ≡ kept_with (number_of_bits levels) (register_held r 0 (put_all r.register levels)) (scsr_after scsr false false) scsr
+    risen levels (receiving (with_register r 0 r.register) scsr received)
+    ≡ kept_with (number_of_bits levels) (with_register r 0 (put_all r.register levels)) (scsr_after scsr false false) scsr
     received
 unfolding receive_rise shifted_at_rise byte_ended
 byte_received r scsr received a b c d e f g h lt =
@@ -97,7 +97,7 @@ byte_received r scsr received a b c d e f g h lt =
     let small : number_of_bits levels < 256 = number_lt levels in
     let byte : put_all r.register levels / 8 % 256 ≡ number_of_bits levels =
     ap (λ k. k % 256) top ∙ mod-eq_of_lt small in
-    ap (λ k. kept_with k (register_held r 0 (put_all r.register levels)) (scsr_after scsr false false) scsr received)
+    ap (λ k. kept_with k (with_register r 0 (put_all r.register levels)) (scsr_after scsr false false) scsr received)
     byte
 
 -- SCSR0 clear: the byte is kept and SCSR0 set; else SCSR1 is set and the old byte stays. SCSR2 and SCSR3 are not

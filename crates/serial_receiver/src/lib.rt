@@ -1,12 +1,11 @@
 // The receiver.
+#![tactic(auto)]
 ghost use Rattle.std.specs.Prelude.{◌≡◌, ◌-◌};
 ghost use Rattle.bits.specs.Bits.{one_where};
 ghost use Rattle.serial_format.specs.Format.{width, has_parity};
-ghost use Rattle.serial_receiver.specs.Receiver.{idle_receiver, bits_after_start, start_detected, received_byte};
-ghost use Rattle.serial_receiver.specs.Receiver.{wrong_parity};
+ghost use Rattle.serial_receiver.specs.Receiver.{idle_receiver, bits_after_start, start_detected, received_byte, wrong_parity};
 ghost use Rattle.serial_receiver.specs.Receiver.{scsr_after, with_level, kept_with, frame_ended, look_taken, looked};
-ghost use Rattle.serial_receiver.specs.Receiver.{receive_tick, shifted_at_rise, byte_ended, receive_rise};
-ghost use Rattle.serial_receiver.specs.Receiver.{receiver_clock};
+ghost use Rattle.serial_receiver.specs.Receiver.{receive_tick, shifted_at_rise, byte_ended, receive_rise, receiver_clock};
 ghost use Rattle.serial_receiver.specs.Receiver.{receiver_with_sccr};
 
 use bits::one_less;
@@ -29,7 +28,7 @@ const BYTE: u16 = 8;
 
 // The sub-interval, whether the next tick makes a look, the bits left to come, and the bits, the last one in bit 10.
 #[repr(C)]
-#[derive(Drop)]
+#[derive(Clone, Copy)]
 pub struct Receiver {
     pub subinterval: u8,
     pub half: bool,
@@ -38,7 +37,7 @@ pub struct Receiver {
 }
 
 // The receiver, the status register and the data received after a clock.
-#[derive(Drop)]
+#[derive(Clone, Copy)]
 pub struct Receiving {
     pub receiver: Receiver,
     pub scsr: u8,
@@ -72,7 +71,7 @@ fn data_place(sccr: u8) -> u16
 }
 
 // The data of a whole frame.
-fn received_byte(sccr: u8, register: u16) -> u8
+fn byte_of(sccr: u8, register: u16) -> u8
     ensures { result ≡ received_byte sccr register }
 {
     let place = data_place(sccr);
@@ -84,7 +83,7 @@ fn received_byte(sccr: u8, register: u16) -> u8
 fn parity_is_wrong(sccr: u8, register: u16) -> bool
     ensures { result ≡ wrong_parity sccr register }
 {
-    let right = parity_bit(sccr, received_byte(sccr, register));
+    let right = parity_bit(sccr, byte_of(sccr, register));
     let found = register / PARITY_PLACE % 2 == 1;
     has_parity(sccr) & (found != right)
 }
@@ -162,7 +161,7 @@ impl Receiver {
     {
         let wrong = parity_is_wrong(sccr, self.register);
         let status = scsr_after(scsr, wrong, self.register / STOP % 2 != 1);
-        let byte = received_byte(sccr, self.register);
+        let byte = byte_of(sccr, self.register);
         self.keep(byte, status, scsr, received)
     }
 
@@ -292,7 +291,7 @@ impl Receiver {
     }
 
     // Its progress after a write of SCCR over an old value.
-    pub fn on_sccr_write(mut self, old: u8, sccr: u8) -> Receiver
+    pub fn with_sccr(mut self, old: u8, sccr: u8) -> Receiver
         ensures { result ≡ receiver_with_sccr old sccr self }
     {
         if keeps_receiver(old, sccr) {

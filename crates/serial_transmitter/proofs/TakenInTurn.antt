@@ -17,8 +17,7 @@ use Rattle.serial_transmitter.specs.declared.Transmitter.{Transmitter}
 use Rattle.serial_transmitter.specs.declared.Sending.{Sending}
 use Rattle.serial_format.specs.Format.{transmitter_shifts, frame_bits, pace_in, pace}
 use Rattle.serial_transmitter.specs.Transmitter.{sent_bits}
-use Rattle.serial_transmitter.specs.Transmitter.{sending, framed, taken, frame_end, next_phase, ticked, bit_tick}
-use Rattle.serial_transmitter.specs.Transmitter.{send_tick, line}
+use Rattle.serial_transmitter.specs.Transmitter.{sending, framed, taken, frame_end, next_phase, ticked, bit_tick, send_tick, line}
 use Rattle.serial_transmitter.specs.Transmitter.{shift_clock}
 
 -- a transmitter that has these bits to send, the first one on the line
@@ -235,10 +234,10 @@ lines_high phase = (refl, refl)
 
 module _ (sccr : ℕ) (scsr next : ℕ → ℕ) (byte : ℕ) where
   -- what is sent, and the pace, by the mode
-  bit_started : (p k j : ℕ) (bits : List Bool) → sent_bits sccr byte ≡ bits → pace sccr ≡ p → k < length bits → j < p
+  begun : (p k j : ℕ) (bits : List Bool) → sent_bits sccr byte ≡ bits → pace sccr ≡ p → k < length bits → j < p
       → sent_for (k * p + j) sccr scsr next (framed sccr byte) ≡ sending_bits (drop k bits) ((k * p + j) % 16)
   unfolding framed
-  bit_started p k j bits e f h g =
+  begun p k j bits e f h g =
       ap (λ l. sent_for (k * p + j) sccr scsr next (sending_bits l 0)) e
       ∙ subst (λ q. j < q
       → sent_for (k * q + j) sccr scsr next (sending_bits bits 0) ≡ sending_bits (drop k bits) ((k * q + j) % 16))
@@ -250,7 +249,7 @@ module _ (sccr : ℕ) (scsr next : ℕ → ℕ) (byte : ℕ) where
   unfolding sent_bits pace
   frame_sent k j e h g =
       let phase : (k * 16 + j) % 16 ≡ j = omega arith in
-      bit_started 16 k j (frame_bits sccr byte) (rw e) (rw e) h g
+      begun 16 k j (frame_bits sccr byte) (rw e) (rw e) h g
       ∙ ap (λ n. sending_bits (drop k (frame_bits sccr byte)) n) phase
 
   -- a byte in shift_register mode: 2 ticks a bit; `clock_in_turn` has the shift clock
@@ -259,5 +258,5 @@ module _ (sccr : ℕ) (scsr next : ℕ → ℕ) (byte : ℕ) where
   unfolding sent_bits pace
   byte_sent k j e h g =
       let phase : (k * 2 + j) % 16 ≡ k * 2 + j = omega arith in
-      bit_started 2 k j (bits_of 8 byte) (rw e) (rw e) h g
+      begun 2 k j (bits_of 8 byte) (rw e) (rw e) h g
       ∙ ap (λ n. sending_bits (drop k (bits_of 8 byte)) n) phase

@@ -1,7 +1,7 @@
 // The transmitter.
+#![tactic(auto)]
 ghost use Rattle.std.specs.Prelude.{◌≡◌};
-ghost use Rattle.serial_transmitter.specs.Transmitter.{idle_transmitter, framed, taken, idle_tick, frame_end};
-ghost use Rattle.serial_transmitter.specs.Transmitter.{next_phase, ticked};
+ghost use Rattle.serial_transmitter.specs.Transmitter.{idle_transmitter, framed, taken, idle_tick, frame_end, next_phase, ticked};
 ghost use Rattle.serial_transmitter.specs.Transmitter.{bit_tick, send_tick, transmitter_clock, line, shift_clock};
 ghost use Rattle.serial_transmitter.specs.Transmitter.{transmitter_with_sccr};
 ghost use Rattle.serial_format.specs.Format.{pace};
@@ -18,7 +18,7 @@ const LINE: u16 = 1;
 
 // The bits left to send, the phase, and the bits themselves, the present one lowest.
 #[repr(C)]
-#[derive(Drop)]
+#[derive(Clone, Copy)]
 pub struct Transmitter {
     pub left: u8,
     pub phase: u8,
@@ -26,7 +26,7 @@ pub struct Transmitter {
 }
 
 // The transmitter and the status register after a clock.
-#[derive(Drop)]
+#[derive(Clone, Copy)]
 pub struct Sending {
     pub transmitter: Transmitter,
     pub scsr: u8,
@@ -181,7 +181,7 @@ impl Transmitter {
     }
 
     // Its progress after a write of SCCR over an old value.
-    pub fn on_sccr_write(mut self, old: u8, sccr: u8) -> Transmitter
+    pub fn with_sccr(mut self, old: u8, sccr: u8) -> Transmitter
         ensures { result ≡ transmitter_with_sccr old sccr self }
     {
         if keeps_transmitter(old, sccr) {

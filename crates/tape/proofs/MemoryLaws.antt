@@ -50,10 +50,10 @@ module _ (least : ℕ) (digits : List ℕ) where
   abbrev written_from : ℕ → List ℕ → List ℕ
   written_from k part = put_from least k (bytes_of (drop (2 * k) digits)) part
 
-  written_next : (k : ℕ) (part : List ℕ) → k < length digits / 2 → written_from k part
+  put_next : (k : ℕ) (part : List ℕ) → k < length digits / 2 → written_from k part
       ≡ written_from (k + 1) (put_at least k (byte_of (get_or digits (2 * k) 0) (get_or digits (2 * k + 1) 0)) part)
   unfolding put_from
-  written_next k part h = rw (bytes_next digits k h)
+  put_next k part h = rw (bytes_next digits k h)
 
   pub put_end : (k : ℕ) (part : List ℕ) → length digits / 2 ≤ k → written_from k part ≡ part
   unfolding put_from
@@ -61,13 +61,13 @@ module _ (least : ℕ) (digits : List ℕ) where
 
   pub put_on : (k : ℕ) (part : List ℕ) → least ≤ k → k < length digits / 2 → written_from k part
       ≡ written_from (k + 1) (set part k (byte_of (get_or digits (2 * k) 0) (get_or digits (2 * k + 1) 0)))
-  put_on k part l h = written_next k part h ∙ rw (le-ltb k least l)
+  put_on k part l h = put_next k part h ∙ rw (le-ltb k least l)
 
   put_dropped : (k : ℕ) (part : List ℕ) → k < least → written_from k part ≡ written_from (k + 1) part
   put_dropped k part l = by_end (ltb k (length digits / 2)) refl
     where
       by_end : (t : Bool) → ltb k (length digits / 2) ≡ t → written_from k part ≡ written_from (k + 1) part
-      by_end true e = written_next k part (ltb-true k (length digits / 2) e) ∙ rw (lt-ltb k least l)
+      by_end true e = put_next k part (ltb-true k (length digits / 2) e) ∙ rw (lt-ltb k least l)
       by_end false e =
           let u = ltb-false k (length digits / 2) e in put_end k part u ∙ sym (put_end (k + 1) part (omega arith))
 

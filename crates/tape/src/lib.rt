@@ -1,4 +1,5 @@
 // A paper tape loaded into memory.
+#![tactic(auto)]
 mod landing;
 
 ghost use Rattle.std.specs.Prelude.{◌≡◌, ◌+◌, ◌<◌, ◌^◌, length};
@@ -16,7 +17,7 @@ use tape_records::record::{address, count, data_digits, fault};
 const MARK: u8 = b';';
 
 // What a load hands back: 0 and the place past the last record, or the number of a refusal and the place of the fault.
-#[derive(Drop)]
+#[derive(Clone, Copy)]
 pub struct LoadResult {
     pub number: u8,
     pub place: usize,

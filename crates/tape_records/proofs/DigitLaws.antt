@@ -12,8 +12,7 @@ use lib.Seq.{drop-cons}
 use Rattle.bits.specs.Lists.{all_of}
 use Rattle.bits.proofs.Cond.{cond_both}
 use Rattle.page_sums.specs.PageSums.{total_of}
-use Rattle.tape_records.specs.Digits.{is_decimal, is_letter, is_digit, value_of, number_from, number_of, byte_of}
-use Rattle.tape_records.specs.Digits.{bytes_of}
+use Rattle.tape_records.specs.Digits.{is_decimal, is_letter, is_digit, value_of, number_from, number_of, byte_of, bytes_of}
 
 pub and_true : (a b : Bool) → a && b ≡ true → (a ≡ true) × (b ≡ true)
 and_true true b e = (refl, e)
@@ -40,12 +39,12 @@ number_least n [] = omega arith
 number_least n (c ∷ cs) = omega (arith, number_least (16 * n + value_of c) cs)
 
 -- two digits write a byte, four digits 16 bits
-pub digits_byte : (digits : List ℕ) → length digits ≤ 2 → number_of digits ≤ 255
+pub number_byte : (digits : List ℕ) → length digits ≤ 2 → number_of digits ≤ 255
 unfolding number_from
-digits_byte [] h = omega arith
-digits_byte (a ∷ []) h = omega (arith, value_most a)
-digits_byte (a ∷ (b ∷ [])) h = omega (arith, value_most a, value_most b)
-digits_byte (a ∷ (b ∷ (c ∷ ds))) h = absurd (omega arith)
+number_byte [] h = omega arith
+number_byte (a ∷ []) h = omega (arith, value_most a)
+number_byte (a ∷ (b ∷ [])) h = omega (arith, value_most a, value_most b)
+number_byte (a ∷ (b ∷ (c ∷ ds))) h = absurd (omega arith)
 
 pub number_word : (digits : List ℕ) → length digits ≤ 4 → number_of digits ≤ 65535
 unfolding number_from

@@ -10,11 +10,10 @@ use lib.ListN.{length, take, drop, length-take}
 use Rattle.bits.specs.Lists.{all_of}
 use Rattle.bits.proofs.Cond.{cond_both}
 use Rattle.tape_records.specs.Digits.{is_digit}
-use Rattle.tape_records.specs.Records.{most_bytes, head_length, record_length, byte_count_of, address_of, sum_of}
-use Rattle.tape_records.specs.Records.{check_sum_of}
+use Rattle.tape_records.specs.Records.{most_bytes, head_length, record_length, byte_count_of, address_of, sum_of, check_sum_of}
 use Rattle.tape_records.specs.Records.{are_digits, malformed, fault_of, data_of}
 use Rattle.memory.specs.Memory.{memory_length}
-use Rattle.tape_records.proofs.DigitLaws.{and_true, digits_byte, number_word}
+use Rattle.tape_records.proofs.DigitLaws.{and_true, number_byte, number_word}
 
 or_false : (a b : Bool) → a || b ≡ false → (a ≡ false) × (b ≡ false)
 or_false true b e = absurd (let n : ◌≡◌ {A = ℕ} 0 1 = cc in omega arith)
@@ -31,7 +30,7 @@ pub record Good (text : List ℕ) : Type 0 where
 module _ (text : List ℕ) where
   pub count_most : byte_count_of text ≤ 255
   unfolding byte_count_of
-  count_most = digits_byte (take 2 text) (omega (arith, length-take 2 text))
+  count_most = number_byte (take 2 text) (omega (arith, length-take 2 text))
 
   pub address_most : address_of text ≤ 65535
   unfolding address_of

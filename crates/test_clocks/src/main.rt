@@ -10,6 +10,7 @@
 // "Hand": it was worked out from the documents (which clock starts which instruction, when a counter underflows, when a
 // frame's bits change), and an independent model, written from the documents alone, which does one plain clock after
 // another, gives the same. "By the plain-clock model": by that model alone.
+#![tactic(auto)]
 ghost use Rattle.std.specs.Prelude.{◌≡◌, ◌≤◌, length};
 
 use cpu_access::halt::Halt;
@@ -27,7 +28,7 @@ mod scenario; // scenario.rt: the parts of a scenario's text
 const TEXT_LENGTH: usize = LINE_LENGTH * (RECORDS + 1);
 
 // What a scenario comes to: the clocks done, the records written, and the number that ended it, or 0.
-#[derive(Drop)]
+#[derive(Clone, Copy)]
 struct ScenarioEnd {
     done: u32,
     written: usize,

@@ -14,7 +14,7 @@ pub const INPUTS: usize = 32;
 pub const RECORDS: usize = 64;
 
 // How many single clocks to do, and how many output records are free.
-#[derive(Drop)]
+#[derive(Clone, Copy)]
 pub struct Settings {
     pub clocks: u32,
     pub records: usize,

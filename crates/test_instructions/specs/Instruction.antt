@@ -30,8 +30,8 @@ prepared c = record {
 }
 
 -- fresh peripherals of which both counters have counted n clocks
-abbrev pub counters_after : ℕ → Peripherals
-counters_after n = record {
+abbrev pub counted : ℕ → Peripherals
+counted n = record {
   ports = fresh_ports;
   countera = record { count = 0xFFFF - n; latch = 0xFFFF };
   counterb = record { count = 0xFFFF - n; latchb = 0xFFFF; latchc = 0xFFFF; turnc = true };
@@ -46,7 +46,7 @@ abbrev pub later : ℕ → Cpu → State
 later n c = record {
   cpu = c;
   due = record { reset = false; nmi = false };
-  peripherals = counters_after n;
+  peripherals = counted n;
   external = high_levels;
   last = high_levels;
   clock = n;

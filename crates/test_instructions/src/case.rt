@@ -12,21 +12,21 @@ use cpu_access::stack::{Write, Writes};
 use cpu_access::waiting::Waiting;
 use memory::is_register;
 use r6501q_state::state::Cpu;
-use test_states::memories::{cleared, memory_byte_or_zero, put, same_bytes};
+use test_states::memories::{byte_of, cleared, put, same_bytes};
 use test_states::same::same_write;
 
 // Begins a case.
 pub const CASE_MARK: u8 = b':';
 
 // Registers that were read, and where the line goes on.
-#[derive(Drop)]
+#[derive(Clone, Copy)]
 struct Registers {
     cpu: Cpu,
     rest: Cursor,
 }
 
 // A byte at an address that was read, and where the line goes on.
-#[derive(Drop)]
+#[derive(Clone, Copy)]
 struct Placed {
     write: Write,
     rest: Cursor,
@@ -34,7 +34,7 @@ struct Placed {
 
 // What a case says beside the bytes of memory: the registers before and after, the clocks, how many writes there are
 // and where they begin.
-#[derive(Drop)]
+#[derive(Clone, Copy)]
 struct Case {
     first: Cpu,
     last: Cpu,
@@ -157,7 +157,7 @@ fn holds(line: &[u8], case: Case, opcode: u8, memory: &mut [u8], expected: &[u8]
     ensures memory_value_2 { result ≡ true → (run_alone case.first case.clocks memory.old).memory
         ≡ expected.now }
 {
-    if memory_byte_or_zero(memory, case.first.pc) != opcode {
+    if byte_of(memory, case.first.pc) != opcode {
         return false;
     }
     if !writes_as(line, case, instruction_writes(case.first, memory)) {

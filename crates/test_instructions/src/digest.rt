@@ -27,7 +27,7 @@ const PRIME: u64 = 16777619;
 
 // The digest so far, and whether each instruction was as an immediate one is: two bytes, two clocks, no register
 // changed but A and P.
-#[derive(Drop)]
+#[derive(Clone, Copy)]
 struct Sum {
     digest: u32,
     good: bool,

@@ -12,7 +12,7 @@ const COMMENT_MARK: u8 = b'#';
 
 // Its opcode, its cases and its digests so far. What stands in front of a file's first group, or behind a line that
 // begins one and is not right, is of no known opcode.
-#[derive(Drop)]
+#[derive(Clone, Copy)]
 pub struct Group {
     pub known: bool,
     pub opcode: u8,

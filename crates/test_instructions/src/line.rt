@@ -4,26 +4,26 @@ ghost use Rattle.record_text.specs.Lines.{digit_of};
 ghost use Rattle.test_instructions.specs.Line.{Read};
 
 // How far a line is read, and whether it was as it has to be up to there.
-#[derive(Drop)]
+#[derive(Clone, Copy)]
 pub struct Cursor {
     pub place: usize,
     pub good: bool,
 }
 
 // A number that was read, and where the line goes on.
-#[derive(Drop)]
+#[derive(Clone, Copy)]
 pub struct Number {
     pub value: u32,
     pub rest: Cursor,
 }
 
-#[derive(Drop)]
+#[derive(Clone, Copy)]
 pub struct Byte {
     pub value: u8,
     pub rest: Cursor,
 }
 
-#[derive(Drop)]
+#[derive(Clone, Copy)]
 pub struct Word16 {
     pub value: u16,
     pub rest: Cursor,

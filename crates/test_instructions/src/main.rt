@@ -5,6 +5,7 @@
 //
 // The expected output was never made by this program: `expect` counts the lines of the files, of which each has to
 // agree.
+#![tactic(auto)]
 ghost use Rattle.std.specs.Prelude.{◌≡◌, ◌≤◌, length};
 
 use group::{GROUP_MARK, Group, open, unknown};
@@ -24,7 +25,7 @@ mod totals;
 const TEXT_LENGTH: usize = 655360;
 
 // The group at hand, and what those before it come to.
-#[derive(Drop)]
+#[derive(Clone, Copy)]
 struct GroupsSoFar {
     group: Group,
     totals: Totals,

@@ -8,7 +8,7 @@ use std::num::wrapping_add_u64;
 // How many cases of each opcode are asked for.
 const ENOUGH: u64 = 200;
 
-#[derive(Drop)]
+#[derive(Clone, Copy)]
 pub struct Totals {
     pub groups: u64,
     pub cases: Tally,

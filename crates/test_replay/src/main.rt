@@ -5,6 +5,7 @@
 // clock an instruction starts, when a counter underflows), and an independent model, written from the documents alone,
 // which does one plain clock after another, gives the same. Stop 7 is not among it: 100 clocks write 100 records at
 // most, and so many are free.
+#![tactic(auto)]
 use libc::{STDIN_FILENO, STDOUT_FILENO};
 use replay_text::{TEXT_LENGTH, replay};
 use test_text::next_mark;

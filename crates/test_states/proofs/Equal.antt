@@ -201,8 +201,8 @@ receiver_same a b e =
 abbrev pub levels_pairs : Levels → Levels → List Pair
 levels_pairs a b = numbers a.ports b.ports ∷ flags a.nmi b.nmi ∷ flags a.res b.res ∷ []
 
-pub levels_equal : (a b : Levels) → tests_of true (levels_pairs a b) ≡ true → a ≡ b
-levels_equal a b e =
+pub levels_same : (a b : Levels) → tests_of true (levels_pairs a b) ≡ true → a ≡ b
+levels_same a b e =
     let fields = all (levels_pairs a b) e in
     let whole : ◌≡◌ {A = Levels} (record { ports = a.ports; nmi = a.nmi; res = a.res })
     (record { ports = b.ports; nmi = b.nmi; res = b.res }) = cc in

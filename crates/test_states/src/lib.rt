@@ -1,4 +1,5 @@
 // What the test programs compare.
+#![tactic(auto)]
 
 // Whether two states are the same.
 pub mod same;

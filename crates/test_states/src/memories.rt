@@ -18,7 +18,7 @@ pub fn put(memory: &mut [u8], write: Write) {
 }
 
 // The byte at an address.
-pub fn memory_byte_or_zero(memory: &[u8], address: u16) -> u8 {
+pub fn byte_of(memory: &[u8], address: u16) -> u8 {
     let at = address as usize;
     if at < memory.len() {
         return memory[at];

@@ -1,4 +1,5 @@
 // Marks in a text: how the programs that work on several tapes cut their input.
+#![tactic(auto)]
 ghost use Rattle.std.specs.Prelude.{◌≡◌};
 ghost use Rattle.test_text.specs.Marks.{next_mark};
 

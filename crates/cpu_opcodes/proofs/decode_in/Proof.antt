@@ -1,5 +1,5 @@
 -- `decode_in` meets its contract: what it reads is the table's number of the opcode, and it takes that apart as
--- `unpacked_entry` does. Assumes nothing.
+-- `entry_of` does. Assumes nothing.
 use borrow.Author.Tests.{eq-eqb, ne_eqb}
 use Rattle.cpu_opcodes.proofs.Unpack.{table_length, table_decodes}
 use borrow.Author.Rules.{rules}

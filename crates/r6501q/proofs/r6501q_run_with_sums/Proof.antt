@@ -22,11 +22,11 @@ returns c =
     at.outputclocks.now at.outputwords.now in
     let words : SixteenBits at.sums.now =
     λ p. omega (arith, c.before.before.before.before.before.before.before.slice-known2.given p) in
-    let refused : c.before.before.page-list-refused.result
+    let told : c.before.before.page-list-refused.result
     ≡ page_list_refused (length at.memory.now) (length at.sums.now) =
     c.before.before.page-list-refused.ensures in
     let wrong : page_list_refused (length at.memory.now) (length at.sums.now) ≡ true =
-    sym refused ∙ c.before.if1.true in
+    sym told ∙ c.before.if1.true in
     let leaps =
     list_refused at.sums.now (host_call (run_of (machine (halt_of at.halt)) at.n) at.n) start wrong in
     let plains =
@@ -42,11 +42,11 @@ returns-2 c =
     at.outputclocks.now at.outputwords.now in
     let words : SixteenBits at.sums.now = λ p. omega
     (arith, c.before.before.before.before.before.before.before.before.before.slice-known2.given p) in
-    let refused : c.before.before.before.before.page-list-refused.result
+    let told : c.before.before.before.before.page-list-refused.result
     ≡ page_list_refused (length at.memory.now) (length at.sums.now) =
     c.before.before.before.before.page-list-refused.ensures in
     let right : page_list_refused (length at.memory.now) (length at.sums.now) ≡ false =
-    sym refused ∙ c.before.before.before.if1.false in
+    sym told ∙ c.before.before.before.if1.false in
     let leaps =
     list_accepted at.sums.now (host_call (run_of (machine (halt_of at.halt)) at.n) at.n) start right in
     let plains =
@@ -65,12 +65,12 @@ returns-3 c =
     at.outputclocks.now at.outputwords.now in
     let library : World = call_start c.before.before.before.before.before.before.before.before.before.before.before.before.before.before.before.state-from.result at.memory.now at.inputclocks.now
     at.inputcodes.now at.outputclocks.now at.outputwords.now in
-    let refused :
+    let told :
     c.before.before.before.before.before.before.before.before.before.before.before.before.before.before.before.before.before.before.before.page-list-refused.result
     ≡ page_list_refused (length at.memory.now) (length at.sums.now) =
     c.before.before.before.before.before.before.before.before.before.before.before.before.before.before.before.before.before.before.before.page-list-refused.ensures in
     let right : page_list_refused (length at.memory.now) (length at.sums.now)
-    ≡ false = sym refused
+    ≡ false = sym told
     ∙ c.before.before.before.before.before.before.before.before.before.before.before.before.before.before.before.before.before.before.if1.false in
     let leaps =
     list_accepted at.sums.now (host_call (run_of (machine (halt_of at.halt)) at.n) at.n) start right in

@@ -22,11 +22,11 @@ returns c =
     at.outputclocks.now at.outputwords.now in
     let words : SixteenBits at.sums.now =
     λ p. omega (arith, c.before.before.before.before.before.before.before.slice-known2.given p) in
-    let refused : c.before.before.page-list-refused.result
+    let told : c.before.before.page-list-refused.result
     ≡ page_list_refused (length at.memory.now) (length at.sums.now) =
     c.before.before.page-list-refused.ensures in
     let wrong : page_list_refused (length at.memory.now) (length at.sums.now) ≡ true =
-    sym refused ∙ c.before.if1.true in (
+    sym told ∙ c.before.if1.true in (
       rw c.wrong-page-list.ensures
           (sym (list_refused at.sums.now (host_call (step_of (machine (halt_of at.halt))) 1) start wrong)),
       sums_kept 0 at.sums.now at.memory.now words,
@@ -40,11 +40,11 @@ returns-2 c =
     at.outputclocks.now at.outputwords.now in
     let words : SixteenBits at.sums.now = λ p. omega
     (arith, c.before.before.before.before.before.before.before.before.before.slice-known2.given p) in
-    let refused : c.before.before.before.before.page-list-refused.result
+    let told : c.before.before.before.before.page-list-refused.result
     ≡ page_list_refused (length at.memory.now) (length at.sums.now) =
     c.before.before.before.before.page-list-refused.ensures in
     let right : page_list_refused (length at.memory.now) (length at.sums.now) ≡ false =
-    sym refused ∙ c.before.before.before.if1.false in
+    sym told ∙ c.before.before.before.if1.false in
     let next = list_accepted at.sums.now (host_call (step_of (machine (halt_of at.halt))) 1) start right in
     let high = not-true c.before.before.flags-fit.result c.before.if2.true in (
       rw (next, ← c.before.before.flags-fit.ensures, c.flag_refused.ensures, high),
@@ -60,12 +60,12 @@ returns-3 c =
     at.outputclocks.now at.outputwords.now in
     let library : World = call_start c.before.before.before.before.before.before.before.before.before.before.before.before.before.before.before.state-from.result at.memory.now at.inputclocks.now
     at.inputcodes.now at.outputclocks.now at.outputwords.now in
-    let refused :
+    let told :
     c.before.before.before.before.before.before.before.before.before.before.before.before.before.before.before.before.before.before.before.page-list-refused.result
     ≡ page_list_refused (length at.memory.now) (length at.sums.now) =
     c.before.before.before.before.before.before.before.before.before.before.before.before.before.before.before.before.before.before.before.page-list-refused.ensures in
     let right : page_list_refused (length at.memory.now) (length at.sums.now)
-    ≡ false = sym refused
+    ≡ false = sym told
     ∙ c.before.before.before.before.before.before.before.before.before.before.before.before.before.before.before.before.before.before.if1.false in
     let next = list_accepted at.sums.now (host_call (step_of (machine (halt_of at.halt))) 1) start right in
     let call = c.before.before.before.before.before.before.before.before.before.step-with-sums.ensures in

@@ -6,8 +6,7 @@ use Rattle.r6501q_cpu.proofs.answer.Tie as tie
 
 returns : tie.Need-returns
 unfolding answer_of
-returns c =
-    rw (c.after_read.ensures, c.before.value.ensures, c.before.before.peripherals-after-writes.ensures) refl
+returns c = rw (c.after_read.ensures, c.before.value.ensures, c.before.before.registers-after.ensures) refl
 
 pub answer-spec : {M : Type 1} → statement M
 answer-spec =

@@ -9,7 +9,7 @@ returns c =
       ← c.before.before.before.waiting-of.ensures,
       ← c.before.before.cpu-of.ensures,
       ← c.before.pushes-of.ensures,
-      ← c.peripherals-after-writes.ensures,
+      ← c.registers-after.ensures,
     )
 
 pub next-state-spec : {M : Type 1} → statement M

@@ -7,7 +7,7 @@ use Rattle.page_sums.specs.PageSums.{sums_after, SixteenBits}
 use Rattle.page_sums.proofs.Sums.{sums_kept, sums_then, sums_length}
 use Rattle.r6501q_unseen.proofs.Clocks.{unseen_fewer}
 use Rattle.r6501q_span_leaps.proofs.Spanned.{fewer_left}
-use Rattle.r6501q_span_leaps.proofs.Ticked.{ticks_of_lem, some_period, SpanSoFar, within_begins, within_steps}
+use Rattle.r6501q_span_leaps.proofs.Ticked.{ticks_of_lem, some_period, Within, within_begins, within_steps}
 use Rattle.r6501q_span_leaps.proofs.Ticked.{within_ends}
 use Rattle.r6501q_span_leaps.proofs.Ticked.{ending}
 use borrow.Author.Rules.{rules}
@@ -16,7 +16,7 @@ use Rattle.r6501q_span_leaps.proofs.leap_within.Tie as tie
 
 abbrev invariant-loop : tie.invariant-loop
 invariant-loop at span memory₀ sums₀ inputclocks entries halt before ticking v₀ shared₀ on₀ memory sums v shared on =
-    SpanSoFar halt at inputclocks span.0 memory₀ memory v shared × (sums ≡ sums_after sums₀ memory₀ memory)
+    Within halt at inputclocks span.0 memory₀ memory v shared × (sums ≡ sums_after sums₀ memory₀ memory)
 
 abbrev decreases-loop : tie.decreases-loop
 decreases-loop at span memory₀ sums₀ inputclocks entries halt before ticking v₀ shared₀ on₀ memory sums v shared on =

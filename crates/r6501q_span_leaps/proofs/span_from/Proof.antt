@@ -8,11 +8,8 @@ returns : tie.Need-returns
 returns c = λ some. absurd (omega arith)
 
 returns-2 : tie.Need-returns-2
-returns-2 c = λ some. absurd (omega arith)
-
-returns-3 : tie.Need-returns-3
-returns-3 c = λ some. record {
-  on = c.before.before.if2.false;
+returns-2 c = λ some. record {
+  on = c.before.before.if1.false;
   alone = rw (lent_part _ _) at (c.span.ensures.0 some);
   short = c.span.ensures.1;
 }
@@ -20,5 +17,5 @@ returns-3 c = λ some. record {
 pub span-from-spec : {M : Type 1} → statement M
 span-from-spec =
     tie.close
-    (tie.spec returns returns-2 (λ c. search rules) (λ c. search rules) (λ c. search rules) (λ c. search rules)
-    (λ c κs. search rules) returns-3)
+    (tie.spec returns (λ c. search rules) (λ c. search rules) (λ c. search rules) (λ c. search rules)
+    (λ c κs. search rules) returns-2)

@@ -2,7 +2,7 @@ use mathlib.Core.Path.{refl, sym, ◌∙◌}
 use native.Mathlib.Omega.{arith}
 use Rattle.page_sums.specs.PageSums.{SixteenBits}
 use Rattle.page_sums.proofs.Sums.{sums_kept}
-use Rattle.r6501q_span_work.specs.SpanWork.{continued_by, committed_by}
+use Rattle.r6501q_span_work.specs.Work.{continued_by, committed_by}
 use borrow.Author.Rules.{rules}
 use Rattle.r6501q_span_work.proofs.continue_work.Statement.{statement}
 use Rattle.r6501q_span_work.proofs.continue_work.Tie as tie

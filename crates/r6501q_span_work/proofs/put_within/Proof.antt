@@ -5,7 +5,7 @@ use borrow.Author.Tests.{ltb-true, leb-true, not-true, not-false}
 use Rattle.bits.proofs.Cond.{and_left, and_right}
 use Rattle.page_sums.specs.PageSums.{SixteenBits}
 use Rattle.page_sums.proofs.Sums.{sums_kept}
-use Rattle.r6501q_span_work.specs.SpanWork.{work_put, memory_put}
+use Rattle.r6501q_span_work.specs.Work.{work_put, memory_put}
 use Rattle.r6501q_span_work.proofs.Ends.{puts_within_lem, puts_not, puts_later}
 use borrow.Author.Rules.{rules}
 use Rattle.r6501q_span_work.proofs.put_within.Statement.{statement}

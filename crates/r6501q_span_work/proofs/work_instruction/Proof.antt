@@ -6,7 +6,7 @@ use native.Mathlib.Omega.{arith}
 use borrow.Author.Tests.{le-leb, lt-leb}
 use Rattle.page_sums.specs.PageSums.{SixteenBits}
 use Rattle.page_sums.proofs.Sums.{sums_kept}
-use Rattle.r6501q_span_work.specs.SpanWork.{work_after, memory_after}
+use Rattle.r6501q_span_work.specs.Work.{work_after, memory_after}
 use Rattle.r6501q_span_work.proofs.Ends.{nothing_pushed}
 use borrow.Author.Rules.{rules}
 use Rattle.r6501q_span_work.proofs.work_instruction.Statement.{statement}

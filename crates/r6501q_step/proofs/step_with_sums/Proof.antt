@@ -19,11 +19,11 @@ returns c =
     at.outputclocks.now at.outputwords.now in
     let words : SixteenBits at.sums.now =
     λ p. omega (arith, c.before.before.before.before.before.before.before.slice-known2.given p) in
-    let refused : c.before.before.page-list-refused.result
+    let told : c.before.before.page-list-refused.result
     ≡ page_list_refused (length at.memory.now) (length at.sums.now) =
     c.before.before.page-list-refused.ensures in
     let wrong : page_list_refused (length at.memory.now) (length at.sums.now) ≡ true =
-    sym refused ∙ c.before.if1.true in (
+    sym told ∙ c.before.if1.true in (
       rw c.refused.ensures (sym (list_refused at.sums.now (step_of (machine at.halt)) start wrong)),
       sums_kept 0 at.sums.now at.memory.now words,
     )
@@ -34,12 +34,12 @@ returns-2 c =
     c.before.before.before.before.before.before.before.before.before.before.before.before.before.before.before.before.before.before.before.before.before.args in
     let start : World = call_start at.state at.memory.now at.inputclocks.now at.inputcodes.now
     at.outputclocks.now at.outputwords.now in
-    let refused :
+    let told :
     c.before.before.before.before.before.before.before.before.before.before.before.before.before.before.page-list-refused.result
     ≡ page_list_refused (length at.memory.now) (length at.sums.now) =
     c.before.before.before.before.before.before.before.before.before.before.before.before.before.before.page-list-refused.ensures in
     let right : page_list_refused (length at.memory.now) (length at.sums.now)
-    ≡ false = sym refused
+    ≡ false = sym told
     ∙ c.before.before.before.before.before.before.before.before.before.before.before.before.before.if1.false in
     let went = c.before.before.before.before.before.before.before.before.step-into.ensures in
     (went.0 ∙ sym (list_accepted at.sums.now (step_of (machine at.halt)) start right), went.1)

@@ -9,7 +9,7 @@ unfolding wrong_parity
 returns c =
     rw (
       ← parity_byte,
-      ← c.before.before.received-byte.ensures,
+      ← c.before.before.byte_of.ensures,
       ← c.before.parity-bit.ensures,
       ← c.has-parity.ensures,
     )

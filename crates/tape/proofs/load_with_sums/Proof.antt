@@ -16,9 +16,9 @@ returns c =
     let at = c.before.before.before.before.before.args in
     let memory = at.memory.now in
     let sums = at.sums.now in
-    let refused : c.before.page-list-refused.result ≡ page_list_refused (length memory) (length sums) =
+    let told : c.before.page-list-refused.result ≡ page_list_refused (length memory) (length sums) =
     c.before.page-list-refused.ensures in
-    let wrong : page_list_refused (length memory) (length sums) ≡ true = sym refused ∙ c.if1.true in
+    let wrong : page_list_refused (length memory) (length sums) ≡ true = sym told ∙ c.if1.true in
     let words : SixteenBits sums = λ p. omega (arith, c.before.before.slice-known2.given p) in (
       sym (cond_yes _ (loaded (load_result 13 0) memory) (load_of at.tape.now memory) wrong),
       sums_kept 0 sums memory words,
@@ -31,11 +31,11 @@ returns-2 c =
     let memory = at.memory.now in
     let sums = at.sums.now in
     let load = c.before.before.before.before.load-into in
-    let refused : c.before.before.before.before.before.before.before.before.page-list-refused.result
+    let told : c.before.before.before.before.before.before.before.before.page-list-refused.result
     ≡ page_list_refused (length memory) (length sums) =
     c.before.before.before.before.before.before.before.before.page-list-refused.ensures in
     let right : page_list_refused (length memory) (length sums) ≡ false =
-    sym refused ∙ c.before.before.before.before.before.before.before.if1.false in (
+    sym told ∙ c.before.before.before.before.before.before.before.if1.false in (
       load.ensures.0 ∙ sym (cond_no _ (loaded (load_result 13 0) memory) (load_of at.tape.now memory) right),
       load.ensures.1,
     )

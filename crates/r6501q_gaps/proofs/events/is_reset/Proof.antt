@@ -9,8 +9,8 @@ returns c =
     rw (
       ← c.before.before.before.before.before.before.before.before.ports_fresh_lem.ensures,
       ← c.before.before.before.before.before.before.before.control_fresh_lem.ensures,
-      ← c.before.before.before.before.before.before.transmitter_fresh_lem.ensures,
-      ← c.before.before.before.before.before.receiver_fresh_lem.ensures,
+      ← c.before.before.before.before.before.before.transmitter_idle_lem.ensures,
+      ← c.before.before.before.before.before.receiver_idle_lem.ensures,
       ← c.before.before.before.byte-waits.ensures,
     )
 

@@ -9,7 +9,7 @@ returns c =
     rw (
       ← c.before.before.before.before.parity-is-wrong.ensures,
       ← c.before.before.scsr-after.ensures,
-      ← c.before.received-byte.ensures,
+      ← c.before.byte_of.ensures,
       ← c.keep.ensures,
     )
 

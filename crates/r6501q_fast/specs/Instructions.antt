@@ -8,14 +8,13 @@ use Rattle.cpu.specs.declared.work.Work.{Work}
 use Rattle.r6501q_unseen.specs.declared.Ticking.{Ticking}
 use Rattle.r6501q_unseen.specs.Unseen.{on_tick}
 use Rattle.cpu_attempts.specs.Attempts.{Instructed}
-use Rattle.r6501q_span_opcodes.specs.declared.RanOn.{RanOn}
+use Rattle.r6501q_fast.specs.declared.RanOn.{RanOn}
 
 -- of the clocks that one instruction acts on, its start and the clock of a store's byte, those that have a tick too
 unfoldable pub shared_by : Ticking → ℕ → ℕ → ℕ
 shared_by t start gone = one_where (on_tick t start) + cond (eqb gone start) 0 (one_where (on_tick t gone))
 
--- instructions one after the other, and how many of the clocks that they act on have a tick too; how many instructions,
--- none too, is left free
+-- instructions one after the other, and how many of the clocks that they act on have a tick too
 pub data ByInstructions (halt : Halt) (span : ℕ) (t : Ticking) (w : Work) (memory : List ℕ) : Work → List ℕ → ℕ
     → Type 0 where
   none : ByInstructions halt span t w memory w memory 0

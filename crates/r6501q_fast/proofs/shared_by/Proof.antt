@@ -4,9 +4,9 @@ use native.Mathlib.Nat.{add-zero}
 use borrow.Author.Rules.{rules}
 use borrow.Author.Tests.{eq-eqb, ne_eqb}
 use Rattle.bits.proofs.Cond.{one_where_le}
-use Rattle.r6501q_span_opcodes.specs.Instructions.{shared_by}
-use Rattle.r6501q_span_opcodes.proofs.shared_by.Statement.{statement}
-use Rattle.r6501q_span_opcodes.proofs.shared_by.Tie as tie
+use Rattle.r6501q_fast.specs.Instructions.{shared_by}
+use Rattle.r6501q_fast.proofs.shared_by.Statement.{statement}
+use Rattle.r6501q_fast.proofs.shared_by.Tie as tie
 
 returns : tie.Need-returns
 unfolding shared_by

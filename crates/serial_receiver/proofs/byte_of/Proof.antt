@@ -2,8 +2,8 @@ use native.Mathlib.Omega.{arith}
 use Rattle.serial_format.proofs.Frames.{values_pos, values_le, data_lt}
 use Rattle.serial_receiver.specs.Receiver.{received_byte}
 use borrow.Author.Rules.{rules}
-use Rattle.serial_receiver.proofs.received_byte.Statement.{statement}
-use Rattle.serial_receiver.proofs.received_byte.Tie as tie
+use Rattle.serial_receiver.proofs.byte_of.Statement.{statement}
+use Rattle.serial_receiver.proofs.byte_of.Tie as tie
 
 rem-result : tie.Need-nonzero-rem-result
 rem-result c = rw c.data-values.ensures (values_pos _)
@@ -15,7 +15,7 @@ returns : tie.Need-returns
 unfolding received_byte
 returns c = rw (← c.before.data-place.ensures, ← c.data-values.ensures)
 
-pub received-byte-spec : {M : Type 1} → statement M
-received-byte-spec =
+pub byte-of-spec : {M : Type 1} → statement M
+byte-of-spec =
     tie.close
     (tie.spec (λ c κs. search rules) (λ c κs. search rules) (λ c. search rules) rem-result cast-result returns)

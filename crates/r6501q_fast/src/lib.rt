@@ -1,8 +1,9 @@
 // Instructions of a span one after the other, by their opcodes.
+#![tactic(auto)]
 ghost use Rattle.std.specs.Prelude.{cond, ◌≡◌, ◌+◌, ◌≤◌, ◌<◌};
 ghost use Rattle.page_sums.specs.PageSums.{sums_after};
 ghost use Rattle.cpu.specs.Work.{WithinSpan};
-ghost use Rattle.r6501q_span_opcodes.specs.Instructions.{ByInstructions, RunsOn, shared_by};
+ghost use Rattle.r6501q_fast.specs.Instructions.{ByInstructions, RunsOn, shared_by};
 
 use bits::one_where;
 use counters::time::Clocks;
@@ -16,14 +17,14 @@ use r6501q_spans::{Working, none_waiting};
 use r6501q_unseen::{Ticking, on_tick};
 
 // The work after some instructions, and how many of the clocks that they acted on had a tick too.
-#[derive(Drop)]
+#[derive(Clone, Copy)]
 pub struct Ran {
     pub work: Work,
     pub shared: u32,
 }
 
 // The same with the byte that waits.
-#[derive(Drop)]
+#[derive(Clone, Copy)]
 pub struct RanOn {
     pub working: Working,
     pub shared: u32,
@@ -67,7 +68,7 @@ fn with_shared(ticking: Ticking, shared: u32, start: u32, succeeded: bool, gone:
 // reads a register, writes to one or at the halt address, BRK, an undefined opcode, a store whose last clock lies
 // behind the span, or one whose bytes may be at a register's address. The match stands in the loop itself, so that the
 // work stays in the host's registers; and the memory's length is looked at before it, so that no access within asks
-// again. The contract leaves free where the loop ends: it may end before any instruction.
+// again.
 pub fn run_opcodes(
     start: Work,
     span: Clocks,

@@ -15,9 +15,9 @@ use Rattle.cpu.specs.declared.work.Work.{Work}
 use Rattle.cpu.specs.Work.{WithinSpan}
 use Rattle.cpu_attempts.specs.declared.Attempt.{Attempt}
 use Rattle.cpu_attempts.specs.Attempts.{Instructed, pushing, storing, Tries, unchanged, whole}
-use Rattle.r6501q_span_opcodes.specs.Instructions.{ByInstructions}
-use Rattle.r6501q_span_opcodes.specs.Instructions.{none, more}
-use Rattle.r6501q_span_opcodes.specs.Instructions.{shared_by}
+use Rattle.r6501q_fast.specs.Instructions.{ByInstructions}
+use Rattle.r6501q_fast.specs.Instructions.{none, more}
+use Rattle.r6501q_fast.specs.Instructions.{shared_by}
 
 pub starts_within : (on : Bool) (w : Work) (span : ℕ) → (on && ltb w.wait (span - w.gone.0)) ≡ true
     → w.gone.0 + w.wait < span

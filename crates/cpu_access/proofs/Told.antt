@@ -10,20 +10,20 @@ use Rattle.cpu_access.specs.Accesses.{in_order}
 use Rattle.cpu_access.specs.Halt.{is_written, halts}
 
 -- the writes that there are, in order
-abbrev pub writes_in_order : Writes → List Write
-writes_in_order w = take w.count (w.first ∷ w.second ∷ w.third ∷ [])
+abbrev pub told : Writes → List Write
+told w = take w.count (w.first ∷ w.second ∷ w.third ∷ [])
 
-pub three_written : (w : Writes) → length (writes_in_order w) ≤ 3
-three_written w = omega (arith, length-take w.count (w.first ∷ w.second ∷ w.third ∷ []))
+pub told_three : (w : Writes) → length (told w) ≤ 3
+told_three w = omega (arith, length-take w.count (w.first ∷ w.second ∷ w.third ∷ []))
 
--- of accesses that write at most three bytes just these are given, in order
-pub written_in_order : (ws : List Write) → length ws ≤ 3 → writes_in_order (in_order ws) ≡ ws
+-- of accesses that write at most three bytes just these are told, in order
+pub told_in_order : (ws : List Write) → length ws ≤ 3 → told (in_order ws) ≡ ws
 unfolding in_order
-written_in_order [] h = refl
-written_in_order (a ∷ []) h = refl
-written_in_order (a ∷ b ∷ []) h = refl
-written_in_order (a ∷ b ∷ c ∷ []) h = refl
-written_in_order (a ∷ b ∷ c ∷ d ∷ more) h = absurd (omega arith)
+told_in_order [] h = refl
+told_in_order (a ∷ []) h = refl
+told_in_order (a ∷ b ∷ []) h = refl
+told_in_order (a ∷ b ∷ c ∷ []) h = refl
+told_in_order (a ∷ b ∷ c ∷ d ∷ more) h = absurd (omega arith)
 
 -- one after the other
 abbrev pub in_turn : {A : Type 0} → (Write → A → A) → List Write → A → A
@@ -47,13 +47,13 @@ module _ {A : Type 0} (put : Bool → Write → A → A) (none : (x : Write) (a 
         take_all m (x ∷ y ∷ z ∷ []) (omega arith),
       )
 
-  pub each_written : (w : Writes) (a : A) → each_write put w a ≡ in_turn (put true) (writes_in_order w) a
-  each_written w a = by_count w.count w.first w.second w.third a
+  pub each_told : (w : Writes) (a : A) → each_write put w a ≡ in_turn (put true) (told w) a
+  each_told w a = by_count w.count w.first w.second w.third a
 
--- one of the writes is at this address
-abbrev pub written_at : ℕ → List Write → Bool
-written_at address [] = false
-written_at address (x ∷ later) = eqb x.address address || written_at address later
+-- one of the writes told is at this address
+abbrev pub told_at : ℕ → List Write → Bool
+told_at address [] = false
+told_at address (x ∷ later) = eqb x.address address || told_at address later
 
 module _ (address : ℕ) where
   abbrev found : Bool → Write → Bool → Bool
@@ -63,19 +63,19 @@ module _ (address : ℕ) where
   or_none true = refl
   or_none false = refl
 
-  found_once : (l : List Write) (b : Bool) → in_turn (found true) l b ≡ (b || written_at address l)
+  found_once : (l : List Write) (b : Bool) → in_turn (found true) l b ≡ (b || told_at address l)
   found_once [] b = sym (or_none b)
   found_once (x ∷ later) b =
-      found_once later (b || eqb x.address address) ∙ grouped b (eqb x.address address) (written_at address later)
+      found_once later (b || eqb x.address address) ∙ grouped b (eqb x.address address) (told_at address later)
     where
       grouped : (p q r : Bool) → ((p || q) || r) ≡ (p || (q || r))
       grouped true q r = refl
       grouped false q r = refl
 
-  -- "the instruction that writes a chosen address": it is one of those in order, by a push or not, a register's or not
-  pub halts_written : (w : Writes) → halts (At address) w ≡ written_at address (writes_in_order w)
+  -- "the instruction that writes a chosen address": it is one of those told, by a push or not, a register's or not
+  pub halts_told : (w : Writes) → halts (At address) w ≡ told_at address (told w)
   unfolding halts is_written
-  halts_written w = each_written found (λ x b. or_none b) w false ∙ found_once (writes_in_order w) false
+  halts_told w = each_told found (λ x b. or_none b) w false ∙ found_once (told w) false
 
 -- what writes nothing writes no halt address
 pub unwritten : (halt : Halt) (w : Writes) → w.count ≡ 0 → halts halt w ≡ false

@@ -1,9 +1,9 @@
 use mathlib.Core.Path.{refl}
 use native.Mathlib.Omega.{arith}
 use borrow.Author.Rules.{rules}
-use Rattle.r6501q_span_opcodes.proofs.Instructions.{shared_two}
-use Rattle.r6501q_span_opcodes.proofs.with_shared.Statement.{statement}
-use Rattle.r6501q_span_opcodes.proofs.with_shared.Tie as tie
+use Rattle.r6501q_fast.proofs.Instructions.{shared_two}
+use Rattle.r6501q_fast.proofs.with_shared.Statement.{statement}
+use Rattle.r6501q_fast.proofs.with_shared.Tie as tie
 
 add-result : tie.Need-overflow-add-result
 add-result c =

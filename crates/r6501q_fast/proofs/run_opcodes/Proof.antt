@@ -11,12 +11,12 @@ use Rattle.bits.proofs.Cond.{and_left}
 use Rattle.cpu.specs.Work.{WithinSpan}
 use Rattle.bits.proofs.Cond.{either_false}
 use Rattle.cpu_attempts.specs.Attempts.{Tries}
-use Rattle.r6501q_span_opcodes.specs.Instructions.{ByInstructions, none}
-use Rattle.r6501q_span_opcodes.proofs.Instructions.{starts_within, try_within, try_goes, try_less, shared_most}
-use Rattle.r6501q_span_opcodes.proofs.Instructions.{start_fits}
-use Rattle.r6501q_span_opcodes.proofs.Instructions.{two_fit}
-use Rattle.r6501q_span_opcodes.proofs.run_opcodes.Statement.{statement}
-use Rattle.r6501q_span_opcodes.proofs.run_opcodes.Tie as tie
+use Rattle.r6501q_fast.specs.Instructions.{ByInstructions, none}
+use Rattle.r6501q_fast.proofs.Instructions.{starts_within, try_within, try_goes, try_less, shared_most}
+use Rattle.r6501q_fast.proofs.Instructions.{start_fits}
+use Rattle.r6501q_fast.proofs.Instructions.{two_fit}
+use Rattle.r6501q_fast.proofs.run_opcodes.Statement.{statement}
+use Rattle.r6501q_fast.proofs.run_opcodes.Tie as tie
 
 abbrev invariant-loop : tie.invariant-loop
 invariant-loop span ticking memory₀ sums₀ halt w₀ shared₀ on₀ memory sums w shared on =

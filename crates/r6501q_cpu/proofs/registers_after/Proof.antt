@@ -1,19 +1,19 @@
 use mathlib.Core.Path.{refl}
-use Rattle.r6501q_cpu.specs.Asking.{put_register, peripherals_after_writes}
+use Rattle.r6501q_cpu.specs.Asking.{put_register, registers_after}
 use borrow.Author.Rules.{rules}
-use Rattle.r6501q_cpu.proofs.peripherals_after_writes.Statement.{statement}
-use Rattle.r6501q_cpu.proofs.peripherals_after_writes.Tie as tie
+use Rattle.r6501q_cpu.proofs.registers_after.Statement.{statement}
+use Rattle.r6501q_cpu.proofs.registers_after.Tie as tie
 
 returns : tie.Need-returns
-unfolding peripherals_after_writes put_register
+unfolding registers_after put_register
 returns c = rw c.if1.true refl
 
 returns-2 : tie.Need-returns-2
-unfolding peripherals_after_writes put_register
+unfolding registers_after put_register
 returns-2 c = rw (c.before.before.put-register.ensures, c.if2.true) refl
 
 returns-3 : tie.Need-returns-3
-unfolding peripherals_after_writes
+unfolding registers_after
 returns-3 c =
     rw (
       c.put-register3.ensures,
@@ -21,7 +21,7 @@ returns-3 c =
       c.before.before.before.before.before.before.put-register.ensures,
     ) refl
 
-pub peripherals-after-writes-spec : {M : Type 1} → statement M
-peripherals-after-writes-spec =
+pub registers-after-spec : {M : Type 1} → statement M
+registers-after-spec =
     tie.close
     (tie.spec returns (λ c κs. search rules) returns-2 (λ c κs. search rules) (λ c κs. search rules) returns-3)

@@ -2,10 +2,10 @@ use mathlib.Core.Path.{refl}
 use native.Mathlib.Omega.{arith}
 use Rattle.page_sums.specs.PageSums.{SixteenBits}
 use Rattle.page_sums.proofs.Sums.{sums_kept}
-use Rattle.r6501q_span_opcodes.proofs.Instructions.{shared_most}
+use Rattle.r6501q_fast.proofs.Instructions.{shared_most}
 use borrow.Author.Rules.{rules}
-use Rattle.r6501q_span_opcodes.proofs.run_working.Statement.{statement}
-use Rattle.r6501q_span_opcodes.proofs.run_working.Tie as tie
+use Rattle.r6501q_fast.proofs.run_working.Statement.{statement}
+use Rattle.r6501q_fast.proofs.run_working.Tie as tie
 
 returns : tie.Need-returns
 returns c =
