@@ -1,6 +1,7 @@
 // The smallest latch value of counter A for a wanted bit rate (document 02, U2 and U9), of asynchronous frames: a bit
 // takes 16 underflows, and counter A underflows each N + 1 clocks where its latch is N.
 #![tactic(auto)]
+
 ghost use Rattle.std.specs.Prelude.{◌≡◌};
 ghost use Rattle.bit_rate.specs.BitRate.{out_of_limits, latch_for};
 

@@ -1,6 +1,7 @@
 // One whole instruction, over the registers, the answers to what it asks, and the lent memory. It knows no chip: a
 // register of the chip is asked for, and the instruction is worked again once the answer is there.
 #![tactic(auto)]
+
 ghost use Rattle.std.specs.Prelude.{◌≡◌, ◌≤◌};
 ghost use Rattle.cpu_opcodes.specs.TableInCode.{opcode_table};
 ghost use Rattle.cpu_operations.specs.Operations.{access_of};

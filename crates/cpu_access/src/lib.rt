@@ -3,6 +3,7 @@
 // result is thrown away. All other addresses are read from the lent memory. Nothing is written: the writes are handed
 // on.
 #![tactic(auto)]
+
 ghost use Rattle.std.specs.Prelude.{◌≡◌};
 ghost use Rattle.cpu_access.specs.Bus.{next_address, memory_byte, vector_of, unasked, ask_of, read_of, read_address};
 ghost use Rattle.cpu_access.specs.Bus.{fetch_of};

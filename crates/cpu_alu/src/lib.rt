@@ -1,5 +1,6 @@
 // The arithmetic and logic unit: what an instruction computes of bytes and flags. Pure functions, one equation each.
 #![tactic(auto)]
+
 ghost use Rattle.std.specs.Prelude.{◌≡◌, true, false};
 ghost use Rattle.cpu_alu.specs.Status.{packed, unpacked, pushed, with_nZ, with_v, with_d, with_i, with_c, computed};
 

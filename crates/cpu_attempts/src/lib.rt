@@ -1,5 +1,6 @@
 // One instruction of a span, tried: done whole, or left as it was.
 #![tactic(auto)]
+
 ghost use Rattle.std.specs.Prelude.{◌≡◌, ◌+◌, ◌≤◌};
 ghost use Rattle.cpu_attempts.specs.Attempts.{failed_attempt, started_next, stored_whole, asks_for};
 

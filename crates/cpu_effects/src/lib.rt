@@ -1,5 +1,6 @@
 // What an instruction leaves: CPU registers, nothing written or pushes or one store, and its length.
 #![tactic(auto)]
+
 ghost use Rattle.std.specs.Prelude.{◌≡◌};
 ghost use Rattle.cpu_effects.specs.Effects.{pushes_of, waiting_of};
 

@@ -1,6 +1,7 @@
 // The opcodes 80h to FFh by the rows of the code matrix (source document 001, A.3): an opcode's high digit chooses its
 // row, A that of `opcodes_a0`. Each defined opcode but BRK is tried; any other is left as it was.
 #![tactic(auto)]
+
 ghost use Rattle.std.specs.Prelude.{◌≡◌, false, ◌+◌, ◌≤◌, ◌<◌};
 ghost use Rattle.memory.specs.Memory.{is_register};
 ghost use Rattle.page_sums.specs.PageSums.{sums_after};

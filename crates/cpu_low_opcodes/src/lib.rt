@@ -1,6 +1,7 @@
 // The opcodes 00h to 7Fh by the rows of the code matrix (source document 001, A.3): an opcode's high digit chooses its
 // row, 2 that of `opcodes_20`. Each defined opcode but BRK is tried; any other is left as it was.
 #![tactic(auto)]
+
 ghost use Rattle.std.specs.Prelude.{◌≡◌, false, ◌+◌, ◌≤◌, ◌<◌};
 ghost use Rattle.memory.specs.Memory.{is_register};
 ghost use Rattle.page_sums.specs.PageSums.{sums_after};

@@ -1,5 +1,6 @@
 // Addressing modes: where the operand lies, whether finding it crossed a page, and PC past the operand bytes.
 #![tactic(auto)]
+
 ghost use Rattle.std.specs.Prelude.{◌≡◌};
 ghost use Rattle.cpu_modes.specs.Modes.{place_at, no_place, other_page, zero_page_address, at_zero_page};
 ghost use Rattle.cpu_modes.specs.Modes.{at_zero_page_indexed, at_absolute, at_indexed, at_indexed_indirect};

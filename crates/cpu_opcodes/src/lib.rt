@@ -1,5 +1,6 @@
 // The opcodes of the enhanced R6502: which operation, addressing mode and length each of the 256 has, if any.
 #![tactic(auto)]
+
 ghost use Rattle.std.specs.Prelude.{◌≡◌};
 ghost use Rattle.cpu_opcodes.specs.Decode.{decode_of};
 ghost use Rattle.cpu_opcodes.specs.TableInCode.{opcode_table, mode_of};

@@ -1,5 +1,6 @@
 // What each operation does: how it uses the byte at its operand's address, and what it leaves.
 #![tactic(auto)]
+
 ghost use Rattle.std.specs.Prelude.{◌≡◌, ◌≤◌};
 ghost use Rattle.cpu_operations.specs.Operations.{access_of, is_jsr, operate_of};
 

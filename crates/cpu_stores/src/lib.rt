@@ -1,6 +1,7 @@
 // Operations that store a byte, or change one: the byte is put on the last clock, which must lie within the span.
 // Those that change A put none.
 #![tactic(auto)]
+
 ghost use Rattle.std.specs.Prelude.{◌≡◌, ◌+◌, ◌≤◌, ◌<◌};
 ghost use Rattle.page_sums.specs.PageSums.{sums_after};
 ghost use Rattle.cpu_opcodes.specs.declared.operation.ModifyOperation.TheVariants.{Asl, Dec, Inc, Lsr, Rmb, Rol, Ror};

@@ -1,6 +1,7 @@
 // The address space of the R6501Q: a lent memory, whose first addresses are the registers' (document 01, "Machine
 // state").
 #![tactic(auto)]
+
 ghost use Rattle.std.specs.Prelude.{◌≡◌};
 ghost use Rattle.memory.specs.Memory.{is_register};
 

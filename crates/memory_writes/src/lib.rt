@@ -1,5 +1,6 @@
 // A clock's writes, put into memory and its page sums.
 #![tactic(auto)]
+
 ghost use Rattle.std.specs.Prelude.{◌≡◌};
 ghost use Rattle.page_sums.specs.PageSums.{sums_after};
 ghost use Rattle.memory_writes.specs.Commit.{put_write, committed};

@@ -1,5 +1,6 @@
 // Page sums beside a memory: one commit of a byte to both, and the total (document 02, U7).
 #![tactic(auto)]
+
 ghost use Rattle.std.specs.Prelude.{◌≡◌, ◌+◌, ◌<◌, ◌^◌, length, set};
 ghost use Rattle.page_sums.specs.PageSums.{sum_changed, sum_at, sums_after_part, page_list_refused, total_call};
 

@@ -1,5 +1,6 @@
 // Pin lists: their codes, their rule, and the inputs of one clock.
 #![tactic(auto)]
+
 ghost use Rattle.std.specs.Prelude.{◌≡◌};
 ghost use Rattle.pin_lists.specs.PinLists.{code_right, entry_right, pins_right, input_count};
 

@@ -1,5 +1,6 @@
 // The library for programs in C and Rust. A struct goes by value, a lent slice as a pointer and then its length.
 #![tactic(auto)]
+
 ghost use Rattle.std.specs.Prelude.{◌≡◌};
 ghost use Rattle.bits.specs.Bits.{one_where};
 ghost use Rattle.page_sums.specs.PageSums.{sums_after};

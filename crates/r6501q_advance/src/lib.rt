@@ -1,5 +1,6 @@
 // One clock of the chip with its memory and pin lists.
 #![tactic(auto)]
+
 ghost use Rattle.std.specs.Prelude.{◌≡◌, ◌+◌, ◌≤◌, ◌<◌, ◌^◌, length, take, drop};
 ghost use Rattle.bits.specs.Bits.{one_where};
 ghost use Rattle.page_sums.specs.PageSums.{sums_after};

@@ -1,6 +1,7 @@
 // One clock, in document 01's order: inputs and pins, counters, serial channel, CPU, output record (document 01, "One
 // clock").
 #![tactic(auto)]
+
 ghost use Rattle.std.specs.Prelude.{◌≡◌, ◌<◌};
 ghost use Rattle.cpu_opcodes.specs.TableInCode.{opcode_table};
 ghost use Rattle.refusals.specs.Refusals.{last_clock};

@@ -1,6 +1,7 @@
 // One instruction of the CPU on the chip's state: its questions are answered, and its register writes done. Nothing is
 // written to memory here.
 #![tactic(auto)]
+
 ghost use Rattle.std.specs.Prelude.{◌≡◌, []};
 ghost use Rattle.cpu_opcodes.specs.TableInCode.{opcode_table};
 ghost use Rattle.r6501q_cpu.specs.Processor.{registers_of, cpu_of};

@@ -1,5 +1,6 @@
 // Instructions of a span one after the other, by their opcodes.
 #![tactic(auto)]
+
 ghost use Rattle.std.specs.Prelude.{cond, ◌≡◌, ◌+◌, ◌≤◌, ◌<◌};
 ghost use Rattle.page_sums.specs.PageSums.{sums_after};
 ghost use Rattle.cpu.specs.Work.{WithinSpan};

@@ -1,6 +1,7 @@
 // The state and what is handed back as the host, a program in C or Rust, holds them: each flag and level is a byte, 0
 // or 1, and no byte waiting is 0, 0, 0; and the refusals of a call that are told before its state is taken over.
 #![tactic(auto)]
+
 ghost use Rattle.std.specs.Prelude.{◌≡◌, false};
 ghost use Rattle.refusals.specs.Refusals.{refusal_of};
 ghost use Rattle.r6501q_chip.specs.R6501q.{r6501q_limits};

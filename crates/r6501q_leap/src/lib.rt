@@ -1,5 +1,6 @@
 // One leap of a run: the gap, the gap passed, and the event clock.
 #![tactic(auto)]
+
 ghost use Rattle.std.specs.Prelude.{◌≡◌, ◌+◌, ◌-◌, ◌≤◌, ◌<◌, length, drop};
 ghost use Rattle.page_sums.specs.PageSums.{sums_after};
 ghost use Rattle.leaps.specs.Leaps.{leap_of, left_after};

@@ -1,5 +1,6 @@
 // Step 4 of a clock: the CPU on the state that steps 1 to 3 leave. Nothing is written to memory here.
 #![tactic(auto)]
+
 ghost use Rattle.std.specs.Prelude.{◌≡◌, ◌<◌};
 ghost use Rattle.cpu_opcodes.specs.TableInCode.{opcode_table};
 ghost use Rattle.r6501q_cpu.specs.Processor.{irq_due, reset_start, nmi_start, irq_start, start_of, without_writes, wait_less};

@@ -1,5 +1,6 @@
 // The leaping run: from event clock to event clock.
 #![tactic(auto)]
+
 ghost use Rattle.std.specs.Prelude.{◌≡◌, ◌+◌, ◌≤◌};
 ghost use Rattle.page_sums.specs.PageSums.{sums_after};
 ghost use Rattle.leaps.specs.CallLists.{run_of, plain_run_of};

@@ -1,5 +1,6 @@
 // The leaps of a span, made one after the other on a small record.
 #![tactic(auto)]
+
 ghost use Rattle.std.specs.Prelude.{◌≡◌, ◌+◌, ◌≤◌, ◌<◌, length};
 ghost use Rattle.page_sums.specs.PageSums.{sums_after};
 ghost use Rattle.cpu_opcodes.specs.TableInCode.{opcode_table};

@@ -1,5 +1,6 @@
 // The CPU's steps in a span, one at a time: an instruction that starts in it, or the byte that waits put.
 #![tactic(auto)]
+
 ghost use Rattle.std.specs.Prelude.{◌≡◌, ◌+◌, ◌≤◌};
 ghost use Rattle.page_sums.specs.PageSums.{sums_after};
 ghost use Rattle.cpu_opcodes.specs.TableInCode.{opcode_table};

@@ -1,6 +1,7 @@
 // Spans: clocks in which nothing but the CPU does what can be seen. Each instruction that starts in a span is a leap of
 // its own; it is done on a small record, `Working`, and the rest of the chip is brought up to date once, at the end.
 #![tactic(auto)]
+
 ghost use Rattle.std.specs.Prelude.{◌≡◌, ◌+◌, ◌≤◌, ◌<◌};
 ghost use Rattle.r6501q_unseen.specs.Unseen.{Unseen};
 ghost use Rattle.r6501q_spans.specs.Spans.{only_cpu, begin_work, none_waiting, put_work};

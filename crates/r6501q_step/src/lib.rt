@@ -1,5 +1,6 @@
 // The single-clock call, and what every call begins and ends with.
 #![tactic(auto)]
+
 ghost use Rattle.std.specs.Prelude.{◌≡◌};
 ghost use Rattle.page_sums.specs.PageSums.{sums_after};
 ghost use Rattle.refusals.specs.Refusals.{refusal_of};

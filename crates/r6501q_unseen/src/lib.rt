@@ -1,6 +1,7 @@
 // Clocks of which nothing can be seen but what counts: how many there are, the counters and the serial channel after
 // them, and the ticks in them. Between these clocks no port level changes.
 #![tactic(auto)]
+
 mod counter; // counter.rt: counter A over clocks
 mod receiver; // receiver.rt: the receiver over ticks
 mod transmitter; // transmitter.rt: the transmitter over ticks

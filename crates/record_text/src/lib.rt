@@ -2,6 +2,7 @@
 //
 // Each `put` function writes characters into the lent text from `at` on, and gives the place behind them.
 #![tactic(auto)]
+
 ghost use Rattle.std.specs.Prelude.{◌≡◌, ◌+◌, ◌*◌, ◌≤◌, ◌<◌, length};
 ghost use Rattle.record_text.specs.Lines.{
   digit_of,

@@ -1,5 +1,6 @@
 // What a call checks before anything else (document 01, "What is handed back", 1 to 5), of any chip.
 #![tactic(auto)]
+
 ghost use Rattle.std.specs.Prelude.{◌≡◌, ◌+◌, ltb};
 ghost use Rattle.refusals.specs.Refusals.{last_clock, refusal_of};
 

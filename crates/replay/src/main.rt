@@ -2,6 +2,7 @@
 // clock 1, and prints a line `clock WORD` for each record, then `end K S`: K clocks done, and S the number that ended
 // them or refused the tape, or 0.
 #![tactic(auto)]
+
 use libc::{STDIN_FILENO, STDOUT_FILENO};
 use replay_text::{TAPE_LENGTH, TEXT_LENGTH, replay_input};
 

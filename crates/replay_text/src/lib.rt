@@ -1,5 +1,6 @@
 // A tape replayed: loaded into a memory of zeros, then 100 clocks from fresh, with RES high on clock 1.
 #![tactic(auto)]
+
 ghost use Rattle.std.specs.Prelude.{◌≡◌, ◌≤◌, length, take};
 ghost use Rattle.memory.specs.Memory.{memory_length};
 ghost use Rattle.record_text.specs.Lines.{filled, put_of};

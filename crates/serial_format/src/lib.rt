@@ -1,5 +1,6 @@
 // What the serial control register (SCCR) says, and what is sent of a byte.
 #![tactic(auto)]
+
 ghost use Rattle.std.specs.Prelude.{◌≡◌, ℕ, ◌^◌, ◌%◌, ◌-◌, eqb, length};
 ghost use Rattle.bits.specs.Bits.{bit, one_where};
 ghost use Rattle.bits.specs.Lists.{bits_of, odd_ones, number_of_bits};

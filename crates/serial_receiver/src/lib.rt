@@ -1,5 +1,6 @@
 // The receiver.
 #![tactic(auto)]
+
 ghost use Rattle.std.specs.Prelude.{◌≡◌, ◌-◌};
 ghost use Rattle.bits.specs.Bits.{one_where};
 ghost use Rattle.serial_format.specs.Format.{width, has_parity};

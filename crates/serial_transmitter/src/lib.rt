@@ -1,5 +1,6 @@
 // The transmitter.
 #![tactic(auto)]
+
 ghost use Rattle.std.specs.Prelude.{◌≡◌};
 ghost use Rattle.serial_transmitter.specs.Transmitter.{idle_transmitter, framed, taken, idle_tick, frame_end, next_phase, ticked};
 ghost use Rattle.serial_transmitter.specs.Transmitter.{bit_tick, send_tick, transmitter_clock, line, shift_clock};

@@ -1,5 +1,6 @@
 // A paper tape loaded into memory.
 #![tactic(auto)]
+
 mod landing;
 
 ghost use Rattle.std.specs.Prelude.{◌≡◌, ◌+◌, ◌<◌, ◌^◌, length};

@@ -11,6 +11,7 @@
 // frame's bits change), and an independent model, written from the documents alone, which does one plain clock after
 // another, gives the same. "By the plain-clock model": by that model alone.
 #![tactic(auto)]
+
 ghost use Rattle.std.specs.Prelude.{◌≡◌, ◌≤◌, length};
 
 use cpu_access::halt::Halt;

@@ -6,6 +6,7 @@
 // The expected output was never made by this program: `expect` counts the lines of the files, of which each has to
 // agree.
 #![tactic(auto)]
+
 ghost use Rattle.std.specs.Prelude.{◌≡◌, ◌≤◌, length};
 
 use group::{GROUP_MARK, Group, open, unknown};

@@ -6,6 +6,7 @@
 // which does one plain clock after another, gives the same. Stop 7 is not among it: 100 clocks write 100 records at
 // most, and so many are free.
 #![tactic(auto)]
+
 use libc::{STDIN_FILENO, STDOUT_FILENO};
 use replay_text::{TEXT_LENGTH, replay};
 use test_text::next_mark;

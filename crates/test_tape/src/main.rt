@@ -1,6 +1,7 @@
 // Loads tapes from standard input, each into a memory of zeros. For each tape it prints a line: the number and the
 // place that the loader hands back, in decimal, then the bytes at 3Fh, 40h, 0200h and FFFDh of that memory, in hex.
 #![tactic(auto)]
+
 use libc::{STDIN_FILENO, STDOUT_FILENO};
 use memory::MEMORY_LENGTH;
 use test_text::next_mark;

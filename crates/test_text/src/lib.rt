@@ -1,5 +1,6 @@
 // Marks in a text: how the programs that work on several tapes cut their input.
 #![tactic(auto)]
+
 ghost use Rattle.std.specs.Prelude.{◌≡◌};
 ghost use Rattle.test_text.specs.Marks.{next_mark};
 

@@ -1,0 +1,11 @@
+use native.Mathlib.Omega.{arith}
+use Rattle.bits.proofs.Cond.{one_where_le}
+use Rattle.cpu_alu.specs.Shift.{rol_of}
+use Rattle.cpu_alu.proofs.shift.rol.Goals as goal
+
+pub overflow_add-value : goal.overflow_add-value
+overflow_add-value c = omega (arith, c.one_where.ensures, one_where_le c.args.status.c)
+
+pub returns : goal.returns
+unfolding rol_of
+returns c = rw (c.resulting.ensures, c.with_carry.ensures, c.one_where.ensures)

@@ -1,9 +1,0 @@
-use borrow.Author.Rules.{rules}
-use Rattle.cpu_kinds.proofs.updates.load_x.Statement.{statement}
-use Rattle.cpu_kinds.proofs.updates.load_x.Tie as tie
-
-returns : tie.Need-returns
-returns c = rw (c.same_flags.ensures, ← c.before.with-nz.ensures)
-
-pub load-x-spec : {M : Type 1} → statement M
-load-x-spec = tie.close (tie.spec (λ c κs. search rules) (λ c κs. search rules) returns)

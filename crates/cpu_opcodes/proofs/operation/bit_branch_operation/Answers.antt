@@ -1,0 +1,15 @@
+use mathlib.Core.Path.{refl, sym}
+use lib.ListN.{get_or-eq_default}
+use Rattle.cpu_opcodes.specs.TableInCode.{bit_branch_operations}
+use Rattle.cpu_opcodes.specs.declared.operation.BitBranchOperation.TheVariants.{Bbs}
+use Rattle.cpu_opcodes.proofs.Apart.{apart_le}
+use Rattle.cpu_opcodes.proofs.operation.bit_branch_operation.Goals as goal
+
+-- `bit_branch_operation` meets its contract: each arm by its own number, the last since no number below 1 is left.
+-- Assumes nothing.
+pub returns-in_default : goal.returns-in_default
+returns-in_default c = sym (get_or-eq_default (bit_branch_operations c.args.bit) (Bbs c.args.bit)
+    (apart_le 1 _ c.in_default.rest))
+
+pub returns-in-0 : goal.returns-in-0
+returns-in-0 c = rw c.in-0.is refl

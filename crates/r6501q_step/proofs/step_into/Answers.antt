@@ -1,0 +1,34 @@
+use mathlib.Core.Path.{sym, ◌∙◌}
+use native.Mathlib.Omega.{arith}
+use Rattle.page_sums.specs.PageSums.{SixteenBits}
+use Rattle.page_sums.proofs.Sums.{sums_kept}
+use Rattle.r6501q_step.proofs.Calls.{begins, steps, refuses}
+use Rattle.r6501q_step.proofs.step_into.Goals as goal
+
+pub returns-then-number-ne0 : goal.returns-then-number-ne0
+returns-then-number-ne0 c = let at = c.args in
+    let words : SixteenBits at.sums.now =
+    λ p. omega (arith, c.type_inv.sums p) in
+    let number = c.call_refusal-number.ensures in record {
+      outputwords_value = rw c.refused.ensures
+          (refuses at.halt at.state at.memory.now at.inputclocks.now at.inputcodes.now
+          at.outputclocks.now
+          at.outputwords.now _ number c.if-number-ne0.true);
+      sums_after = sums_kept 0 at.sums.now at.memory.now words;
+    }
+
+pub advance-end-requires : goal.advance-end-requires
+advance-end-requires c = let good = sym c.call_refusal-number.ensures
+    ∙ c.if-number-ne0.false in
+    let memory = c.args.memory.now in record { going = rw c.begin.ensures (begins _ memory _ _ _ _ good); entries_value = c.opcode_table-entries.ensures }
+
+pub returns : goal.returns
+returns c = let at = c.args in
+    let good = sym c.call_refusal-number.ensures
+    ∙ c.if-number-ne0.false in
+    let moved = rw c.begin.ensures at c.advance-end.ensures.outputwords_value in record {
+      outputwords_value = rw (c.result_of.ensures, c.leaps_from-leaps.ensures)
+          (steps at.state at.memory.now at.inputclocks.now at.inputcodes.now at.outputclocks.now
+          at.outputwords.now good at.halt _ _ _ _ moved);
+      sums_after = c.advance-end.ensures.sums_after;
+    }

@@ -1,0 +1,97 @@
+use Rattle.tape.proofs.TapeLaws.{landed_all_end, landed_all_skip, landed_all_last, landed_all_on, data_fits}
+use Rattle.page_sums.specs.PageSums.{sums_after, SixteenBits}
+use Rattle.page_sums.proofs.Sums.{sums_length, sums_kept, sums_then}
+use lib.ListN.{length}
+use Prim.Native.Nat.{◌-◌}
+use mathlib.Core.Logic.{⊎_elim}
+use mathlib.Core.Path.{refl, sym, ap, ◌∙◌}
+use native.Mathlib.Omega.{arith}
+use Rattle.tape.proofs.land_all.Goals as goal
+
+pub loop-place-init : goal.loop-place-init
+loop-place-init c = let at = c.args in
+    let words : SixteenBits at.sums.now = λ p. omega (arith, c.type_inv.sums p) in
+    (refl, refl, sums_kept 0 at.sums.now at.memory.now words)
+
+pub bounds-tape-place : goal.bounds-tape-place
+bounds-tape-place c = omega arith
+
+pub overflow_add-from : goal.overflow_add-from
+overflow_add-from c = omega arith
+
+pub slice_bounds-text-count : goal.slice_bounds-text-count
+slice_bounds-text-count c = omega arith
+
+pub slice_bounds-text-start : goal.slice_bounds-text-start
+slice_bounds-text-start c = omega arith
+
+pub slice_bounds-text-end : goal.slice_bounds-text-end
+slice_bounds-text-end c = omega arith
+
+pub shape_of-memory-then-count-eq0 : goal.shape_of-memory-then-count-eq0
+shape_of-memory-then-count-eq0 c = c.loop-place.invariant.0
+
+pub shape_of-sums-then-count-eq0 : goal.shape_of-sums-then-count-eq0
+shape_of-sums-then-count-eq0 c = let at = c.args in
+    let loop = c.loop-place in
+    ap length loop.invariant.2 ∙ sums_length 0 at.sums.now at.memory.now loop.memory
+
+pub returns-then-count-eq0 : goal.returns-then-count-eq0
+returns-then-count-eq0 c = let at = c.args in
+    let loop = c.loop-place in
+    let test = c.loop-place-test.true in
+    let count = c.count in record {
+      memory_after = sym (landed_all_last at.tape.now loop.place test c.if-tape-place-eq-MARK.true count.result
+          count.ensures loop.memory c.if-count-eq0.true) ∙ loop.invariant.1;
+      sums_after = loop.invariant.2;
+    }
+
+pub land-requires : goal.land-requires
+land-requires c = let loop = c.loop-place in
+    let address = c.address-a in
+    let f = data_fits c.args.tape.now loop.place address.result c.record_data.result.now
+    address.ensures c.record_data.ensures in
+    (omega (arith, f, loop.invariant.0, c.requires), omega (arith, f, loop.invariant.0, c.requires))
+
+pub overflow_add-place : goal.overflow_add-place
+overflow_add-place c = omega arith
+
+pub loop-place-smaller : goal.loop-place-smaller
+loop-place-smaller c = omega arith
+
+pub loop-place-preserved : goal.loop-place-preserved
+loop-place-preserved c = let at = c.args in
+    let loop = c.loop-place in
+    let test = c.loop-place-test.true in
+    ⊎_elim
+    (λ w. (
+      rw w.13 (w.8.kept.0 ∙ loop.invariant.0),
+      rw w.13
+          (sym (landed_all_on at.tape.now loop.place test w.0.taken w.2.result w.2.ensures
+          loop.memory w.4.result w.7.result.now w.8.last.0 w.3.left w.4.ensures
+          w.7.ensures w.8.ensures.0)
+          ∙ loop.invariant.1),
+      rw (w.13, w.14) (sums_then 0 at.sums.now at.memory.now loop.memory w.8.last.0 loop.invariant.2
+          w.8.ensures.1),
+    ))
+    (λ w. (
+      rw w.1 loop.invariant.0,
+      rw w.1 (sym (landed_all_skip at.tape.now loop.place test w.0.left loop.memory) ∙ loop.invariant.1),
+      rw (w.1, w.2) loop.invariant.2,
+    ))
+    c.if-tape-place-eq-MARK.branch
+
+pub shape_of-memory : goal.shape_of-memory
+shape_of-memory c = c.loop-place.invariant.0
+
+pub shape_of-sums : goal.shape_of-sums
+shape_of-sums c = let at = c.args in
+    ap length c.loop-place.invariant.2 ∙ sums_length 0 at.sums.now at.memory.now c.loop-place.memory
+
+pub returns : goal.returns
+returns c = let at = c.args in
+    let loop = c.loop-place in record {
+      memory_after = sym (landed_all_end at.tape.now loop.place loop.memory c.loop-place-test.false)
+          ∙ loop.invariant.1;
+      sums_after = loop.invariant.2;
+    }

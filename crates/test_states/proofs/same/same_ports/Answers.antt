@@ -1,0 +1,5 @@
+use Rattle.test_states.proofs.Equal.{ports_same}
+use Rattle.test_states.proofs.same.same_ports.Goals as goal
+
+pub returns : goal.returns
+returns c = ports_same _ _ e
