@@ -29,7 +29,7 @@ returns-then-not-entry_right c = let ts = c.args.clocks.now in
     c.loop-i.i ts cs
     c.if-clocks-codes.false
     c.loop-i-test.true in
-    sym (rw (← c.entry_right.ensures, not-true c.entry_right.result c.if-not-entry_right.true) at next)
+    sym (rw (← c.entry_right.ensures, c.if-not-entry_right.true) at next)
     ∙ c.loop-i.invariant.1
 
 pub overflow_add-i : goal.overflow_add-i
@@ -47,7 +47,7 @@ loop-i-preserved c = let ts = c.args.clocks.now in
     c.if-clocks-codes.false
     c.loop-i-test.true in (
       omega arith,
-      sym (rw (← c.entry_right.ensures, not-false c.entry_right.result c.if-not-entry_right.false) at next)
+      sym (rw (← c.entry_right.ensures, c.if-not-entry_right.false) at next)
           ∙ c.loop-i.invariant.1,
     )
 

@@ -12,20 +12,19 @@ returns-then-not-flags_fit c = record {
   outputwords_value = rw (
     ← c.flags_fit.ensures,
     c.flag_refused.ensures,
-    not-true c.flags_fit.result c.if-not-flags_fit.true,
+    c.if-not-flags_fit.true,
   );
   outputwords_value_2 = rw (
     ← c.flags_fit.ensures,
     c.flag_refused.ensures,
-    not-true c.flags_fit.result c.if-not-flags_fit.true,
+    c.if-not-flags_fit.true,
   );
 }
 
 pub returns : goal.returns
 returns c = let at = c.args in
     let fits = sym c.flags_fit.ensures
-    ∙ not-false c.flags_fit.result
-    c.if-not-flags_fit.false in
+    ∙ c.if-not-flags_fit.false in
     let state = c.state_from in
     let halt = c.halt_of in record {
       outputwords_value = host_called_lem (λ h. run_of (machine h) at.n) at.n at.memory.now at.inputclocks.now

@@ -46,7 +46,7 @@ returns-then-not-flags_fit c = let at = c.args in
     list_accepted at.sums.now (host_call (run_of (machine (halt_of at.halt)) at.n) at.n) start right in
     let plains =
     list_accepted at.sums.now (host_call (plain_run_of (machine (halt_of at.halt)) at.n) at.n) start right in
-    let high = not-true c.flags_fit.result c.if-not-flags_fit.true in
+    let high = c.if-not-flags_fit.true in
     let kept = sums_kept 0 at.sums.now at.memory.now words in
     let fit = c.flags_fit.ensures in record { outputwords_value = rw (leaps, ← fit, c.flag_refused.ensures, high); outputwords_value_2 = rw (plains, ← fit, c.flag_refused.ensures, high); sums_after = kept }
 
@@ -74,7 +74,7 @@ returns c = let at = c.args in
     ∙ list_accepted at.sums.now (plain_run_of
     (machine c.halt_of.result)
     at.n) library right in
-    let fits = not-false c.flags_fit.result c.if-not-flags_fit.false in record {
+    let fits = c.if-not-flags_fit.false in record {
       outputwords_value = rw (
         leaps,
         ← c.flags_fit.ensures,

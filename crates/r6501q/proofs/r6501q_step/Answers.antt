@@ -11,14 +11,13 @@ unfolding host_call
 returns-then-not-flags_fit c = rw (
   ← c.flags_fit.ensures,
   c.flag_refused.ensures,
-  not-true c.flags_fit.result c.if-not-flags_fit.true,
+  c.if-not-flags_fit.true,
 )
 
 pub returns : goal.returns
 returns c = let at = c.args in
     let fits = sym c.flags_fit.ensures
-    ∙ not-false c.flags_fit.result
-    c.if-not-flags_fit.false in
+    ∙ c.if-not-flags_fit.false in
     let state = c.state_from in
     let halt = c.halt_of in
     let step = c.step-result in

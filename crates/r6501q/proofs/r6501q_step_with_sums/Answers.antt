@@ -42,7 +42,7 @@ returns-then-not-flags_fit c = let at = c.args in
     let right : page_list_refused (length at.memory.now) (length at.sums.now) ≡ false =
     sym told ∙ c.if-page_list_refused.false in
     let next = list_accepted at.sums.now (host_call (step_of (machine (halt_of at.halt))) 1) start right in
-    let high = not-true c.flags_fit.result c.if-not-flags_fit.true in record { outputwords_value = rw (next, ← c.flags_fit.ensures, c.flag_refused.ensures, high); sums_after = sums_kept 0 at.sums.now at.memory.now words }
+    let high = c.if-not-flags_fit.true in record { outputwords_value = rw (next, ← c.flags_fit.ensures, c.flag_refused.ensures, high); sums_after = sums_kept 0 at.sums.now at.memory.now words }
 
 pub returns : goal.returns
 unfolding host_call
@@ -61,7 +61,7 @@ returns c = let at = c.args in
     let next = list_accepted at.sums.now (host_call (step_of (machine (halt_of at.halt))) 1) start right in
     let went = c.step_with_sums-result.ensures.outputwords_value
     ∙ list_accepted at.sums.now (step_of (machine c.halt_of.result)) library right in
-    let fits = not-false c.flags_fit.result c.if-not-flags_fit.false in record {
+    let fits = c.if-not-flags_fit.false in record {
       outputwords_value = rw (
         next,
         ← c.flags_fit.ensures,

@@ -5,12 +5,12 @@ use Rattle.r6501q_gaps.proofs.wait_after.Goals as goal
 
 pub returns-then-not-high : goal.returns-then-not-high
 unfolding wait_after
-returns-then-not-high c = rw (not-true c.args.high c.if-not-high.true)
+returns-then-not-high c = rw (c.if-not-high.true)
 
 pub returns-then-gap-wait : goal.returns-then-gap-wait
 unfolding wait_after
-returns-then-gap-wait c = rw (not-false c.args.high c.if-not-high.false)
+returns-then-gap-wait c = rw (c.if-not-high.false)
 
 pub returns : goal.returns
 unfolding wait_after
-returns c = rw (not-false c.args.high c.if-not-high.false) (omega (arith, c.if-gap-wait.false))
+returns c = rw (c.if-not-high.false) (omega (arith, c.if-gap-wait.false))

@@ -21,7 +21,7 @@ pub returns-then-not-ends_span : goal.returns-then-not-ends_span
 unfolding work_put memory_put
 returns-then-not-ends_span c = let at = c.args in
     let one = c.one_write-writes.ensures in
-    let none = rw one at (sym c.ends_span.ensures ∙ not-true _ c.if-not-ends_span.true) in
+    let none = rw one at (sym c.ends_span.ensures ∙ c.if-not-ends_span.true) in
     let e = puts_within_lem at.halt at.span.0 at.w at.x
     c.if-within.true none in record { value = rw e c.put_work.ensures; memory_after = rw e (rw one at c.commit.ensures.memory_after); sums_after = c.commit.ensures.sums_after }
 
@@ -31,7 +31,7 @@ returns-else-not-ends_span c = let at = c.args in
     let words : SixteenBits at.sums.now =
     λ p. omega (arith, c.type_inv.sums p) in
     let one = c.one_write-writes.ensures in
-    let ends = rw one at (sym c.ends_span.ensures ∙ not-false _ c.if-not-ends_span.false) in
+    let ends = rw one at (sym c.ends_span.ensures ∙ c.if-not-ends_span.false) in
     let e = puts_not at.halt at.span.0 at.w at.x c.if-within.true ends in record { value = rw e refl; memory_after = rw e refl; sums_after = sums_kept 0 at.sums.now at.memory.now words }
 
 pub returns-else-within : goal.returns-else-within

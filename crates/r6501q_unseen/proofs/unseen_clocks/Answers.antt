@@ -13,7 +13,7 @@ returns-then-not-counting_a c = let room = ap (λ (x : Clocks). x.0) c.nearer.en
       omega arith,
       omega arith,
       unseen_before c.before_b-b.result.0 a.ports a.p
-          (λ e. absurd (false≢true (sym (not-true _ c.if-not-counting_a.true) ∙ c.counting_a.ensures ∙ e))) b.1,
+          (λ e. absurd (false≢true (sym (c.if-not-counting_a.true) ∙ c.counting_a.ensures ∙ e))) b.1,
     )
 
 pub returns : goal.returns

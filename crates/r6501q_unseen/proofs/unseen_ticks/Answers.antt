@@ -7,7 +7,7 @@ use Rattle.r6501q_unseen.proofs.unseen_ticks.Goals as goal
 pub returns-then-not-underflow_unseen : goal.returns-then-not-underflow_unseen
 unfolding unseen_ticks
 returns-then-not-underflow_unseen c = (
-  rw (← c.underflow_unseen.ensures, not-true c.underflow_unseen.result c.if-not-underflow_unseen.true),
+  rw (← c.underflow_unseen.ensures, c.if-not-underflow_unseen.true),
   search rules,
 )
 
@@ -19,8 +19,7 @@ returns-then-sends-listens c = (
     ← c.unseen_sends-sends.ensures.0,
     ← c.bit32.ensures,
     ← c.unseen_listens-listens.ensures.0,
-    not-false c.underflow_unseen.result
-        c.if-not-underflow_unseen.false,
+    c.if-not-underflow_unseen.false,
   ) (omega arith),
   search rules,
 )
@@ -33,8 +32,7 @@ returns c = (
     ← c.unseen_sends-sends.ensures.0,
     ← c.bit32.ensures,
     ← c.unseen_listens-listens.ensures.0,
-    not-false c.underflow_unseen.result
-        c.if-not-underflow_unseen.false,
+    c.if-not-underflow_unseen.false,
   ) (omega arith),
   search rules,
 )

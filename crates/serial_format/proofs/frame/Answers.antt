@@ -6,6 +6,7 @@ use native.Mathlib.Omega.{arith}
 use Rattle.serial_format.proofs.Frames.{values_pos, values_le, data_lt}
 use borrow.Author.Rules.{rules}
 use Rattle.serial_format.proofs.frame.Goals as goal
+use Rattle.serial_format.proofs.frame.Goals.{After-frame_ending-ending}
 
 pub nonzero_rem-data : goal.nonzero_rem-data
 nonzero_rem-data c = rw c.data_values-values.ensures (values_pos _)
@@ -13,24 +14,23 @@ nonzero_rem-data c = rw c.data_values-values.ensures (values_pos _)
 pub overflow_cast-data-2 : goal.overflow_cast-data-2
 overflow_cast-data-2 c = rw c.data_values-values.ensures (record { fits = data_lt _ _ })
 
--- LEFT -- the frame's parts fit
--- fits : (c : tie.After-frame-ending)
---     → (c.before.before.args.byte % c.before.data-values.result + c.before.data-values.result
---     * c.frame-ending.result) * 2 ≤ 2046
--- fits c =
---     frame_le c.before.before.args.byte c.frame-ending.result c.before.data-values.result
---     (rw c.before.data-values.ensures (values_pos _)) (rw c.before.data-values.ensures (values_le _))
---     (rw c.frame-ending.ensures (ending_le c.before.before.args.sccr
---     (bits_of 8 (c.before.before.args.byte % c.before.data-values.result))))
+-- the frame's parts fit
+fits : (c : After-frame_ending-ending)
+    → (c.args.byte % c.data_values-values.result + c.data_values-values.result * c.frame_ending-ending.result) * 2
+    ≤ 2046
+fits c =
+    frame_le c.args.byte c.frame_ending-ending.result c.data_values-values.result
+    (rw c.data_values-values.ensures (values_pos _)) (rw c.data_values-values.ensures (values_le _))
+    (rw c.frame_ending-ending.ensures (ending_le c.args.sccr (bits_of 8 (c.args.byte % c.data_values-values.result))))
 
 pub overflow_mul-result : goal.overflow_mul-result
-overflow_mul-result c = omega (arith, fits c)
+overflow_mul-result c = omega (arith, fits (goal.at.overflow_mul-result c).After-frame_ending-ending)
 
 pub overflow_add-result : goal.overflow_add-result
-overflow_add-result c = omega (arith, fits c)
+overflow_add-result c = omega (arith, fits (goal.at.overflow_add-result c).After-frame_ending-ending)
 
 pub overflow_mul-result-2 : goal.overflow_mul-result-2
-overflow_mul-result-2 c = omega (arith, fits c)
+overflow_mul-result-2 c = omega (arith, fits (goal.at.overflow_mul-result-2 c).After-frame_ending-ending)
 
 pub returns : goal.returns
 returns c = rw (c.frame_ending-ending.ensures, c.data_values-values.ensures) (sym (frame_number _ _ (search rules)))

@@ -9,7 +9,7 @@ use Rattle.cpu_opcodes.proofs.operation.operation_of.Goals as goal
 -- nothing.
 pub returns-in_default : goal.returns-in_default
 returns-in_default c = let at = c.args in
-    sym (get_or-eq_default (operations_by at.number at.bit) Rts (apart_le 14 _ c.in_default.rest))
+    sym (get_or-eq_default (operations_by at.number at.bit) Rts (apart_le 14 _ c.in_default.in_default-own.rest))
 
 pub returns-in-0 : goal.returns-in-0
 returns-in-0 c = rw (c.read_operation.ensures, c.in-0.is) refl

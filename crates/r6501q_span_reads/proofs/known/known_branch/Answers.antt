@@ -29,7 +29,7 @@ pub returns-then-bit_branch_taken : goal.returns-then-bit_branch_taken
 unfolding pushes_of
 returns-then-bit_branch_taken c = let at = c.args in
     let p = c.requires in
-    let steady = sym c.steady_at.ensures ∙ not-false _ c.if-not-steady_at.false in
+    let steady = sym c.steady_at.ensures ∙ c.if-not-steady_at.false in
     let taken = sym c.bit_branch_taken.ensures ∙ c.if-bit_branch_taken.true in
     rw (
       c.known_work.ensures,
@@ -50,7 +50,7 @@ pub returns : goal.returns
 unfolding pushes_of
 returns c = let at = c.args in
     let p = c.requires in
-    let steady = sym c.steady_at.ensures ∙ not-false _ c.if-not-steady_at.false in
+    let steady = sym c.steady_at.ensures ∙ c.if-not-steady_at.false in
     let left = sym c.bit_branch_taken.ensures ∙ c.if-bit_branch_taken.false in
     rw (
       c.known_work-2.ensures,

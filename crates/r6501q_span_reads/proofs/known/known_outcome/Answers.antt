@@ -27,6 +27,6 @@ known_entry-requires c = let operand = c.memory_byte-address.ensures in
       third = rw (third, second) at (sym c.is_register-3.ensures ∙ later.1);
       opcode = decodes;
       operand = rw second at (sym operand);
-      register = sym c.is_register-4.ensures ∙ not-false _ c.if-not-is_register.false;
+      register = sym c.is_register-4.ensures ∙ c.if-not-is_register.false;
       short = (length_fits_lem _ _ decodes).most;
     }

@@ -12,7 +12,7 @@ pub returns : goal.returns
 unfolding pushes_of
 returns c = let at = c.args in
     let p = c.requires in
-    let steady = sym c.steady_at.ensures ∙ not-false _ c.if-not-steady_at.false in
+    let steady = sym c.steady_at.ensures ∙ c.if-not-steady_at.false in
     rw (
       c.known_work.ensures,
       c.with_read-after.ensures,

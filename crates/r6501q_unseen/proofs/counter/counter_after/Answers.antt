@@ -7,14 +7,13 @@ use Rattle.r6501q_unseen.proofs.counter.counter_after.Goals as goal
 
 pub returns-then-not-counting : goal.returns-then-not-counting
 unfolding count_after
-returns-then-not-counting c = rw (not-true c.args.counting c.if-not-counting.true)
+returns-then-not-counting c = rw (c.if-not-counting.true)
 
 pub returns-then-n-count : goal.returns-then-n-count
 unfolding count_after
 returns-then-n-count c = rw (
   le-leb _ _ c.if-n-count.true,
-  not-false c.args.counting
-      c.if-not-counting.false,
+  c.if-not-counting.false,
 )
 
 pub overflow_sub-c-2 : goal.overflow_sub-c-2
@@ -25,6 +24,5 @@ pub returns : goal.returns
 unfolding count_after
 returns c = rw (
   lt-leb _ _ c.if-n-count.false,
-  not-false c.args.counting
-      c.if-not-counting.false,
+  c.if-not-counting.false,
 )

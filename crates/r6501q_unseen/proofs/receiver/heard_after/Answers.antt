@@ -9,25 +9,21 @@ pub returns-then-not-listens : goal.returns-then-not-listens
 unfolding heard_after
 returns-then-not-listens c = rw (
   ← c.receiver_asynchronous.ensures,
-  not-true (c.receiver_asynchronous.result && leb
-      c.args.r.subinterval 7) c.if-not-listens.true,
+  c.if-not-listens.true,
 )
 
 pub waited_for-requires : goal.waited_for-requires
 waited_for-requires c = let a = c.args in
     let on = rw c.receiver_asynchronous.ensures
     at
-    (not-false (c.receiver_asynchronous.result && leb a.r.subinterval 7)
-    c.if-not-listens.false) in
+    (c.if-not-listens.false) in
     λ low. rw c.one_where.ensures
     (waits_within a.ticks a.r a.sccr a.high on c.requires.ticks_bound c.if-r-eq0.true low)
 
 pub returns-then-r-eq0 : goal.returns-then-r-eq0
 unfolding heard_after looked_for
 returns-then-r-eq0 c = let a = c.args in
-    let on = not-false
-    (c.receiver_asynchronous.result && leb a.r.subinterval 7)
-    c.if-not-listens.false in
+    let on = c.if-not-listens.false in
     rw (
       c.waited_for.ensures,
       c.one_where.ensures,
@@ -40,17 +36,14 @@ pub taken_for-requires : goal.taken_for-requires
 taken_for-requires c = let a = c.args in
     let on = rw c.receiver_asynchronous.ensures
     at
-    (not-false (c.receiver_asynchronous.result && leb a.r.subinterval 7)
-    c.if-not-listens.false) in
+    (c.if-not-listens.false) in
     rw c.one_where.ensures
     (takes_within a.ticks a.r a.sccr a.high on c.requires.ticks_bound c.if-r-eq0.false)
 
 pub returns : goal.returns
 unfolding heard_after looked_for
 returns c = let a = c.args in
-    let on = not-false
-    (c.receiver_asynchronous.result && leb a.r.subinterval 7)
-    c.if-not-listens.false in
+    let on = c.if-not-listens.false in
     rw (
       c.taken_for.ensures,
       c.one_where.ensures,

@@ -9,7 +9,7 @@ unfolding unseen_listens
 returns-then-not-receiver_asynchronous c = (
   rw (
     ← c.receiver_asynchronous.ensures,
-    not-true c.receiver_asynchronous.result c.if-not-receiver_asynchronous.true,
+    c.if-not-receiver_asynchronous.true,
   ),
   search rules,
 )
@@ -20,7 +20,7 @@ returns-then-r-gt7 c = (
   rw (
     ← c.receiver_asynchronous.ensures,
     lt-leb _ _ c.if-r-gt7.true,
-    not-false c.receiver_asynchronous.result c.if-not-receiver_asynchronous.false,
+    c.if-not-receiver_asynchronous.false,
   ),
   search rules,
 )
@@ -33,8 +33,7 @@ returns-then-r c = (
     ← c.unseen_looks-looks.ensures.0,
     c.if-r.true,
     le-leb _ _ c.if-r-gt7.false,
-    not-false c.receiver_asynchronous.result
-        c.if-not-receiver_asynchronous.false,
+    c.if-not-receiver_asynchronous.false,
   ) (omega arith),
   search rules,
 )
@@ -47,8 +46,7 @@ returns c = (
     ← c.unseen_looks-looks.ensures.0,
     c.if-r.false,
     le-leb _ _ c.if-r-gt7.false,
-    not-false c.receiver_asynchronous.result
-        c.if-not-receiver_asynchronous.false,
+    c.if-not-receiver_asynchronous.false,
   ) (omega arith),
   search rules,
 )

@@ -7,7 +7,7 @@ use Rattle.r6501q_unseen.proofs.transmitter.unseen_sends.Goals as goal
 pub returns-then-not-transmitter_on : goal.returns-then-not-transmitter_on
 unfolding unseen_sends
 returns-then-not-transmitter_on c = (
-  rw (← c.transmitter_on.ensures, not-true c.transmitter_on.result c.if-not-transmitter_on.true),
+  rw (← c.transmitter_on.ensures, c.if-not-transmitter_on.true),
   search rules,
 )
 
@@ -18,8 +18,7 @@ returns-then-scsr-eq1 c = (
     ← c.transmitter_on.ensures,
     eq-eqb _ _ c.if-scsr-eq1.true,
     eq-eqb _ _ c.if-t-eq0.true,
-    not-false c.transmitter_on.result
-        c.if-not-transmitter_on.false,
+    c.if-not-transmitter_on.false,
   ),
   search rules,
 )
@@ -31,8 +30,7 @@ returns-then-t-eq0 c = (
     ← c.transmitter_on.ensures,
     ne_eqb _ _ c.if-scsr-eq1.false,
     eq-eqb _ _ c.if-t-eq0.true,
-    not-false c.transmitter_on.result
-        c.if-not-transmitter_on.false,
+    c.if-not-transmitter_on.false,
   ),
   search rules,
 )
@@ -45,8 +43,7 @@ returns-then-transmitter_shifts c = (
     ← c.transmitter_shifts.ensures,
     c.if-transmitter_shifts.true,
     ne_eqb _ _ c.if-t-eq0.false,
-    not-false c.transmitter_on.result
-        c.if-not-transmitter_on.false,
+    c.if-not-transmitter_on.false,
   ),
   search rules,
 )
@@ -59,8 +56,7 @@ returns-then-t-lt15 c = (
     ← c.transmitter_shifts.ensures,
     c.if-transmitter_shifts.false,
     ne_eqb _ _ c.if-t-eq0.false,
-    not-false c.transmitter_on.result
-        c.if-not-transmitter_on.false,
+    c.if-not-transmitter_on.false,
   ),
   search rules,
 )
@@ -73,8 +69,7 @@ returns c = (
     ← c.transmitter_shifts.ensures,
     c.if-transmitter_shifts.false,
     ne_eqb _ _ c.if-t-eq0.false,
-    not-false c.transmitter_on.result
-        c.if-not-transmitter_on.false,
+    c.if-not-transmitter_on.false,
   ) (omega arith),
   search rules,
 )

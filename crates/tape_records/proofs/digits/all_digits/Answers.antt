@@ -13,7 +13,7 @@ pub bounds-text-i : goal.bounds-text-i
 bounds-text-i c = omega arith
 
 pub returns-then-not-is_digit : goal.returns-then-not-is_digit
-returns-then-not-is_digit c = sym (rw (← c.is_digit.ensures, not-true c.is_digit.result c.if-not-is_digit.true)
+returns-then-not-is_digit c = sym (rw (← c.is_digit.ensures, c.if-not-is_digit.true)
     at (digits_next c.args.text.now
     c.loop-i.i c.loop-i-test.true))
     ∙ c.loop-i.invariant
@@ -25,7 +25,7 @@ pub loop-i-smaller : goal.loop-i-smaller
 loop-i-smaller c = omega arith
 
 pub loop-i-preserved : goal.loop-i-preserved
-loop-i-preserved c = sym (rw (← c.is_digit.ensures, not-false c.is_digit.result c.if-not-is_digit.false)
+loop-i-preserved c = sym (rw (← c.is_digit.ensures, c.if-not-is_digit.false)
     at (digits_next c.args.text.now
     c.loop-i.i c.loop-i-test.true))
     ∙ c.loop-i.invariant
