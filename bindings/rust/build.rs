@@ -1,5 +1,5 @@
 // Links libr6501q.a: from the folder that R6501Q_LIBRARY names, which must be absolute, else from the repository's
-// target/staticlib.
+// crates/r6501q/out.
 use std::env;
 use std::path::{Path, PathBuf};
 
@@ -15,7 +15,7 @@ fn folder() -> PathBuf {
         return named;
     }
     let package = env::var_os("CARGO_MANIFEST_DIR").expect("cargo names the package's folder");
-    Path::new(&package).join("../../target/staticlib")
+    Path::new(&package).join("../../crates/r6501q/out")
 }
 
 fn main() {
@@ -25,7 +25,7 @@ fn main() {
     println!("cargo:rerun-if-changed={}", library.display());
     if !library.is_file() {
         panic!(
-            "{} is not there: run `rt staticlib r6501q` in the repository, or set R6501Q_LIBRARY to its folder",
+            "{} is not there: run `rt lib` in crates/r6501q, or set R6501Q_LIBRARY to its folder",
             library.display()
         );
     }
