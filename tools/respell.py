@@ -16,11 +16,14 @@ import re
 import sys
 
 WORD = re.compile(r"[^\s(){}.;,@\"«»`\[\]]+")
-DECLARED = re.compile(r"^ *(?:(?:abbrev|unfoldable|pub|ruleset) +)*([^\s(){}.;,@\"«»:]+)(?: \{[^{}\n]*\})* +: ")
+DECLARED = re.compile(r"^ *(?:(?:abbrev|unfoldable|pub|ruleset) +)*([^\s(){}.;,@\"«»:]+)(?: \{[^{}\n]*\})*(?: +: |$)")
 USE = re.compile(r"^(?:pub )?(?:ghost )?use ([^\s;{]+?)\.\{([^}]*)\}")
 STRING = re.compile(r'"(?:[^"\\\n]|\\.)*"')
 # Lemmas that port.py spelled as a definition now is.
 LEMMAS = {"byte_put": "byte_put_lem", "host_called": "host_called_lem"}
+# Words of the papers in comments, which are spelled like a lemma.
+ENGLISH = ("shift-register", "under-run")
+COMMENT = re.compile(r"\s*(?:--|//)")
 # Definitions that port.py respelled, which edits have as they were.
 TURNED = (
     "addressOf afterCall allOf answerOf anyOf atB atEntry atExit atStart bitOf bitsOf byteAt byteOf bytesOf callOf countA"
@@ -47,8 +50,8 @@ def read(path):
 
 def snake(name):
     name = re.sub(r"-([0-9A-F]{2})$", lambda it: "_" + it[1].lower(), name)
-    name = re.sub(r"(?<=[a-z0-9])([A-Z])", lambda it: "_" + it[1].lower(), name)
-    return name.replace("-", "_")
+    name = re.sub(r"([a-z0-9])([A-Z])", r"\1_\2", name)
+    return re.sub(r"([A-Z])([A-Z][a-z])", r"\1_\2", name).replace("-", "_").lower()
 
 
 def table():
@@ -70,7 +73,11 @@ def table():
 
 
 def turned(text, rows):
-    return WORD.sub(lambda it: rows.get(it[0], it[0]), text)
+    def line(it):
+        own = {k: v for k, v in rows.items() if k not in ENGLISH} if COMMENT.match(it) else rows
+        return WORD.sub(lambda word: own.get(word[0], word[0]), it)
+
+    return "\n".join(map(line, text.split("\n")))
 
 
 def turned_source(text, rows):

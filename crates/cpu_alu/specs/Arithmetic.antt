@@ -4,7 +4,7 @@ use Rattle.std.specs.Bool.{beq}
 use Rattle.std.proofs.Math.IntN.{sub_ℕ}
 use Rattle.std.specs.Int.Signed.{non_neg}
 use Rattle.bits.specs.Bits.{bit, one_where, wrapping8}
-use Rattle.cpu_alu.specs.Status.{with_nZ, with_v, with_c, computed}
+use Rattle.cpu_alu.specs.Status.{with_nz, with_v, with_c, computed}
 use Rattle.cpu_alu.specs.declared.Status.{Status}
 use Rattle.cpu_alu.specs.declared.Computed.{Computed}
 
@@ -93,4 +93,4 @@ sbc_of a m s =
 
 -- CMP, CPX, CPY: N and Z of the difference, C where the register r is not below m; V is kept
 unfoldable pub compare_of : ℕ → ℕ → Status → Status
-compare_of r m s = with_nZ (wrapping8 r (256 - m)) (with_c (leb m r) s)
+compare_of r m s = with_nz (wrapping8 r (256 - m)) (with_c (leb m r) s)

@@ -19,8 +19,8 @@ unfoldable pub pushed : Status → Bool → ℕ
 pushed s brk = packed s + 32 + one_where brk * 16
 
 -- N is bit 7 of a byte, Z says that it is 0; the others are kept
-abbrev pub with_nZ : ℕ → Status → Status
-with_nZ x s = record { n = bit 7 x; v = s.v; d = s.d; i = s.i; z = eqb x 0; c = s.c }
+abbrev pub with_nz : ℕ → Status → Status
+with_nz x s = record { n = bit 7 x; v = s.v; d = s.d; i = s.i; z = eqb x 0; c = s.c }
 
 -- one flag as given, the others kept
 abbrev pub with_v : Bool → Status → Status
@@ -37,4 +37,4 @@ with_c on s = record { n = s.n; v = s.v; d = s.d; i = s.i; z = s.z; c = on }
 
 -- a value with N and Z of it, the other flags as in the status
 abbrev pub computed : ℕ → Status → Computed
-computed x s = record { value = x; status = with_nZ x s }
+computed x s = record { value = x; status = with_nz x s }

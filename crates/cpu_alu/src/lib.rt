@@ -2,7 +2,7 @@
 #![tactic(auto)]
 
 ghost use Rattle.std.specs.Prelude.{◌≡◌, true, false};
-ghost use Rattle.cpu_alu.specs.Status.{packed, unpacked, pushed, with_nZ, with_v, with_d, with_i, with_c, computed};
+ghost use Rattle.cpu_alu.specs.Status.{packed, unpacked, pushed, with_nz, with_v, with_d, with_i, with_c, computed};
 
 use bits::one_where;
 
@@ -64,7 +64,7 @@ impl Status {
 
     // N and Z of a value: loads, transfers and pulls.
     pub fn with_nz(self, value: u8) -> Status
-        ensures { result ≡ with_nZ value self }
+        ensures { result ≡ with_nz value self }
     {
         Status {
             n: value / 128 % 2 == 1,

@@ -44,8 +44,8 @@ affect_c =
     ∷ Read Sbc ∷ []
 
 -- 001, 3.8.2, of Z; 001, 3.8.7, of N: the same instructions
-abbrev pub affect_nZ : List Operation
-affect_nZ =
+abbrev pub affect_nz : List Operation
+affect_nz =
     Read Adc ∷ Read And ∷ Modify Asl ∷ Read Bit ∷ Read Cmp ∷ Read Cpx ∷ Read Cpy ∷ Modify Dec ∷ Register Dex
     ∷ Register Dey ∷ Read Eor
     ∷ Modify Inc ∷ Register Inx ∷ Register Iny ∷ Read Lda ∷ Read Ldx ∷ Read Ldy ∷ Modify Lsr ∷ Read Ora ∷ Pull Pla
@@ -70,11 +70,11 @@ Unless false A = A
 
 -- the flags t after operation o, where they were s: one whose list does not name o is kept
 pub record Kept (o : Operation) (s t : Status) : Type 0 where
-  pub n : Unless (listed affect_nZ o) (t.n ≡ s.n)
+  pub n : Unless (listed affect_nz o) (t.n ≡ s.n)
   pub v : Unless (listed affect_v o) (t.v ≡ s.v)
   pub d : Unless (listed affect_d o) (t.d ≡ s.d)
   pub i : Unless (listed affect_i o) (t.i ≡ s.i)
-  pub z : Unless (listed affect_nZ o) (t.z ≡ s.z)
+  pub z : Unless (listed affect_nz o) (t.z ≡ s.z)
   pub c : Unless (listed affect_c o) (t.c ≡ s.c)
 
 pub unlisted : {A : Type 0} (b : Bool) → b ≡ false → Unless b A → A
@@ -151,10 +151,10 @@ unless_same false a = a
 
 pub same_kept : (o : Operation) (s t : Status) → t ≡ s → Kept o s t
 same_kept o s t e = record {
-  n = unless_same (listed affect_nZ o) (rw e);
+  n = unless_same (listed affect_nz o) (rw e);
   v = unless_same (listed affect_v o) (rw e);
   d = unless_same (listed affect_d o) (rw e);
   i = unless_same (listed affect_i o) (rw e);
-  z = unless_same (listed affect_nZ o) (rw e);
+  z = unless_same (listed affect_nz o) (rw e);
   c = unless_same (listed affect_c o) (rw e);
 }

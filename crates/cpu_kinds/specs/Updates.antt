@@ -1,6 +1,6 @@
 -- One register as given, or with the flags, the others kept.
 use Rattle.std.specs.Prelude.{ℕ}
-use Rattle.cpu_alu.specs.Status.{with_nZ}
+use Rattle.cpu_alu.specs.Status.{with_nz}
 use Rattle.cpu_alu.specs.declared.Status.{Status}
 use Rattle.cpu_alu.specs.declared.Computed.{Computed}
 use Rattle.cpu_access.specs.declared.CpuRegisters.{CpuRegisters}
@@ -26,10 +26,10 @@ into_y k r = record { a = r.a; x = r.x; y = k.value; sp = r.sp; pc = r.pc; statu
 
 -- loads and transfers: N and Z of the byte
 abbrev pub load_a : ℕ → CpuRegisters → CpuRegisters
-load_a v r = record { a = v; x = r.x; y = r.y; sp = r.sp; pc = r.pc; status = with_nZ v r.status }
+load_a v r = record { a = v; x = r.x; y = r.y; sp = r.sp; pc = r.pc; status = with_nz v r.status }
 
 abbrev pub load_x : ℕ → CpuRegisters → CpuRegisters
-load_x v r = record { a = r.a; x = v; y = r.y; sp = r.sp; pc = r.pc; status = with_nZ v r.status }
+load_x v r = record { a = r.a; x = v; y = r.y; sp = r.sp; pc = r.pc; status = with_nz v r.status }
 
 abbrev pub load_y : ℕ → CpuRegisters → CpuRegisters
-load_y v r = record { a = r.a; x = r.x; y = v; sp = r.sp; pc = r.pc; status = with_nZ v r.status }
+load_y v r = record { a = r.a; x = r.x; y = v; sp = r.sp; pc = r.pc; status = with_nz v r.status }

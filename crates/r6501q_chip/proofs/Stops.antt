@@ -22,7 +22,7 @@ use Rattle.r6501q_cpu.specs.declared.Processed.TheVariants as processed
 use Rattle.cpu_access.specs.declared.waiting.Waiting.{Waiting}
 use Rattle.cpu_access.specs.declared.waiting.Waiting.TheVariants.{Nothing, Byte}
 use Rattle.r6501q_cpu.specs.Processor.{waited_by, whole_instruction, opcode_at, irq_due, start_of, processor_of}
-use Rattle.r6501q_cpu.proofs.Undefined.{undefined_opcode, defined-opcode}
+use Rattle.r6501q_cpu.proofs.Undefined.{undefined_opcode, defined_opcode}
 use Rattle.r6501q_clock.specs.declared.Clocked.{Clocked}
 use Rattle.r6501q_clock.specs.Clock.{halt_stop, before_cpu, finished, recorded, clock_of}
 use Rattle.r6501q_chip.specs.R6501q.{World, clock_outcome, r6501q, plain}
@@ -48,7 +48,7 @@ instruction_undefined s memory = by_opcode (decode_of (opcode_at s memory)) refl
   where
     done : (e : Entry) → decode_of (opcode_at s memory) ≡ decoded.Defined e → (p : Processed)
         → whole_instruction s memory ≡ p → stops_with_six p ≡ false
-    done e d (processed.Stopped number) u = absurd (defined-opcode s memory e number d u)
+    done e d (processed.Stopped number) u = absurd (defined_opcode s memory e number d u)
     done e d (processed.Done n) u = refl
 
     by_opcode : (d : Decoded) → decode_of (opcode_at s memory) ≡ d

@@ -65,10 +65,10 @@ more_rounds spent other k (suc n) s p answers memory h =
     (rw (length-append answers (r.value ∷ [])) (omega arith)))))
 
 -- no instruction asks more than five times: what stands for a sixth question is never met
-pub bound-unmet :
+pub bound_unmet :
     (spent : Processed) (k : ℕ) (s : State) (memory : List ℕ)
     → instruction_from spent (6 + k) s s.peripherals [] memory ≡ answered_instruction s memory
 unfolding answered_instruction
-bound-unmet spent k s memory =
+bound_unmet spent k s memory =
     let e : 6 + k ≡ suc (5 + k) = omega arith in
     rw e (more_rounds spent (Stopped undefined_stop) k 5 s s.peripherals [] memory (omega arith))

@@ -65,10 +65,10 @@ concluded : (s : State) (p : Peripherals) (pushes : List Write) (x : Ending) (l 
 concluded s p pushes x l e = rw e tt
 
 -- an instruction whose opcode is defined is not undefined
-pub defined-opcode :
+pub defined_opcode :
     (s : State) (memory : List ℕ) (e : Entry) (number : ℕ) → decode_of (opcode_at s memory) ≡ decoded.Defined e
     → whole_instruction s memory ≡ Stopped number → ⊥
-defined-opcode s memory e number defined same =
+defined_opcode s memory e number defined same =
     let file = register_file s.last.ports in
     let t =
     operation_accesses e.operation e.mode e.length (with_pc (next_address s.cpu.pc) (registers_of s.cpu)) in

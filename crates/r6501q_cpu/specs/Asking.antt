@@ -71,7 +71,7 @@ after_round goOn (Answered r) = goOn r
 
 -- Each question is answered in turn, and the instruction worked on with the answer. No instruction asks more than five
 -- times (`asks_end` of `cpu/proofs/Laws.antt`): what stands for a sixth question, `spent`, is never met, and may be
--- anything (`bound-unmet` of `r6501q_cpu/proofs/Asks.antt`).
+-- anything (`bound_unmet` of `r6501q_cpu/proofs/Asks.antt`).
 unfoldable pub instruction_from : Processed → ℕ → State → Peripherals → List ℕ → List ℕ → Processed
 instruction_from spent zero s p answers memory = spent
 instruction_from spent (suc n) s p answers memory =

@@ -85,7 +85,7 @@ unfoldable pub whole_instruction : State → List ℕ → Processed
 whole_instruction s memory = processed_after s (performed_in s memory (instruction_accesses (registers_of s.cpu)))
 
 -- The opcode is the byte at PC: a register's, a port's by step 1's levels, or the memory's. The instruction is
--- undefined just where this opcode is (`undefined_opcode`, `defined-opcode` of `r6501q_cpu/proofs/Undefined.antt`).
+-- undefined just where this opcode is (`undefined_opcode`, `defined_opcode` of `r6501q_cpu/proofs/Undefined.antt`).
 unfoldable pub opcode_at : State → List ℕ → ℕ
 opcode_at s memory =
     cond (is_register s.cpu.pc) (register_value s.peripherals s.last.ports false s.cpu.pc)

@@ -294,7 +294,7 @@ unfolding with_bit set_where flip_where input_count ticks_of in_force down_a cou
     with_flag instruction_accesses reset_accesses interrupt_accesses
 p5_start = refl
 
--- after clock 194 one bit is left, and after clock 195 it is idle, with an under_run; the line's six edges are its
+-- after clock 194 one bit is left, and after clock 195 it is idle, with an under-run; the line's six edges are its
 -- records
 pub p5_last_bit : (plains (system Nowhere) 194 sender_start).state.peripherals.transmitter.left ≡ 1
 unfolding with_bit set_where flip_where input_count ticks_of in_force down_a counts_a clock_a lower_a upper_a load_counter_a reload_b

@@ -1,4 +1,4 @@
--- Document 02, U1, of whole clocks as the chip makes them: a byte sent and a byte received in shift_register mode, each
+-- Document 02, U1, of whole clocks as the chip makes them: a byte sent and a byte received in shift-register mode, each
 -- register write by an instruction, each level by the pin list, each drive as it is recorded.
 use mathlib.Core.Path.{◌≡◌, refl}
 use mathlib.Core.Bool.{Bool, true, false}
@@ -90,7 +90,7 @@ then_sccr_again = 0xA9 ∷ 0xA0 ∷ 0x85 ∷ 0x15 ∷ 0x4C ∷ 0x52 ∷ 0x00 ∷
 abbrev pub driven_a : ℕ → ℕ
 driven_a a = 0xFFFFFF00 + a
 
--- a receiver that is on and in shift_register mode, while the CPU jumps to itself
+-- a receiver that is on and in shift-register mode, while the CPU jumps to itself
 abbrev pub shift_receiver : State
 shift_receiver = with_peripherals (after_reset 0) (record {
   ports = fresh_ports;
@@ -115,7 +115,7 @@ receiver_start = start_with shift_receiver (replicate 0x40 0 ++ (0x4C ∷ 0x40 �
 
 pub record ShiftRegister : Type 0 where
   -- 41h put on clock 18 with SCCR A0h and latch 0: taken on 19, shifted on each second clock; PA4 is low and high
-  -- for each bit; after clock 35 an under_run, both lines high
+  -- for each bit; after clock 35 an under-run, both lines high
   pub sent_clocks : (plains (system Nowhere) 35 (shift_start then_nothing)).output_clocks ≡ tabulate (λ k. k) 17 19
   pub sent_words : (plains (system Nowhere) 35 (shift_start then_nothing)).output_words
       ≡ driven_a 0xEF ∷ driven_a 0xFF ∷ driven_a 0xAF ∷ driven_a 0xBF ∷ driven_a 0xAF ∷ driven_a 0xBF ∷ driven_a 0xAF

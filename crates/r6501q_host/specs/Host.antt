@@ -56,8 +56,8 @@ cpu_from_host h = record {
 abbrev pub due_from_host : HostDue → Due
 due_from_host h = record { reset = flag_of h.reset; nmi = flag_of h.nmi }
 
-abbrev pub counter_bFrom_host : HostCounterB → CounterB
-counter_bFrom_host h = record { count = h.count; latchb = h.latchb; latchc = h.latchc; turnc = flag_of h.turnc }
+abbrev pub counter_b_from_host : HostCounterB → CounterB
+counter_b_from_host h = record { count = h.count; latchb = h.latchb; latchc = h.latchc; turnc = flag_of h.turnc }
 
 abbrev pub receiver_from_host : HostReceiver → Receiver
 receiver_from_host h = record {
@@ -74,7 +74,7 @@ abbrev pub peripherals_from_host : HostPeripherals → Peripherals
 peripherals_from_host h = record {
   ports = h.ports;
   countera = h.countera;
-  counterb = counter_bFrom_host h.counterb;
+  counterb = counter_b_from_host h.counterb;
   control = h.control;
   serial = h.serial;
   transmitter = h.transmitter;

@@ -7,7 +7,7 @@ ghost use Rattle.refusals.specs.Refusals.{refusal_of};
 ghost use Rattle.r6501q_chip.specs.R6501q.{r6501q_limits};
 ghost use Rattle.r6501q_host.specs.Host.{waiting_from_host, cpu_from_host, waiting_fits, host_waiting, host_cpu};
 ghost use Rattle.r6501q_host.specs.Host.{due_from_host};
-ghost use Rattle.r6501q_host.specs.Host.{counter_bFrom_host, receiver_from_host, levels_from_host, peripherals_from_host};
+ghost use Rattle.r6501q_host.specs.Host.{counter_b_from_host, receiver_from_host, levels_from_host, peripherals_from_host};
 ghost use Rattle.r6501q_host.specs.Host.{state_from_host, flags_fit, halt_of, host_due, host_counter_b, host_receiver};
 ghost use Rattle.r6501q_host.specs.Host.{host_levels, host_peripherals, host_state, host_result, host_load_result};
 ghost use Rattle.r6501q_host.specs.Host.{host_total_result, host_latch_result, host_refused};
@@ -175,7 +175,7 @@ fn due_from(h: HostDue) -> Due
 }
 
 fn counter_b_from(h: HostCounterB) -> CounterB
-    ensures { result ≡ counter_bFrom_host h }
+    ensures { result ≡ counter_b_from_host h }
 {
     CounterB {
         count: h.count,

@@ -1,17 +1,17 @@
 -- 001, C.1, "I/O and internal register addresses".
 use Rattle.std.specs.Prelude.{ℕ}
 
-abbrev pub port_aAddress : ℕ
-port_aAddress = 0x00
+abbrev pub port_a_address : ℕ
+port_a_address = 0x00
 
-abbrev pub port_bAddress : ℕ
-port_bAddress = 0x01
+abbrev pub port_b_address : ℕ
+port_b_address = 0x01
 
-abbrev pub port_cAddress : ℕ
-port_cAddress = 0x02
+abbrev pub port_c_address : ℕ
+port_c_address = 0x02
 
-abbrev pub port_dAddress : ℕ
-port_dAddress = 0x03
+abbrev pub port_d_address : ℕ
+port_d_address = 0x03
 
 -- "Clear Int Flag (Bits 0-3 only ..)"
 abbrev pub flag_clear_address : ℕ
@@ -37,25 +37,25 @@ abbrev pub serial_data_address : ℕ
 serial_data_address = 0x17
 
 -- the lower byte of counter A, or of its latch
-abbrev pub lower_aAddress : ℕ
-lower_aAddress = 0x18
+abbrev pub lower_a_address : ℕ
+lower_a_address = 0x18
 
 -- the upper byte
-abbrev pub upper_aAddress : ℕ
-upper_aAddress = 0x19
+abbrev pub upper_a_address : ℕ
+upper_a_address = 0x19
 
 -- the upper latch, and the counter from its latch
-abbrev pub start_aAddress : ℕ
-start_aAddress = 0x1A
+abbrev pub start_a_address : ℕ
+start_a_address = 0x1A
 
 -- the lower byte of counter B, or of latch B
-abbrev pub lower_bAddress : ℕ
-lower_bAddress = 0x1C
+abbrev pub lower_b_address : ℕ
+lower_b_address = 0x1C
 
 -- the upper byte, and latch C from latch B
-abbrev pub upper_bAddress : ℕ
-upper_bAddress = 0x1D
+abbrev pub upper_b_address : ℕ
+upper_b_address = 0x1D
 
 -- the upper latch, and the counter from its latch
-abbrev pub start_bAddress : ℕ
-start_bAddress = 0x1E
+abbrev pub start_b_address : ℕ
+start_b_address = 0x1E

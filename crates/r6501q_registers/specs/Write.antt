@@ -9,11 +9,11 @@ use Rattle.r6501q_state.specs.declared.state.Peripherals.{Peripherals}
 use Rattle.r6501q_state.specs.Copies.{with_counter_a, with_counter_b, with_control, with_sent, with_progress, flagged}
 use Rattle.r6501q_state.specs.Copies.{scsr_set, latched_a}
 use Rattle.r6501q_state.specs.Control.{mode_in_force, mode_b}
-use Rattle.r6501q_registers.specs.Addresses.{port_aAddress, port_bAddress, port_cAddress, port_dAddress}
+use Rattle.r6501q_registers.specs.Addresses.{port_a_address, port_b_address, port_c_address, port_d_address}
 use Rattle.r6501q_registers.specs.Addresses.{flag_clear_address, interrupt_enable_address, mode_control_address}
 use Rattle.r6501q_registers.specs.Addresses.{serial_control_address, serial_status_address, serial_data_address}
-use Rattle.r6501q_registers.specs.Addresses.{lower_aAddress, upper_aAddress, start_aAddress, lower_bAddress}
-use Rattle.r6501q_registers.specs.Addresses.{upper_bAddress, start_bAddress}
+use Rattle.r6501q_registers.specs.Addresses.{lower_a_address, upper_a_address, start_a_address, lower_b_address}
+use Rattle.r6501q_registers.specs.Addresses.{upper_b_address, start_b_address}
 use Rattle.r6501q_registers.specs.Copies.{latched_b, latched_c, latched_d, with_ier, with_mcr, with_sccr}
 
 -- 1Eh, "writing .. 1Eh sets the upper latch, loads the counter, clears the flag"
@@ -49,7 +49,7 @@ entering p c =
     latched_a (with_control p c)
     (set_where 4 (eqb (mode_in_force c) 1 && not (eqb (mode_in_force p.control) 1)) p.ports.a)
 
--- 01, Serial channel: "Writing SCCR zeroes the progress of each half that the new value has off or in shift_register
+-- 01, Serial channel: "Writing SCCR zeroes the progress of each half that the new value has off or in shift-register
 -- mode."; 02, U1: "A write of SCCR that changes a half's mode zeroes its progress too."
 abbrev pub zeroed : Peripherals → ℕ → ℕ → Peripherals
 zeroed p old sccr =
@@ -74,20 +74,20 @@ kept_flags v ifr = kept_flag 3 v (kept_flag 2 v (kept_flag 1 v (kept_flag 0 v if
 -- .. ignore writes".
 unfoldable pub write_of : Peripherals → ℕ → ℕ → Peripherals
 write_of p at v =
-    cond (eqb at start_bAddress) (start_b p v)  -- 1Eh
-    (cond (eqb at upper_bAddress) (with_counter_b p (copy_b (upper_b p.counterb v)))  -- 1Dh
-    (cond (eqb at lower_bAddress) (with_counter_b p (lower_b p.counterb v))  -- 1Ch
-    (cond (eqb at start_aAddress) (start_a p v)  -- 1Ah
-    (cond (eqb at upper_aAddress) (with_counter_a p (upper_a p.countera v))  -- 19h
-    (cond (eqb at lower_aAddress) (with_counter_a p (lower_a p.countera v))  -- 18h
+    cond (eqb at start_b_address) (start_b p v)  -- 1Eh
+    (cond (eqb at upper_b_address) (with_counter_b p (copy_b (upper_b p.counterb v)))  -- 1Dh
+    (cond (eqb at lower_b_address) (with_counter_b p (lower_b p.counterb v))  -- 1Ch
+    (cond (eqb at start_a_address) (start_a p v)  -- 1Ah
+    (cond (eqb at upper_a_address) (with_counter_a p (upper_a p.countera v))  -- 19h
+    (cond (eqb at lower_a_address) (with_counter_a p (lower_a p.countera v))  -- 18h
     (cond (eqb at serial_data_address) (write_data p v)  -- 17h
     (cond (eqb at serial_status_address) (write_scsr p v)  -- 16h
     (cond (eqb at serial_control_address) (write_sccr p v)  -- 15h
     (cond (eqb at mode_control_address) (write_mcr p v)  -- 14h
     (cond (eqb at interrupt_enable_address) (with_control p (with_ier p.control v))  -- 12h
     (cond (eqb at flag_clear_address) (flagged p (kept_flags v p.control.ifr))  -- 10h
-    (cond (eqb at port_dAddress) (latched_d p v)  -- 03h
-    (cond (eqb at port_cAddress) (latched_c p v)  -- 02h
-    (cond (eqb at port_bAddress) (latched_b p v)  -- 01h
-    (cond (eqb at port_aAddress) (latched_a p v)  -- 00h
+    (cond (eqb at port_d_address) (latched_d p v)  -- 03h
+    (cond (eqb at port_c_address) (latched_c p v)  -- 02h
+    (cond (eqb at port_b_address) (latched_b p v)  -- 01h
+    (cond (eqb at port_a_address) (latched_a p v)  -- 00h
     p)))))))))))))))

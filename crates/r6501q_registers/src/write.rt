@@ -74,7 +74,7 @@ fn entering_mode(mut p: Peripherals, control: Control) -> Peripherals
     p
 }
 
-// Progress zeroed in each half that SCCR has off or in shift_register mode, or had in it.
+// Progress zeroed in each half that SCCR has off or in shift-register mode, or had in it.
 fn zero_progress(mut p: Peripherals, old: u8, sccr: u8) -> Peripherals
     ensures { result ≡ zeroed p old sccr }
 {

@@ -6,13 +6,13 @@ use Rattle.cpu.specs.declared.Outcome.{Outcome}
 use Rattle.cpu.specs.declared.Outcome.TheVariants.{Stopped, Asked, Done}
 use Rattle.cpu.specs.InstructionInCode.{instruction_of}
 use Rattle.r6501q_state.specs.declared.state.State.{State}
-use Rattle.r6501q_registers.specs.Addresses.{serial_data_address, start_bAddress}
+use Rattle.r6501q_registers.specs.Addresses.{serial_data_address, start_b_address}
 use Rattle.r6501q_registers.specs.Read.{register_value}
 
 -- a read of the register has no effect, and what it reads as stays in a span; left out are 17h to 1Eh: the data
 -- received, the counters, and 1Bh between them
 unfoldable pub steady_at : ℕ → Bool
-steady_at a = ltb a serial_data_address || ltb start_bAddress a
+steady_at a = ltb a serial_data_address || ltb start_b_address a
 
 -- an instruction asks for such a register, and wrote nothing before
 unfoldable pub steady_ask : Ask → Bool

@@ -24,7 +24,7 @@ module _ (p : Peripherals) where
           ∙ bit_put 6 p.ports.a (line p.transmitter)
       by false = bit_put 6 p.ports.a (line p.transmitter)
 
-  -- "PA4's drive is its clock", of a transmitter that is on and in shift_register mode
+  -- "PA4's drive is its clock", of a transmitter that is on and in shift-register mode
   pub clock_driven : bit 7 p.control.sccr ≡ true → transmitter_shifts p.control.sccr ≡ true
       → bit 4 (drive_a p) ≡ shift_clock p.transmitter
   unfolding drive_a

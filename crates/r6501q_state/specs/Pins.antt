@@ -14,7 +14,7 @@ use Rattle.r6501q_state.specs.declared.state.State.{State}
 use Rattle.r6501q_state.specs.State.{fresh_ports, fresh_control}
 use Rattle.r6501q_state.specs.Copies.{waiting_at, flagged}
 
--- 02, U1, of a transmitter in shift_register mode: "PA4's drive is its clock"
+-- 02, U1, of a transmitter in shift-register mode: "PA4's drive is its clock"
 abbrev pub with_shift_clock : ℕ → Transmitter → ℕ → ℕ
 with_shift_clock sccr t a = cond (transmitter_shifts sccr) (with_bit 4 (shift_clock t) a) a
 

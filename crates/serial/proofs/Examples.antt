@@ -1,4 +1,4 @@
--- P5 and P6 of document 01; a byte sent and one received in shift_register mode (02, U1).
+-- P5 and P6 of document 01; a byte sent and one received in shift-register mode (02, U1).
 use mathlib.Core.Path.{◌≡◌, refl}
 use mathlib.Core.Bool.{Bool, true, false, cond}
 use mathlib.Core.List.{List, [], ◌∷◌}
@@ -40,7 +40,7 @@ abbrev pub waiting : Driven
 waiting = record { counter = record { count = 0; latch = 0 }; sender = sending idle_transmitter 0 }
 
 -- P5, "41h, 8 bits, no parity, latch 0: 176 clocks from start to idle": SCCR 80h. The first clock takes the byte, the
--- start bit is on the line; 175 clocks later one bit is left; 176 clocks later it is idle, with an under_run.
+-- start bit is on the line; 175 clocks later one bit is left; 176 clocks later it is idle, with an under-run.
 pub p5_start : (mode : ℕ)
     → (driven_for 1 mode 0x80 0x41 waiting).sender.transmitter ≡ record { left = 11; phase = 0; register = 0x682 }
 unfolding in_force holds_a clock_a counts_a down_a ticks_of transmitter_clock send_tick idle_tick taken framed sent_bits frame_bits
@@ -71,7 +71,7 @@ pub p6 : (register scsr received : ℕ) →
 unfolding ticks_of receiver_clock receiver_asynchronous receive_tick looked start_detected
 p6 register scsr received = refl
 
--- ---- shift_register mode
+-- ---- shift-register mode
 
 -- SCCR A0h, latch 0, 41h waiting: the lines PA6 and PA4 and what is left after n clocks
 pub record Lines : Type 0 where
@@ -109,7 +109,7 @@ unfolding in_force holds_a clock_a counts_a down_a ticks_of transmitter_clock se
     frame_end taken framed sent_bits with_bit line shift_clock
 shift_last mode = refl
 
--- sixteen clocks after the take: an under_run, both lines high
+-- sixteen clocks after the take: an under-run, both lines high
 pub shift_idle : (mode : ℕ)
     → (shifted_for 17 mode ≡ lines true true 0)
     × ((driven_for 17 mode 0xA0 0x41 waiting).sender ≡ sending idle_transmitter 0xC0)

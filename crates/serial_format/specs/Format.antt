@@ -17,7 +17,7 @@ transmitter_asynchronous sccr = bit 7 sccr && not (transmitter_shifts sccr)
 unfoldable pub receiver_asynchronous : ℕ → Bool
 receiver_asynchronous sccr = bit 6 sccr && not (receiver_shifts sccr)
 
--- 02, U1: a receiver that is on and in shift_register mode
+-- 02, U1: a receiver that is on and in shift-register mode
 unfoldable pub receiver_shifting : ℕ → Bool
 receiver_shifting sccr = bit 6 sccr && receiver_shifts sccr
 
@@ -25,7 +25,7 @@ receiver_shifting sccr = bit 6 sccr && receiver_shifts sccr
 unfoldable pub holds_a : ℕ → Bool
 holds_a sccr = bit 7 sccr || receiver_asynchronous sccr
 
--- 01, Serial channel: "Writing SCCR zeroes the progress of each half that the new value has off or in shift_register
+-- 01, Serial channel: "Writing SCCR zeroes the progress of each half that the new value has off or in shift-register
 -- mode." 02, U1: "A write of SCCR that changes a half's mode zeroes its progress too." What is left: which progress is
 -- kept.
 unfoldable pub keeps_transmitter : ℕ → ℕ → Bool
@@ -57,7 +57,7 @@ parity_and_stops sccr bits = cond (has_parity sccr) (parity_bit sccr bits ∷ tr
 unfoldable pub frame_bits : ℕ → ℕ → List Bool
 frame_bits sccr byte = false ∷ data_bits sccr byte ++ parity_and_stops sccr (data_bits sccr byte)
 
--- the ticks that a bit lasts: of a frame 16; 02, U1, in shift_register mode: "shifted at each tick that makes the phase
+-- the ticks that a bit lasts: of a frame 16; 02, U1, in shift-register mode: "shifted at each tick that makes the phase
 -- even"
 abbrev pub pace_in : Bool → ℕ
 pace_in shifts = cond shifts 2 16

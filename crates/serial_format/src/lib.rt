@@ -33,14 +33,14 @@ pub fn transmitter_on(sccr: u8) -> bool
     sccr / TRANSMITTER_ON % 2 == 1
 }
 
-// Whether the transmitter, on or off, is in shift_register mode.
+// Whether the transmitter, on or off, is in shift-register mode.
 pub fn transmitter_shifts(sccr: u8) -> bool
     ensures { result ≡ transmitter_shifts sccr }
 {
     sccr / TRANSMITTER_SHIFTS % 2 == 1
 }
 
-// Whether the receiver, on or off, is in shift_register mode.
+// Whether the receiver, on or off, is in shift-register mode.
 fn receiver_shifts(sccr: u8) -> bool
     ensures { result ≡ receiver_shifts sccr }
 {
@@ -54,7 +54,7 @@ pub fn receiver_asynchronous(sccr: u8) -> bool
     (sccr / RECEIVER_ON % 2 == 1) & !receiver_shifts(sccr)
 }
 
-// Whether the receiver is on and in shift_register mode.
+// Whether the receiver is on and in shift-register mode.
 pub fn receiver_shifting(sccr: u8) -> bool
     ensures { result ≡ receiver_shifting sccr }
 {

@@ -73,7 +73,7 @@ top_in_turn register levels h g =
     ∙ ap (λ k. k + number_of_bits levels) (div-eq_of_lt old)
     ∙ zero-add (number_of_bits levels)
 
--- ---- eight rises in shift_register mode
+-- ---- eight rises in shift-register mode
 
 -- rises of PA4 with these levels of PA7
 abbrev pub risen : List Bool → Receiving → Receiving

@@ -1,4 +1,4 @@
--- 01, Serial channel: the receiver; 02, U1: in shift_register mode.
+-- 01, Serial channel: the receiver; 02, U1: in shift-register mode.
 use Rattle.std.specs.Prelude.{Bool, true, false, ◌&&◌, ◌||◌, not, cond, ℕ, ◌+◌, ◌-◌, ◌*◌, ◌/◌, ◌%◌, ◌^◌, leb, ltb, eqb}
 use Rattle.std.specs.Bool.{beq}
 use Rattle.bits.specs.Bits.{bit, one_where, set_where}
@@ -110,7 +110,7 @@ unfoldable pub receive_rise : Receiver → ℕ → ℕ → Bool → Receiving
 receive_rise r scsr received high = ended_at_last (shifted_at_rise r high) scsr received
 
 -- 01, One clock, 3, for the receiver: asynchronous it goes by ticks, which are none or one in a clock; 02, U1: in
--- shift_register mode by a rise of PA4
+-- shift-register mode by a rise of PA4
 unfoldable pub receiver_clock : Receiver → Ticks → Bool → ℕ → ℕ → ℕ → Bool → Receiving
 receiver_clock r ticks rise sccr scsr received high =
     cond (not (eqb ticks.0 0) && receiver_asynchronous sccr) (receive_tick r sccr scsr received high)

@@ -248,7 +248,7 @@ impl Receiver {
         self.keep(byte, status, scsr, received)
     }
 
-    // A rise of PA4, in shift_register mode.
+    // A rise of PA4, in shift-register mode.
     fn rise(mut self, scsr: u8, received: u8, high: bool) -> Receiving
         ensures { result ≡ receive_rise self scsr received high }
     {

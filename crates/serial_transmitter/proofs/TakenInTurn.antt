@@ -1,5 +1,5 @@
 -- 02, U1: "The frame and shift rules share one statement about bits taken in turn." Of any bits, at either pace: 16
--- ticks a bit in an asynchronous frame, 2 in a byte in shift_register mode.
+-- ticks a bit in an asynchronous frame, 2 in a byte in shift-register mode.
 use mathlib.Core.Path.{◌≡◌, refl, ap, ◌∙◌, sym, subst}
 use mathlib.Core.Logic.{◌≢◌}
 use mathlib.Core.Bool.{Bool, true, false, cond}

@@ -1,4 +1,4 @@
--- 01, Serial channel: the transmitter; 02, U1: in shift_register mode.
+-- 01, Serial channel: the transmitter; 02, U1: in shift-register mode.
 use Rattle.std.specs.Prelude.{Bool, true, false, ◌&&◌, ◌||◌, not, cond, List, ℕ, ◌+◌, ◌-◌, ◌/◌, ◌%◌, leb, ltb, eqb, length}
 use Rattle.bits.specs.Bits.{bit, with_bit}
 use Rattle.bits.specs.Lists.{bits_of, number_of_bits}
@@ -8,7 +8,7 @@ use Rattle.serial_transmitter.specs.declared.Sending.{Sending}
 use Rattle.serial_format.specs.ScsrBits.{transmitter_empty, underrun}
 use Rattle.serial_format.specs.Format.{transmitter_shifts, keeps_transmitter, frame_bits, pace}
 
--- what the transmitter sends of a byte; 02, U1, in shift_register mode: "its frame the byte alone"
+-- what the transmitter sends of a byte; 02, U1, in shift-register mode: "its frame the byte alone"
 unfoldable pub sent_bits : ℕ → ℕ → List Bool
 sent_bits sccr byte = cond (transmitter_shifts sccr) (bits_of 8 byte) (frame_bits sccr byte)
 
@@ -29,7 +29,7 @@ framed sccr byte =
 unfoldable pub taken : ℕ → ℕ → ℕ → Sending
 taken sccr scsr byte = sending (framed sccr byte) (with_bit underrun false (with_bit transmitter_empty true scsr))
 
--- "with no bits left and SCSR6 clear, it takes the data"; 001, 5.3, SCSR 7: under_run is no matter of later idle ticks
+-- "with no bits left and SCSR6 clear, it takes the data"; 001, 5.3, SCSR 7: under-run is no matter of later idle ticks
 unfoldable pub idle_tick : Transmitter → ℕ → ℕ → ℕ → Sending
 idle_tick t sccr scsr byte = cond (bit transmitter_empty scsr) (sending t scsr) (taken sccr scsr byte)
 

@@ -44,7 +44,7 @@ pub fn idle_transmitter() -> Transmitter
     }
 }
 
-// A frame begun: in shift_register mode the byte alone.
+// A frame begun: in shift-register mode the byte alone.
 fn framed(sccr: u8, byte: u8) -> Transmitter
     ensures { result ≡ framed sccr byte }
 {
@@ -62,7 +62,7 @@ fn framed(sccr: u8, byte: u8) -> Transmitter
     }
 }
 
-// The data taken: the data register is empty again, and an under_run is over.
+// The data taken: the data register is empty again, and an under-run is over.
 fn take(sccr: u8, scsr: u8, byte: u8) -> Sending
     ensures { result ≡ taken sccr scsr byte }
 {
@@ -101,7 +101,7 @@ impl Transmitter {
         take(sccr, scsr, byte)
     }
 
-    // The tick that ends a frame: the next data, or an under_run.
+    // The tick that ends a frame: the next data, or an under-run.
     fn frame_end(mut self, sccr: u8, scsr: u8, byte: u8) -> Sending
         ensures { result ≡ frame_end self sccr scsr byte }
     {
