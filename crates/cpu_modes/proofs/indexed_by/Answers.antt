@@ -4,4 +4,4 @@ use Rattle.cpu_modes.proofs.indexed_by.Goals as goal
 
 pub returns : goal.returns
 unfolding indexed_by
-returns c = rw (c.crossing.ensures, c.wrapping_add_u16.ensures) refl
+returns c = rw (c.crossing.ensures, c.wrapping_add_u16.ensures.value) refl

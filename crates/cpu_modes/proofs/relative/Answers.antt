@@ -5,6 +5,6 @@ pub returns : goal.returns
 unfolding relative_to
 returns c = rw (
   ← c.displacement.ensures,
-  ← c.wrapping_add_u16-target.ensures,
+  ← c.wrapping_add_u16-target.ensures.value,
   ← c.crossing.ensures,
 )

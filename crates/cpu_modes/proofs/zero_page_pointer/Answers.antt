@@ -4,4 +4,4 @@ use Rattle.cpu_modes.proofs.zero_page_pointer.Goals as goal
 
 pub returns : goal.returns
 unfolding zero_page_pointer
-returns c = rw (c.read_address.ensures, c.wrapping_add_u8-high.ensures) refl
+returns c = rw (c.read_address.ensures, c.wrapping_add_u8-high.ensures.value) refl
