@@ -20,6 +20,7 @@ use Rattle.cpu_access.specs.declared.stack.Write.{Write}
 use Rattle.cpu_access.specs.Stack.{write_at}
 use Rattle.cpu_access.specs.Waiting.{byte_waits}
 use Rattle.cpu_access.specs.Accesses.{Accesses, ends, reads, writes, ◌>>=◌, RegisterFile, performed}
+use Rattle.cpu_access.specs.Accesses.{peripherals_read, peripherals_written}
 use Rattle.cpu_modes.specs.ModeAccesses.{Located, located, branch_target}
 use Rattle.cpu_kinds.proofs.Flags.{Kept, same_kept, read_keeps, change_keeps, pulled_keeps, register_keeps}
 use Rattle.cpu_kinds.proofs.Flags.{flag_keeps}
@@ -55,9 +56,10 @@ pub performed_ends : {S A : Type 0} (file : RegisterFile S) (memory : List ℕ) 
     → EndsIn P before t → P (performed file memory p before t).writes (performed file memory p before t).end
 unfolding performed
 performed_ends file memory P p before (ends x) q = q
-performed_ends file memory P p before (reads modify a go) q = performed_ends file memory P _ before (go _) (q _)
+performed_ends file memory P p before (reads modify a go) q =
+    performed_ends file memory P (peripherals_read file p a) before (go _) (q _)
 performed_ends file memory P p before (writes a v t) q =
-    performed_ends file memory P _ (before ++ (write_at a v ∷ [])) t q
+    performed_ends file memory P (peripherals_written file p a v) (before ++ (write_at a v ∷ [])) t q
 
 -- ---- an operand's place: nothing is written, and it is the accumulator just in that mode
 

@@ -15,7 +15,7 @@ use Rattle.cpu_opcodes.specs.Decode.{decode_of}
 use Rattle.cpu_access.specs.declared.CpuRegisters.{CpuRegisters}
 use Rattle.cpu_access.specs.Accesses.{Accesses, ends, reads, writes, ◌>>=◌}
 use Rattle.cpu_modes.specs.ModeAccesses.{Located, located, branch_target}
-use Rattle.cpu_kinds.proofs.Flags.{names_operation}
+use Rattle.cpu_kinds.proofs.Flags.{listed}
 use Rattle.cpu_operations.specs.Operations.{access_of}
 use Rattle.cpu_operations.proofs.Stores.{modifies, read_modify_write, just_eight}
 use Rattle.cpu.specs.InstructionAccesses.{Conclusion, completion, store_at, modify_accesses, branch_on}
@@ -103,6 +103,6 @@ module _ (mode : Mode) (n : ℕ) (r : CpuRegisters) where
 
 -- of each defined opcode, by the list of 001, 4.1
 pub just_eight_read_to_change : (o : ℕ) (e : Entry) (r : CpuRegisters) → decode_of o ≡ Defined e
-    → ToChange (names_operation read_modify_write e.operation && not (is_accumulator e.mode))
+    → ToChange (listed read_modify_write e.operation && not (is_accumulator e.mode))
     (operation_accesses e.operation e.mode e.length r)
 just_eight_read_to_change o e r d = rw (← just_eight o e d) (reads_to_change e.mode e.length r e.operation)
