@@ -1,9 +1,9 @@
 use Rattle.tape.proofs.TapeLaws.{check_end, check_skip, check_fault, check_last, check_on}
 use Prim.Native.Nat.{◌-◌}
-use mathlib.Core.Logic.{⊎_elim}
 use mathlib.Core.Path.{refl, sym, ◌∙◌}
 use native.Mathlib.Omega.{arith}
 use Rattle.tape.proofs.check.Goals as goal
+use Rattle.tape.proofs.check.Goals.{then-tape-place-eq-MARK+else-number-ne0+else-count-eq0, else-tape-place-eq-MARK}
 
 pub loop-place-init : goal.loop-place-init
 loop-place-init c = (omega arith, refl)
@@ -69,18 +69,19 @@ pub loop-place-smaller : goal.loop-place-smaller
 loop-place-smaller c = omega arith
 
 pub loop-place-preserved : goal.loop-place-preserved
-loop-place-preserved c = ⊎_elim (λ w. (
-  rw w.6 (omega (arith, c.loop-place.invariant.0)),
-  rw w.6 (sym (check_on c.args.tape.now
-      c.loop-place.place c.loop-place-test.true w.0.taken
-      c.loop-place.seen w.2.result w.4.result w.2.ensures w.3.left
-      w.4.ensures w.5.left) ∙ c.loop-place.invariant.1),
-)) (λ w. (
-  rw w.1 (omega (arith, c.loop-place.invariant.0)),
-  rw w.1 (sym (check_skip c.args.tape.now
-      c.loop-place.place c.loop-place-test.true w.0.left
-      c.loop-place.seen) ∙ c.loop-place.invariant.1),
-)) c.if-tape-place-eq-MARK.branch
+loop-place-preserved c =
+    elim c.if-tape-place-eq-MARK.branch [
+      then-tape-place-eq-MARK+else-number-ne0+else-count-eq0 w ↦ (
+        rw w.seen-is (omega (arith, c.loop-place.invariant.0)),
+        rw w.seen-is (sym (check_on c.args.tape.now c.loop-place.place c.loop-place-test.true
+            w.if-tape-place-eq-MARK.true c.loop-place.seen w.fault-number.result w.count.result w.fault-number.ensures
+            w.if-number-ne0.false w.count.ensures w.if-count-eq0.false) ∙ c.loop-place.invariant.1),
+      ) | else-tape-place-eq-MARK w ↦ (
+        rw w.seen-is (omega (arith, c.loop-place.invariant.0)),
+        rw w.seen-is (sym (check_skip c.args.tape.now c.loop-place.place c.loop-place-test.true
+            w.if-tape-place-eq-MARK.false c.loop-place.seen) ∙ c.loop-place.invariant.1),
+      )
+    ]
 
 pub returns : goal.returns
 returns c = sym (check_end c.args.tape.now c.loop-place.place c.loop-place.seen

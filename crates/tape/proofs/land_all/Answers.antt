@@ -3,10 +3,10 @@ use Rattle.page_sums.specs.PageSums.{sums_after, SixteenBits}
 use Rattle.page_sums.proofs.Sums.{sums_length, sums_kept, sums_then}
 use lib.ListN.{length}
 use Prim.Native.Nat.{◌-◌}
-use mathlib.Core.Logic.{⊎_elim}
 use mathlib.Core.Path.{refl, sym, ap, ◌∙◌}
 use native.Mathlib.Omega.{arith}
 use Rattle.tape.proofs.land_all.Goals as goal
+use Rattle.tape.proofs.land_all.Goals.{then-tape-place-eq-MARK+else-count-eq0, else-tape-place-eq-MARK}
 
 pub loop-place-init : goal.loop-place-init
 loop-place-init c = let at = c.args in
@@ -60,26 +60,28 @@ pub loop-place-smaller : goal.loop-place-smaller
 loop-place-smaller c = omega arith
 
 pub loop-place-preserved : goal.loop-place-preserved
-loop-place-preserved c = let at = c.args in
+loop-place-preserved c =
+    let at = c.args in
     let loop = c.loop-place in
     let test = c.loop-place-test.true in
-    ⊎_elim
-    (λ w. (
-      rw w.13 (w.8.kept.0 ∙ loop.invariant.0),
-      rw w.13
-          (sym (landed_all_on at.tape.now loop.place test w.0.taken w.2.result w.2.ensures
-          loop.memory w.4.result w.7.result.now w.8.last.0 w.3.left w.4.ensures
-          w.7.ensures w.8.ensures.0)
-          ∙ loop.invariant.1),
-      rw (w.13, w.14) (sums_then 0 at.sums.now at.memory.now loop.memory w.8.last.0 loop.invariant.2
-          w.8.ensures.1),
-    ))
-    (λ w. (
-      rw w.1 loop.invariant.0,
-      rw w.1 (sym (landed_all_skip at.tape.now loop.place test w.0.left loop.memory) ∙ loop.invariant.1),
-      rw (w.1, w.2) loop.invariant.2,
-    ))
-    c.if-tape-place-eq-MARK.branch
+    elim c.if-tape-place-eq-MARK.branch [
+      then-tape-place-eq-MARK+else-count-eq0 w ↦ (
+        rw w.memory-is (w.land.auto.memory ∙ loop.invariant.0),
+        rw w.memory-is
+            (sym (landed_all_on at.tape.now loop.place test w.if-tape-place-eq-MARK.true w.count.result
+            w.count.ensures loop.memory w.address-a.result w.record_data.result.now w.land.new.memory
+            w.if-count-eq0.false w.address-a.ensures w.record_data.ensures w.land.ensures.memory_after)
+            ∙ loop.invariant.1),
+        rw (w.memory-is, w.sums-is) (sums_then 0 at.sums.now at.memory.now loop.memory w.land.new.memory
+            loop.invariant.2 w.land.ensures.sums_after),
+      ) | else-tape-place-eq-MARK w ↦ (
+        rw w.memory-is loop.invariant.0,
+        rw w.memory-is
+            (sym (landed_all_skip at.tape.now loop.place test w.if-tape-place-eq-MARK.false loop.memory)
+            ∙ loop.invariant.1),
+        rw (w.memory-is, w.sums-is) loop.invariant.2,
+      )
+    ]
 
 pub shape_of-memory : goal.shape_of-memory
 shape_of-memory c = c.loop-place.invariant.0

@@ -6,10 +6,10 @@ use Prim.Native.Nat.{◌-◌}
 use Rattle.test_states.proofs.memories.same_bytes.Goals as goal
 
 pub returns-then-a-b : goal.returns-then-a-b
-returns-then-a-b c = absurd (never e)
+returns-then-a-b c e = absurd (never e)
 
 pub returns-then-a-i : goal.returns-then-a-i
-returns-then-a-i c = absurd (never e)
+returns-then-a-i c e = absurd (never e)
 
 pub loop-i-preserved : goal.loop-i-preserved
 loop-i-preserved c = (
@@ -19,4 +19,4 @@ loop-i-preserved c = (
 )
 
 pub returns : goal.returns
-returns c = ext_get_or 0 _ _ c.loop-i.invariant.1 (λ k h. c.loop-i.invariant.2 k (omega arith))
+returns c e = ext_get_or 0 _ _ c.loop-i.invariant.1 (λ k h. c.loop-i.invariant.2 k (omega arith))
