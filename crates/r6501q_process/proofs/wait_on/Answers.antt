@@ -1,18 +1,25 @@
 use borrow.Author.Tests.{eq-eqb, ne_eqb}
-use mathlib.Core.Path.{◌≡◌, refl}
+use mathlib.Core.Path.{◌≡◌, refl, sym, ap, ◌∙◌}
 use mathlib.Core.Bool.{true, false}
 use lib.Dec.{eqb}
+use Rattle.cpu_access.specs.declared.waiting.Waiting.TheVariants.{Byte}
+use Rattle.r6501q_cpu.specs.declared.Processed.TheVariants.{Done}
+use Rattle.r6501q_cpu.specs.Processor.{waited_by, byte_put, wait_less}
 use Rattle.r6501q_process.proofs.wait_on.Goals as goal
 
 pub returns-then-s-eq1 : goal.returns-then-s-eq1
-returns-then-s-eq1 c = let s = c.args.s in
+returns-then-s-eq1 c =
+    let s = c.args.s in
     let last : eqb s.cpu.wait 1 ≡ true = eq-eqb s.cpu.wait 1 c.if-s-eq1.true in
-    rw (c.put_byte.ensures, c.in-Byte.is, last) refl
+    let put : waited_by s (Byte c.in-Byte.w) ≡ Done (byte_put s c.in-Byte.w) = rw last in
+    ap Done c.put_byte.ensures ∙ sym (ap (waited_by s) c.in-Byte.is ∙ put)
 
 pub returns-in-Nothing : goal.returns-in-Nothing
-returns-in-Nothing c = rw (c.wait_less.ensures, c.in-Nothing.is) refl
+returns-in-Nothing c = c.wait_less.ensures ∙ sym (ap (waited_by c.args.s) c.in-Nothing.is)
 
 pub returns-else-s-eq1 : goal.returns-else-s-eq1
-returns-else-s-eq1 c = let s = c.args.s in
+returns-else-s-eq1 c =
+    let s = c.args.s in
     let more : eqb s.cpu.wait 1 ≡ false = ne_eqb s.cpu.wait 1 c.if-s-eq1.false in
-    rw (c.wait_less-in-Byte.ensures, c.in-Byte.is, more) refl
+    let waits : waited_by s (Byte c.in-Byte.w) ≡ wait_less s = rw more in
+    c.wait_less-in-Byte.ensures ∙ sym (ap (waited_by s) c.in-Byte.is ∙ waits)
