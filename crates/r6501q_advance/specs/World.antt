@@ -2,7 +2,7 @@
 use Rattle.std.specs.Prelude.{◌≡◌, List, ℕ, ◌+◌, ◌≤◌, ◌<◌, length, drop}
 use Rattle.bits.specs.Bits.{one_where}
 use Rattle.refusals.specs.Refusals.{last_clock}
-use Rattle.leaps.specs.Lent.{Lent}
+use Rattle.leaps.specs.Lent.{Lent, LentToRead}
 use Rattle.cpu_access.specs.declared.halt.Halt.{Halt}
 use Rattle.r6501q_clock.specs.declared.Ended.{Ended}
 use Rattle.r6501q_advance.specs.declared.Progress.{Progress}
@@ -23,12 +23,12 @@ world_of p memory input_clocks input_codes output_clocks output_words = record {
 }
 
 -- the lent lists at a clock's entry and at its exit, and how far the call has come there; the inputs do not change
-abbrev pub world_at_entry : Progress → Lent → Lent → Lent → Lent → Lent → World
+abbrev pub world_at_entry : Progress → Lent → LentToRead → LentToRead → Lent → Lent → World
 world_at_entry p memory input_clocks input_codes output_clocks output_words =
     world_of p memory.entry.now input_clocks.entry.now input_codes.entry.now output_clocks.entry.now
     output_words.entry.now
 
-abbrev pub world_at_exit : Progress → Lent → Lent → Lent → Lent → Lent → World
+abbrev pub world_at_exit : Progress → Lent → LentToRead → LentToRead → Lent → Lent → World
 world_at_exit p memory input_clocks input_codes output_clocks output_words =
     world_of p memory.exit.now input_clocks.entry.now input_codes.entry.now output_clocks.exit.now
     output_words.exit.now

@@ -17,7 +17,7 @@ heard_after-receiver-requires c = let a = c.args in
     let most = sends_most a.p.transmitter a.p.control.sccr a.p.control.scsr in
     let sends = h.sends in
     rw (c.bit32.ensures, c.ticks_in-ticks.ensures)
-    (h.listens, omega arith)
+    (record { ticks_bound = h.listens; ticks_le_most_ticks = omega arith })
 
 pub returns : goal.returns
 returns c = let a = c.args in
