@@ -3,13 +3,14 @@
 // them or refused the tape, or 0.
 #![tactic(auto)]
 
-use libc::{STDIN_FILENO, STDOUT_FILENO};
 use replay_text::{TAPE_LENGTH, TEXT_LENGTH, replay_input};
+use std::io;
+use std::io::Read;
 
-fn main() {
-    let mut tape = [0u8; TAPE_LENGTH];
-    let got = io::read_full(STDIN_FILENO, &mut tape);
+fn main(rt: HostRuntime) -> io::Result<()> {
+    let mut tape = Vec::new(rt.alloc());
+    rt.reader().take(TAPE_LENGTH as u64).read_to_end(&mut tape)?;
     let mut text = [0u8; TEXT_LENGTH];
-    let put = replay_input(&tape[..got], &mut text);
-    io::write_all(STDOUT_FILENO, &text[..put]);
+    let put = replay_input(&tape, &mut text);
+    rt.write_all(&text[..put])
 }

@@ -15,18 +15,22 @@
 ghost use Rattle.std.specs.Prelude.{◌≡◌, ◌≤◌, length};
 
 use cpu_access::halt::Halt;
-use libc::{STDIN_FILENO, STDOUT_FILENO};
 use memory::MEMORY_LENGTH;
 use r6501q_advance::Progress;
 use r6501q_state::state::fresh_state;
 use record_text::{LINE_LENGTH, put_end, put_outcome};
 use scenario::{INPUTS, RECORDS, SETTINGS_MARK, Settings, read_inputs, read_settings};
+use std::io;
+use std::io::Read;
 use test_text::next_mark;
 
 mod scenario; // scenario.rt: the parts of a scenario's text
 
 // The most characters that a scenario prints: a line for each record, and the end line.
 const TEXT_LENGTH: usize = LINE_LENGTH * (RECORDS + 1);
+
+// The most characters of the scenarios; what follows them on standard input plays no part.
+const SCENARIOS_LENGTH: usize = 32768;
 
 // What a scenario comes to: the clocks done, the records written, and the number that ended it, or 0.
 #[derive(Clone, Copy)]
@@ -130,14 +134,19 @@ fn run_clocks(
 }
 
 // The line of a scenario whose tape is refused.
-fn print_refused(number: u8) {
+fn print_refused(rt: &impl Print, number: u8) -> io::Result<()> {
     let mut text = [0u8; LINE_LENGTH];
     let put = put_end(0, number, &mut text, 0);
-    io::write_all(STDOUT_FILENO, &text[..put]);
+    rt.write_all(&text[..put])
 }
 
 // The lines of a scenario's outcome.
-fn print_outcome(outcome: ScenarioEnd, times: &[u32], words: &[u32])
+fn print_outcome(
+    rt: &impl Print,
+    outcome: ScenarioEnd,
+    times: &[u32],
+    words: &[u32],
+) -> io::Result<()>
     requires { (outcome.written ≤ length times.now) × (outcome.written ≤ length words.now)
         × (outcome.written ≤ 64) }
 {
@@ -150,27 +159,34 @@ fn print_outcome(outcome: ScenarioEnd, times: &[u32], words: &[u32])
         outcome.number,
         &mut text,
     );
-    io::write_all(STDOUT_FILENO, &text[..put]);
+    rt.write_all(&text[..put])
 }
 
 // Runs a scenario on the lent lists and prints what it comes to.
 fn run_lent(
+    rt: &impl Print,
     limit: u32,
     memory: &mut [u8],
     clocks: &[u32],
     codes: &[u8],
     times: &mut [u32],
     words: &mut [u32],
-)
+) -> io::Result<()>
     requires clocks_len { length clocks.now ≡ length codes.now }
     requires times_len { (length times.old ≡ length words.old) × (length times.old ≤ 64) }
 {
     let outcome = run_clocks(limit, memory, clocks, codes, times, words);
-    print_outcome(outcome, times, words);
+    print_outcome(rt, outcome, times, words)
 }
 
 // Runs a scenario whose tape is loaded; its inputs stand in `text` from `place` on.
-fn run_loaded(memory: &mut [u8], text: &[u8], place: usize, settings: Settings)
+fn run_loaded(
+    rt: &impl Print,
+    memory: &mut [u8],
+    text: &[u8],
+    place: usize,
+    settings: Settings,
+) -> io::Result<()>
     requires { settings.records ≤ 64 }
 {
     let mut clocks = [0u32; INPUTS];
@@ -180,42 +196,45 @@ fn run_loaded(memory: &mut [u8], text: &[u8], place: usize, settings: Settings)
     let mut words = [0u32; RECORDS];
     let records = settings.records;
     run_lent(
+        rt,
         settings.clocks,
         memory,
         &clocks[..count],
         &codes[..count],
         &mut times[..records],
         &mut words[..records],
-    );
+    )
 }
 
 // Runs a scenario: `text` is all of it before its settings. One whose tape is refused does no clock.
-fn run_scenario(text: &[u8], settings: Settings)
+fn run_scenario(rt: &impl Print, text: &[u8], settings: Settings) -> io::Result<()>
     requires { settings.records ≤ 64 }
 {
     let mut memory = [0u8; MEMORY_LENGTH];
     let loaded = tape::load(text, &mut memory);
     if loaded.number != 0 {
-        print_refused(loaded.number);
-        return;
+        return print_refused(rt, loaded.number);
     }
-    run_loaded(&mut memory, text, loaded.place, settings);
+    run_loaded(rt, &mut memory, text, loaded.place, settings)
 }
 
 // Runs each scenario; the settings are its last part.
-fn run_scenarios(text: &[u8]) {
+fn run_scenarios(rt: &impl Print, text: &[u8]) -> io::Result<()> {
     let mut from = 0;
     let mut end = next_mark(text, from, SETTINGS_MARK);
     while end < text.len() {
         let settings = read_settings(&text[end..]);
-        run_scenario(&text[from..end], settings);
+        run_scenario(rt, &text[from..end], settings)?;
         from = end + 1;
         end = next_mark(text, from, SETTINGS_MARK);
     }
+    Ok(())
 }
 
-fn main() {
-    let mut text = [0u8; 32768];
-    let got = io::read_full(STDIN_FILENO, &mut text);
-    run_scenarios(&text[..got]);
+fn main(rt: HostRuntime) -> io::Result<()> {
+    let mut text = Vec::new(rt.alloc());
+    rt.reader()
+        .take(SCENARIOS_LENGTH as u64)
+        .read_to_end(&mut text)?;
+    run_scenarios(&rt, &text)
 }

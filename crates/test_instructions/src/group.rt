@@ -4,7 +4,7 @@ ghost use Rattle.std.specs.Prelude.{◌≤◌, length};
 use crate::digest::DIGEST_MARK;
 use crate::line::{after, byte_at, start};
 use crate::tally::{Tally, none};
-use libc::STDOUT_FILENO;
+use std::io;
 
 pub const GROUP_MARK: u8 = b'=';
 
@@ -31,7 +31,7 @@ pub(crate) fn unknown() -> Group {
 }
 
 // The group that a line begins. Where the line is not right, it counts as a case that does not agree.
-pub(crate) fn open(line: &[u8]) -> Group
+pub(crate) fn open(rt: &impl Print, line: &[u8]) -> io::Result<Group>
     requires { 1 ≤ length line.now }
 {
     let opcode = byte_at(line, after(line, start(), GROUP_MARK));
@@ -40,12 +40,12 @@ pub(crate) fn open(line: &[u8]) -> Group
     if !words.good {
         let cases = group.cases.count(false);
         group.cases = cases;
-        return group;
+        return Ok(group);
     }
-    io::write_all(STDOUT_FILENO, &line[1..]);
+    rt.write_all(&line[1..])?;
     group.known = true;
     group.opcode = opcode.value;
-    group
+    Ok(group)
 }
 
 impl Group {
@@ -82,20 +82,19 @@ impl Group {
 
     // The rest of its line, whose words are printed already. Of an unknown opcode there are none, and there may be
     // nothing to tell.
-    pub(crate) fn print(self) {
+    pub(crate) fn print(self, rt: &impl Print) -> io::Result<()> {
         if !self.known {
             if self.cases.all == 0 {
-                return;
+                return Ok(());
             }
-            io::write_all(STDOUT_FILENO, b"no opcode");
+            rt.write_all(b"no opcode")?;
         }
         if self.digests.all == 0 {
-            self.cases.print(b": ", b"\n");
-            return;
+            return self.cases.print(rt, b": ", b"\n");
         }
         if 0 < self.cases.all {
-            self.cases.print(b": ", b"");
+            self.cases.print(rt, b": ", b"")?;
         }
-        self.digests.print(b": ", b" digests of 256 cases\n");
+        self.digests.print(rt, b": ", b" digests of 256 cases\n")
     }
 }

@@ -7,10 +7,14 @@
 // agree.
 #![tactic(auto)]
 
-ghost use Rattle.std.specs.Prelude.{◌≡◌, ◌≤◌, length};
+ghost use Rattle.std.specs.Prelude.{◌≡◌, ◌≤◌, IfOk, length};
 
 use group::{GROUP_MARK, Group, open, unknown};
-use libc::STDOUT_FILENO;
+use std::alloc::{AllocError, Global};
+use std::env::FillError;
+use std::io::Read;
+use std::rt::{Env, Files};
+use std::{fs, io, str};
 use test_text::next_mark;
 use totals::{Totals, no_totals, print_opcodes};
 
@@ -25,6 +29,9 @@ mod totals;
 // The largest file.
 const TEXT_LENGTH: usize = 655360;
 
+// The longest name of a file. An argument that is longer counts as an empty one.
+const NAME_LENGTH: usize = 4096;
+
 // The group at hand, and what those before it come to.
 #[derive(Clone, Copy)]
 struct GroupsSoFar {
@@ -33,23 +40,28 @@ struct GroupsSoFar {
 }
 
 // One line more.
-fn take_line(p: GroupsSoFar, line: &[u8], by_opcode: &mut [u64; 256]) -> GroupsSoFar {
+fn take_line(
+    rt: &impl Print,
+    p: GroupsSoFar,
+    line: &[u8],
+    by_opcode: &mut [u64; 256],
+) -> io::Result<GroupsSoFar> {
     let group = p.group;
     let totals = p.totals;
     if line.len() == 0 {
-        return p;
+        return Ok(p);
     }
     if line[0] != GROUP_MARK {
-        return GroupsSoFar {
+        return Ok(GroupsSoFar {
             group: group.take(line),
             totals: totals,
-        };
+        });
     }
-    let closed = totals.close(group, by_opcode);
-    GroupsSoFar {
-        group: open(line),
+    let closed = totals.close(rt, group, by_opcode)?;
+    Ok(GroupsSoFar {
+        group: open(rt, line)?,
         totals: closed,
-    }
+    })
 }
 
 // The end of the line that begins at `from`.
@@ -61,7 +73,12 @@ fn line_end(text: &[u8], from: usize) -> usize
 }
 
 // All lines of a file; its last group ends with it.
-fn take_text(totals: Totals, text: &[u8], by_opcode: &mut [u64; 256]) -> Totals {
+fn take_text(
+    rt: &impl Print,
+    totals: Totals,
+    text: &[u8],
+    by_opcode: &mut [u64; 256],
+) -> io::Result<Totals> {
     let mut p = GroupsSoFar {
         group: unknown(),
         totals: totals,
@@ -69,66 +86,100 @@ fn take_text(totals: Totals, text: &[u8], by_opcode: &mut [u64; 256]) -> Totals 
     let mut from = 0;
     while from < text.len() {
         let end = line_end(text, from);
-        p = take_line(p, &text[from..end], by_opcode);
+        p = take_line(rt, p, &text[from..end], by_opcode)?;
         from = end + 1;
     }
     let last = p.totals;
-    last.close(p.group, by_opcode)
+    last.close(rt, p.group, by_opcode)
+}
+
+// Reads until `text` is full, the file ends or a read fails, and gives how many characters it put at the start of
+// `text`.
+fn read_full(file: &mut impl Read, text: &mut [u8]) -> usize
+    ensures { result ≤ length text.new }
+{
+    let mut done = 0;
+    while done < text.len() {
+        let got = file.read(&mut text[done..]).unwrap_or(0);
+        if got == 0 {
+            return done;
+        }
+        done += got;
+    }
+    done
 }
 
 // Whether nothing is left to read, and reading does not fail.
-fn at_end(fd: i32) -> bool {
+fn at_end(file: &mut impl Read) -> bool {
     let mut more = [0u8; 1];
-    libc::read(fd, &mut more) == 0
+    matches!(file.read(&mut more), Ok(0))
 }
 
 // Room for a file. Its length is stated, so that its user's proof need not count.
-fn room() -> [u8; TEXT_LENGTH]
-    ensures { 655360 ≡ length result }
+fn room(alloc: Global) -> Result<Vec<u8>, AllocError>
+    ensures { IfOk result (λ text. 655360 ≡ length text.items) }
 {
-    [0; TEXT_LENGTH]
+    vec![in alloc; 0; TEXT_LENGTH]
 }
 
 // Says of a file why it is left out.
-fn report(name: &[u8], why: &[u8]) {
-    io::write_all(STDOUT_FILENO, name);
-    io::write_all(STDOUT_FILENO, why);
+fn report(rt: &impl Print, name: &[u8], why: &[u8]) -> io::Result<()> {
+    rt.write_all(name)?;
+    rt.write_all(why)
 }
 
 // A file that is open.
-fn take_file(totals: Totals, fd: i32, name: &[u8], by_opcode: &mut [u64; 256]) -> Totals {
-    let mut text = room();
-    let got = io::read_full(fd, &mut text);
-    if !at_end(fd) {
-        report(name, b": too large, or not read\n");
-        return totals;
+fn take_file(
+    rt: &(impl Print + AllocGlobal),
+    totals: Totals,
+    file: &mut impl Read,
+    name: &[u8],
+    by_opcode: &mut [u64; 256],
+) -> io::Result<Totals> {
+    let mut text = room(rt.alloc())?;
+    let got = read_full(file, &mut text);
+    if !at_end(file) {
+        report(rt, name, b": too large, or not read\n")?;
+        return Ok(totals);
     }
-    take_text(totals, &text[..got], by_opcode)
+    take_text(rt, totals, &text[..got], by_opcode)
+}
+
+// The file of that name, to be read; none where it does not open, as one whose name is no text.
+fn opened<R: Files>(rt: &R, name: &[u8]) -> Option<R::File> {
+    fs::open(rt, str::from_utf8(name).ok()?).ok()
 }
 
 // The file that an argument names.
-fn take_argument(totals: Totals, i: usize, by_opcode: &mut [u64; 256]) -> Totals {
-    let mut name = io::buffer();
-    let length = os::arg(i, &mut name);
-    let fd = os::open_read(&name[..length]);
-    if fd < 0 {
-        report(&name[..length], b": not opened\n");
-        return totals;
-    }
-    let after = take_file(totals, fd, &name[..length], by_opcode);
-    libc::close(fd);
-    after
+fn take_argument<R: Env + Files + Print + AllocGlobal>(
+    rt: &R,
+    totals: Totals,
+    i: usize,
+    by_opcode: &mut [u64; 256],
+) -> io::Result<Totals> {
+    let mut name = [0u8; NAME_LENGTH];
+    let length = rt.arg(i, &mut name).unwrap_or(0);
+    let Some(mut file) = opened(rt, &name[..length]) else {
+        report(rt, &name[..length], b": not opened\n")?;
+        return Ok(totals);
+    };
+    take_file(rt, totals, &mut file, &name[..length], by_opcode)
 }
 
-fn main() {
+// Whether there is an argument at `i`.
+fn is_argument(rt: &impl Env, i: usize) -> bool {
+    !matches!(rt.arg(i, &mut []), Err(FillError::NotPresent))
+}
+
+fn main(rt: HostRuntime) -> io::Result<()> {
     let mut by_opcode = [0u64; 256];
     let mut totals = no_totals();
-    let count = os::arg_count();
-    let mut i = 1;
-    while i < count {
-        totals = take_argument(totals, i, &mut by_opcode);
-        i += 1;
+    for i in 1..usize::MAX {
+        if !is_argument(&rt, i) {
+            break;
+        }
+        totals = take_argument(&rt, totals, i, &mut by_opcode)?;
     }
-    totals.print();
-    print_opcodes(&by_opcode);
+    totals.print(&rt)?;
+    print_opcodes(&rt, &by_opcode)
 }

@@ -1,5 +1,5 @@
 // How many there are, and how many of them agree. No file has 2^64 lines, so that no count wraps.
-use libc::STDOUT_FILENO;
+use std::io;
 use std::num::wrapping_add_u64;
 
 #[derive(Clone, Copy)]
@@ -30,11 +30,9 @@ impl Tally {
     }
 
     // Prints it between two texts.
-    pub(crate) fn print(self, before: &[u8], after: &[u8]) {
-        io::write_all(STDOUT_FILENO, before);
-        io::print_decimal(STDOUT_FILENO, self.agreed);
-        io::write_all(STDOUT_FILENO, b" of ");
-        io::print_decimal(STDOUT_FILENO, self.all);
-        io::write_all(STDOUT_FILENO, after);
+    pub(crate) fn print(self, rt: &impl Print, before: &[u8], after: &[u8]) -> io::Result<()> {
+        rt.write_all(before)?;
+        print!(rt; "{} of {}", self.agreed, self.all)?;
+        rt.write_all(after)
     }
 }

@@ -2,7 +2,7 @@
 use crate::group::Group;
 use crate::tally::{Tally, none};
 use cpu_opcodes::{Decoded, decode};
-use libc::STDOUT_FILENO;
+use std::io;
 use std::num::wrapping_add_u64;
 
 // How many cases of each opcode are asked for.
@@ -25,22 +25,26 @@ pub(crate) fn no_totals() -> Totals {
 
 impl Totals {
     // One group more, which is printed.
-    pub(crate) fn close(self, group: Group, by_opcode: &mut [u64; 256]) -> Totals {
+    pub(crate) fn close(
+        self,
+        rt: &impl Print,
+        group: Group,
+        by_opcode: &mut [u64; 256],
+    ) -> io::Result<Totals> {
         let opcode = group.opcode as usize;
         by_opcode[opcode] = wrapping_add_u64(by_opcode[opcode], group.cases.agreed);
-        group.print();
-        Totals {
+        group.print(rt)?;
+        Ok(Totals {
             groups: wrapping_add_u64(self.groups, bits::one_where(group.known) as u64),
             cases: self.cases.join(group.cases),
             digests: self.digests.join(group.digests),
-        }
+        })
     }
 
-    pub(crate) fn print(self) {
-        io::write_all(STDOUT_FILENO, b"groups: ");
-        io::print_decimal(STDOUT_FILENO, self.groups);
-        self.cases.print(b"\ncases: ", b"\n");
-        self.digests.print(b"digests: ", b"\n");
+    pub(crate) fn print(self, rt: &impl Print) -> io::Result<()> {
+        print!(rt; "groups: {}", self.groups)?;
+        self.cases.print(rt, b"\ncases: ", b"\n")?;
+        self.digests.print(rt, b"digests: ", b"\n")
     }
 }
 
@@ -63,6 +67,6 @@ fn covered(by_opcode: &[u64; 256]) -> Tally {
     tally
 }
 
-pub(crate) fn print_opcodes(by_opcode: &[u64; 256]) {
-    covered(by_opcode).print(b"opcodes with 200 cases or more: ", b"\n");
+pub(crate) fn print_opcodes(rt: &impl Print, by_opcode: &[u64; 256]) -> io::Result<()> {
+    covered(by_opcode).print(rt, b"opcodes with 200 cases or more: ", b"\n")
 }

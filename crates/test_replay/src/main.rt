@@ -7,30 +7,37 @@
 // most, and so many are free.
 #![tactic(auto)]
 
-use libc::{STDIN_FILENO, STDOUT_FILENO};
 use replay_text::{TEXT_LENGTH, replay};
+use std::io;
+use std::io::Read;
 use test_text::next_mark;
 
 // Stands between two tapes: neither `;` nor a digit.
 const SEPARATOR: u8 = b'=';
 
-fn print_replay(tape: &[u8]) {
+// The most characters of the tapes; what follows them on standard input plays no part.
+const TAPES_LENGTH: usize = 16384;
+
+fn print_replay(rt: &impl Print, tape: &[u8]) -> io::Result<()> {
     let mut text = [0u8; TEXT_LENGTH];
     let put = replay(tape, &mut text);
-    io::write_all(STDOUT_FILENO, &text[..put]);
+    rt.write_all(&text[..put])
 }
 
-fn print_replays(tapes: &[u8]) {
+fn print_replays(rt: &impl Print, tapes: &[u8]) -> io::Result<()> {
     let mut from = 0;
     while from <= tapes.len() {
         let end = next_mark(tapes, from, SEPARATOR);
-        print_replay(&tapes[from..end]);
+        print_replay(rt, &tapes[from..end])?;
         from = end + 1;
     }
+    Ok(())
 }
 
-fn main() {
-    let mut tapes = [0u8; 16384];
-    let got = io::read_full(STDIN_FILENO, &mut tapes);
-    print_replays(&tapes[..got]);
+fn main(rt: HostRuntime) -> io::Result<()> {
+    let mut tapes = Vec::new(rt.alloc());
+    rt.reader()
+        .take(TAPES_LENGTH as u64)
+        .read_to_end(&mut tapes)?;
+    print_replays(&rt, &tapes)
 }
