@@ -1,5 +1,4 @@
 use mathlib.Core.Path.{◌≡◌, refl, sym, ap, ◌∙◌}
-use mathlib.Core.Logic.{⊎_elim}
 use Prim.Native.Nat.{◌-◌}
 use lib.ListN.{length}
 use native.Mathlib.Omega.{arith}
@@ -13,6 +12,9 @@ use Rattle.r6501q_fast.proofs.Instructions.{starts_within, try_within, try_goes,
 use Rattle.r6501q_fast.proofs.Instructions.{start_fits}
 use Rattle.r6501q_fast.proofs.Instructions.{two_fit}
 use Rattle.r6501q_fast.proofs.run_opcodes.Goals as goal
+use Rattle.r6501q_fast.proofs.run_opcodes.Goals.{Joined-opcode-div16}
+use Rattle.r6501q_fast.proofs.run_opcodes.Goals.{in-0, in-1, in-2, in-3, in-4, in-5, in-6, in-7, in-8, in-9, in-10, in-11}
+use Rattle.r6501q_fast.proofs.run_opcodes.Goals.{in-12, in-13, in-14, in_default}
 
 pub returns-then-memory-ne-MEMORY_LENGTH : goal.returns-then-memory-ne-MEMORY_LENGTH
 returns-then-memory-ne-MEMORY_LENGTH c = let at = c.args in
@@ -177,103 +179,102 @@ with_shared-shared-requires c = let loop = c.loop-on in
     at.memory.now loop.invariant.1 in
     (c.requires.span_bound.1, two_fit loop.shared _ _ at.span.0 most loop.invariant.0.gone c.requires.span_bound.0)
 
+-- the try of an opcode, whichever its row
+stepped : (c : Joined-opcode-div16) → Tries c.args.halt c.args.span.0 c.loop-on.w c.loop-on.memory
+    c.match-opcode-div16.tried c.match-opcode-div16.memory
+    × (c.match-opcode-div16.sums ≡ sums_after c.loop-on.sums c.loop-on.memory c.match-opcode-div16.memory)
+    × (length c.match-opcode-div16.memory ≡ length c.loop-on.memory)
+stepped c =
+    elim c.match-opcode-div16.branch [
+      in-0 w ↦ (
+        rw (w.memory-is, w.tried-is) w.opcodes_00-tried.ensures.tries,
+        rw (w.memory-is, w.sums-is) w.opcodes_00-tried.ensures.sums_after,
+        rw w.memory-is w.opcodes_00-tried.auto.memory,
+      ) | in-1 w ↦ (
+        rw (w.memory-is, w.tried-is) w.opcodes_10-tried.ensures.tries,
+        rw (w.memory-is, w.sums-is) w.opcodes_10-tried.ensures.sums_after,
+        rw w.memory-is w.opcodes_10-tried.auto.memory,
+      ) | in-2 w ↦ (
+        rw (w.memory-is, w.tried-is) w.opcodes_20-tried.ensures.tries,
+        rw (w.memory-is, w.sums-is) w.opcodes_20-tried.ensures.sums_after,
+        rw w.memory-is w.opcodes_20-tried.auto.memory,
+      ) | in-3 w ↦ (
+        rw (w.memory-is, w.tried-is) w.opcodes_30-tried.ensures.tries,
+        rw (w.memory-is, w.sums-is) w.opcodes_30-tried.ensures.sums_after,
+        rw w.memory-is w.opcodes_30-tried.auto.memory,
+      ) | in-4 w ↦ (
+        rw (w.memory-is, w.tried-is) w.opcodes_40-tried.ensures.tries,
+        rw (w.memory-is, w.sums-is) w.opcodes_40-tried.ensures.sums_after,
+        rw w.memory-is w.opcodes_40-tried.auto.memory,
+      ) | in-5 w ↦ (
+        rw (w.memory-is, w.tried-is) w.opcodes_50-tried.ensures.tries,
+        rw (w.memory-is, w.sums-is) w.opcodes_50-tried.ensures.sums_after,
+        rw w.memory-is w.opcodes_50-tried.auto.memory,
+      ) | in-6 w ↦ (
+        rw (w.memory-is, w.tried-is) w.opcodes_60-tried.ensures.tries,
+        rw (w.memory-is, w.sums-is) w.opcodes_60-tried.ensures.sums_after,
+        rw w.memory-is w.opcodes_60-tried.auto.memory,
+      ) | in-7 w ↦ (
+        rw (w.memory-is, w.tried-is) w.opcodes_70-tried.ensures.tries,
+        rw (w.memory-is, w.sums-is) w.opcodes_70-tried.ensures.sums_after,
+        rw w.memory-is w.opcodes_70-tried.auto.memory,
+      ) | in-8 w ↦ (
+        rw (w.memory-is, w.tried-is) w.opcodes_80-tried.ensures.tries,
+        rw (w.memory-is, w.sums-is) w.opcodes_80-tried.ensures.sums_after,
+        rw w.memory-is w.opcodes_80-tried.auto.memory,
+      ) | in-9 w ↦ (
+        rw (w.memory-is, w.tried-is) w.opcodes_90-tried.ensures.tries,
+        rw (w.memory-is, w.sums-is) w.opcodes_90-tried.ensures.sums_after,
+        rw w.memory-is w.opcodes_90-tried.auto.memory,
+      ) | in-10 w ↦ (
+        rw (w.memory-is, w.tried-is) w.opcodes_a0-tried.ensures.tries,
+        rw (w.memory-is, w.sums-is) w.opcodes_a0-tried.ensures.sums_after,
+        rw w.memory-is w.opcodes_a0-tried.auto.memory,
+      ) | in-11 w ↦ (
+        rw (w.memory-is, w.tried-is) w.opcodes_b0-tried.ensures.tries,
+        rw (w.memory-is, w.sums-is) w.opcodes_b0-tried.ensures.sums_after,
+        rw w.memory-is w.opcodes_b0-tried.auto.memory,
+      ) | in-12 w ↦ (
+        rw (w.memory-is, w.tried-is) w.opcodes_c0-tried.ensures.tries,
+        rw (w.memory-is, w.sums-is) w.opcodes_c0-tried.ensures.sums_after,
+        rw w.memory-is w.opcodes_c0-tried.auto.memory,
+      ) | in-13 w ↦ (
+        rw (w.memory-is, w.tried-is) w.opcodes_d0-tried.ensures.tries,
+        rw (w.memory-is, w.sums-is) w.opcodes_d0-tried.ensures.sums_after,
+        rw w.memory-is w.opcodes_d0-tried.auto.memory,
+      ) | in-14 w ↦ (
+        rw (w.memory-is, w.tried-is) w.opcodes_e0-tried.ensures.tries,
+        rw (w.memory-is, w.sums-is) w.opcodes_e0-tried.ensures.sums_after,
+        rw w.memory-is w.opcodes_e0-tried.auto.memory,
+      ) | in_default w ↦ (
+        rw (w.memory-is, w.tried-is) w.opcodes_f0-tried.ensures.tries,
+        rw (w.memory-is, w.sums-is) w.opcodes_f0-tried.ensures.sums_after,
+        rw w.memory-is w.opcodes_f0-tried.auto.memory,
+      )
+    ]
+
 pub loop-on-smaller : goal.loop-on-smaller
-loop-on-smaller c = let loop = c.loop-on in
+loop-on-smaller c =
+    let loop = c.loop-on in
     let at = c.args in
     let m = c.match-opcode-div16 in
     let start = c.same_work-w.result in
-    let step : Tries at.halt at.span.0 loop.w loop.memory m.tried m.memory
-    × (m.sums ≡ sums_after loop.sums loop.memory m.memory) × (length m.memory ≡ length loop.memory) =
-    ⊎_elim
-    (λ a. (rw (a.8, a.10) a.3.ensures.0, rw (a.8, a.9) a.3.ensures.1, rw a.8 a.3.kept.1.1.0))
-    (⊎_elim
-    (λ a. (rw (a.8, a.10) a.3.ensures.0, rw (a.8, a.9) a.3.ensures.1, rw a.8 a.3.kept.1.1.0))
-    (⊎_elim
-    (λ a. (rw (a.8, a.10) a.3.ensures.0, rw (a.8, a.9) a.3.ensures.1, rw a.8 a.3.kept.1.1.0))
-    (⊎_elim
-    (λ a. (rw (a.8, a.10) a.3.ensures.0, rw (a.8, a.9) a.3.ensures.1, rw a.8 a.3.kept.1.1.0))
-    (⊎_elim
-    (λ a. (rw (a.8, a.10) a.3.ensures.0, rw (a.8, a.9) a.3.ensures.1, rw a.8 a.3.kept.1.1.0))
-    (⊎_elim
-    (λ a. (rw (a.8, a.10) a.3.ensures.0, rw (a.8, a.9) a.3.ensures.1, rw a.8 a.3.kept.1.1.0))
-    (⊎_elim
-    (λ a. (rw (a.8, a.10) a.3.ensures.0, rw (a.8, a.9) a.3.ensures.1, rw a.8 a.3.kept.1.1.0))
-    (⊎_elim
-    (λ a. (rw (a.8, a.10) a.3.ensures.0, rw (a.8, a.9) a.3.ensures.1, rw a.8 a.3.kept.1.1.0))
-    (⊎_elim
-    (λ a. (rw (a.8, a.10) a.3.ensures.0, rw (a.8, a.9) a.3.ensures.1, rw a.8 a.3.kept.1.1.0))
-    (⊎_elim
-    (λ a. (rw (a.8, a.10) a.3.ensures.0, rw (a.8, a.9) a.3.ensures.1, rw a.8 a.3.kept.1.1.0))
-    (⊎_elim
-    (λ a. (rw (a.8, a.10) a.3.ensures.0, rw (a.8, a.9) a.3.ensures.1, rw a.8 a.3.kept.1.1.0))
-    (⊎_elim
-    (λ a. (rw (a.8, a.10) a.3.ensures.0, rw (a.8, a.9) a.3.ensures.1, rw a.8 a.3.kept.1.1.0))
-    (⊎_elim
-    (λ a. (rw (a.8, a.10) a.3.ensures.0, rw (a.8, a.9) a.3.ensures.1, rw a.8 a.3.kept.1.1.0))
-    (⊎_elim
-    (λ a. (rw (a.8, a.10) a.3.ensures.0, rw (a.8, a.9) a.3.ensures.1, rw a.8 a.3.kept.1.1.0))
-    (⊎_elim
-    (λ a. (rw (a.8, a.10) a.3.ensures.0, rw (a.8, a.9) a.3.ensures.1, rw a.8 a.3.kept.1.1.0))
-    (λ a. (
-      rw (a.8, a.10) a.3.ensures.0,
-      rw (a.8, a.9) a.3.ensures.1,
-      rw a.8 a.3.kept.1.1.0,
-    )))))))))))))))) m.branch in
-    let within = starts_within loop.on loop.w at.span.0
-    c.loop-on-test.true in
-    rw (
-      c.same_work-w-in-loop-on.ensures,
-      and_left loop.on _ c.loop-on-test.true,
-    )
-    (try_less at.halt at.span.0 at.ticking start at.memory.now loop.w loop.memory m.tried
-    m.memory within step.0)
+    let step = stepped (goal.at.loop-on-smaller c).Joined-opcode-div16 in
+    let within = starts_within loop.on loop.w at.span.0 c.loop-on-test.true in
+    rw (c.same_work-w-in-loop-on.ensures, and_left loop.on _ c.loop-on-test.true)
+    (try_less at.halt at.span.0 at.ticking start at.memory.now loop.w loop.memory m.tried m.memory within step.0)
 
 pub loop-on-preserved : goal.loop-on-preserved
-loop-on-preserved c = let at = c.args in
+loop-on-preserved c =
+    let at = c.args in
     let m = c.match-opcode-div16 in
     let start = c.same_work-w.result in
-    let step : Tries at.halt at.span.0 c.loop-on.w c.loop-on.memory m.tried m.memory
-    × (m.sums ≡ sums_after c.loop-on.sums c.loop-on.memory m.memory) × (length m.memory ≡ length c.loop-on.memory) =
-    ⊎_elim
-    (λ a. (rw (a.8, a.10) a.3.ensures.0, rw (a.8, a.9) a.3.ensures.1, rw a.8 a.3.kept.1.1.0))
-    (⊎_elim
-    (λ a. (rw (a.8, a.10) a.3.ensures.0, rw (a.8, a.9) a.3.ensures.1, rw a.8 a.3.kept.1.1.0))
-    (⊎_elim
-    (λ a. (rw (a.8, a.10) a.3.ensures.0, rw (a.8, a.9) a.3.ensures.1, rw a.8 a.3.kept.1.1.0))
-    (⊎_elim
-    (λ a. (rw (a.8, a.10) a.3.ensures.0, rw (a.8, a.9) a.3.ensures.1, rw a.8 a.3.kept.1.1.0))
-    (⊎_elim
-    (λ a. (rw (a.8, a.10) a.3.ensures.0, rw (a.8, a.9) a.3.ensures.1, rw a.8 a.3.kept.1.1.0))
-    (⊎_elim
-    (λ a. (rw (a.8, a.10) a.3.ensures.0, rw (a.8, a.9) a.3.ensures.1, rw a.8 a.3.kept.1.1.0))
-    (⊎_elim
-    (λ a. (rw (a.8, a.10) a.3.ensures.0, rw (a.8, a.9) a.3.ensures.1, rw a.8 a.3.kept.1.1.0))
-    (⊎_elim
-    (λ a. (rw (a.8, a.10) a.3.ensures.0, rw (a.8, a.9) a.3.ensures.1, rw a.8 a.3.kept.1.1.0))
-    (⊎_elim
-    (λ a. (rw (a.8, a.10) a.3.ensures.0, rw (a.8, a.9) a.3.ensures.1, rw a.8 a.3.kept.1.1.0))
-    (⊎_elim
-    (λ a. (rw (a.8, a.10) a.3.ensures.0, rw (a.8, a.9) a.3.ensures.1, rw a.8 a.3.kept.1.1.0))
-    (⊎_elim
-    (λ a. (rw (a.8, a.10) a.3.ensures.0, rw (a.8, a.9) a.3.ensures.1, rw a.8 a.3.kept.1.1.0))
-    (⊎_elim
-    (λ a. (rw (a.8, a.10) a.3.ensures.0, rw (a.8, a.9) a.3.ensures.1, rw a.8 a.3.kept.1.1.0))
-    (⊎_elim
-    (λ a. (rw (a.8, a.10) a.3.ensures.0, rw (a.8, a.9) a.3.ensures.1, rw a.8 a.3.kept.1.1.0))
-    (⊎_elim
-    (λ a. (rw (a.8, a.10) a.3.ensures.0, rw (a.8, a.9) a.3.ensures.1, rw a.8 a.3.kept.1.1.0))
-    (⊎_elim
-    (λ a. (rw (a.8, a.10) a.3.ensures.0, rw (a.8, a.9) a.3.ensures.1, rw a.8 a.3.kept.1.1.0))
-    (λ a. (
-      rw (a.8, a.10) a.3.ensures.0,
-      rw (a.8, a.9) a.3.ensures.1,
-      rw a.8 a.3.kept.1.1.0,
-    )))))))))))))))) m.branch in (
-      rw c.same_work-w-in-loop-on.ensures (try_within at.halt at.span.0 at.ticking start at.memory.now
-          c.loop-on.w c.loop-on.memory m.tried m.memory c.loop-on.invariant.0 step.0),
+    let step = stepped (goal.at.loop-on-preserved c).Joined-opcode-div16 in (
+      rw c.same_work-w-in-loop-on.ensures (try_within at.halt at.span.0 at.ticking start at.memory.now c.loop-on.w
+          c.loop-on.memory m.tried m.memory c.loop-on.invariant.0 step.0),
       rw (c.same_work-w-in-loop-on.ensures, c.with_shared-shared.ensures, c.next_start.ensures)
-          (try_goes at.halt at.span.0 at.ticking start at.memory.now c.loop-on.w c.loop-on.memory
-          c.loop-on.shared m.tried m.memory c.loop-on.invariant.1 step.0),
+          (try_goes at.halt at.span.0 at.ticking start at.memory.now c.loop-on.w c.loop-on.memory c.loop-on.shared
+          m.tried m.memory c.loop-on.invariant.1 step.0),
       sums_then 0 at.sums.now at.memory.now c.loop-on.memory m.memory c.loop-on.invariant.2 step.1,
       step.2 ∙ c.loop-on.invariant.3,
     )
