@@ -7,12 +7,11 @@ use Prim.Native.Nat.{ℕ, zero, suc, ◌+◌, ◌-◌, ◌*◌, ◌/◌, ◌≤�
 use native.Mathlib.Nat.{eq_of_mul-eq-mul_left, mul_assoc, mul_comm, zero-mul, add-mul, mul-sub, mul-pos, mul-le-mul}
 use native.Mathlib.Nat.{mul-le-mul_left, lt-div-mul-add, div-lt_iff_lt-mul}
 use native.Mathlib.Omega.{arith}
-use lib.Dec.{leb, ltb, eqb}
-use borrow.Author.Tests.{leb-true, leb-false, le-leb, lt-leb, ltb-false, eqb-false}
-use Rattle.bit_rate.specs.declared.Found.{Found}
-use Rattle.bit_rate.specs.declared.Found.TheVariants.{Fits, Nothing, Refused}
+use lib.Dec.{ltb, eqb}
+use borrow.Author.Tests.{leb-true, le-leb, ltb-false, eqb-false}
+use Rattle.bit_rate.specs.declared.Found.TheVariants.{Fits, Nothing}
 use Rattle.bit_rate.specs.BitRate.{difference, fits, highest_latch, highest_rate, highest_tolerance, out_of_limits}
-use Rattle.bit_rate.specs.BitRate.{first_fit, latch_for}
+use Rattle.bit_rate.specs.BitRate.{first_fit}
 
 -- a test that does not hold
 never : (b : Bool) → (b ≡ true → ⊥) → b ≡ false

@@ -1,6 +1,6 @@
 -- Laws of single bits.
-use mathlib.Core.Path.{◌≡◌, refl, ap, ap₂, ◌∙◌, sym, subst}
-use mathlib.Core.Bool.{Bool, true, false, not, cond}
+use mathlib.Core.Path.{◌≡◌, ap, ap₂, ◌∙◌, sym, subst}
+use mathlib.Core.Bool.{Bool, true, false}
 use Prim.Native.Nat.{ℕ, suc, ◌+◌, ◌-◌, ◌*◌, ◌/◌, ◌%◌, ◌^◌, ◌≤◌, ◌<◌, min}
 use native.Mathlib.Nat.{add-zero, zero-min, div-eq_of_lt, add-mul-div_right, add-mul-mod_self_right, one-mul}
 use native.Mathlib.Nat.{mod-eq_of_lt, add-mul, mul_comm, pow-suc, mod-lt, mul-le-mul_right, div-add-mod'}

@@ -1,12 +1,11 @@
 -- Laws of the number that bits write.
-use mathlib.Core.Path.{◌≡◌, refl, ap, ◌∙◌}
-use mathlib.Core.Bool.{Bool, true, false}
+use mathlib.Core.Path.{◌≡◌, ap, ◌∙◌}
+use mathlib.Core.Bool.{Bool}
 use mathlib.Core.List.{List, [], ◌∷◌, ◌++◌}
-use Prim.Native.Nat.{ℕ, zero, suc, ◌+◌, ◌*◌, ◌^◌, ◌<◌, ◌≤◌}
-use native.Mathlib.Nat.{zero-add, one-mul, pow-suc, mul-add, mul_assoc, mul_comm, add_assoc}
+use Prim.Native.Nat.{suc, ◌+◌, ◌*◌, ◌^◌, ◌<◌}
+use native.Mathlib.Nat.{one-mul, pow-suc, mul_assoc, mul_comm}
 use native.Mathlib.Omega.{arith}
 use lib.ListN.{length}
-use Rattle.bits.specs.Bits.{one_where}
 use Rattle.bits.proofs.Cond.{one_where_le}
 use Rattle.bits.specs.Lists.{number_of_bits}
 

@@ -1,5 +1,5 @@
 -- Bits and bytes of numbers: the vocabulary of every specification.
-use Rattle.std.specs.Prelude.{Bool, true, false, not, cond, ℕ, ◌+◌, ◌-◌, ◌*◌, ◌/◌, ◌%◌, ◌^◌, eqb}
+use Rattle.std.specs.Prelude.{Bool, true, not, cond, ℕ, ◌+◌, ◌-◌, ◌*◌, ◌/◌, ◌%◌, ◌^◌, eqb}
 
 -- bit k of x: `bit 7 sccr` is the papers' SCCR7
 abbrev pub bit : ℕ → ℕ → Bool

@@ -1,5 +1,5 @@
 -- Document 01, "One clock", 2: the counters. Modes are 01's bit pairs as numbers, 00 to 11 being 0 to 3.
-use Rattle.std.specs.Prelude.{Bool, true, false, ◌&&◌, not, cond, ℕ, ◌+◌, ◌-◌, ◌*◌, ◌/◌, ◌%◌, leb, ltb, eqb}
+use Rattle.std.specs.Prelude.{Bool, true, false, ◌&&◌, not, cond, ℕ, ◌-◌, ltb, eqb}
 use Rattle.bits.specs.Bits.{low_byte, high_byte, word16, one_where}
 use Rattle.counters.specs.declared.time.Clocks.{Clocks}
 use Rattle.counters.specs.declared.time.Ticks.{Ticks}

@@ -1,12 +1,11 @@
 -- What an instruction ends with, by its opcode's row and of its accesses themselves: the flags that it keeps, the store
 -- that it leaves waiting, and its clocks.
 use mathlib.Core.Path.{◌≡◌, refl, sym, ap, ◌∙◌}
-use mathlib.Core.Bool.{Bool, true, false, not, cond, false≢true}
+use mathlib.Core.Bool.{Bool, true, false, not, false≢true}
 use mathlib.Core.List.{List, [], ◌∷◌, ◌++◌}
-use Prim.Native.Nat.{ℕ, ◌+◌}
+use Prim.Native.Nat.{ℕ}
 use lib.Dec.{eqb}
 use Rattle.bits.proofs.Cond.{cond_both}
-use Rattle.cpu_opcodes.specs.declared.Entry.{Entry}
 use Rattle.cpu_opcodes.specs.declared.Mode.{Mode}
 use Rattle.cpu_opcodes.specs.declared.Mode.TheVariants.{Implied, Accumulator, Immediate, ZeroPage, ZeroPageX}
 use Rattle.cpu_opcodes.specs.declared.Mode.TheVariants.{ZeroPageY, Absolute, AbsoluteX, AbsoluteY, IndexedIndirect}
@@ -34,7 +33,6 @@ use Rattle.cpu.specs.InstructionAccesses.{jump_to, push_accesses, pull_accesses,
 use Rattle.cpu.specs.InstructionAccesses.{interrupt_return_accesses}
 use Rattle.cpu.specs.InstructionAccesses.{entry_accesses, break_accesses, jsr_accesses, past_operand}
 use Rattle.cpu.specs.InstructionAccesses.{operation_accesses}
-use Rattle.cpu.proofs.Laws.{stores_of}
 
 -- ---- whatever is read, of the writes and of the end
 

@@ -1,14 +1,14 @@
 -- An instruction worked with the answers so far is its accesses, asked: one lemma for each part of it, by the bus and
 -- by its accesses.
 use mathlib.Core.Path.{◌≡◌, refl, sym, ap, ◌∙◌}
-use mathlib.Core.Bool.{Bool, true, false, not, cond}
-use mathlib.Core.List.{List, [], ◌∷◌, ◌++◌}
-use Prim.Native.Nat.{ℕ, ◌+◌, ◌%◌, ◌<◌, ◌≤◌}
+use mathlib.Core.Bool.{Bool, true, false, cond}
+use mathlib.Core.List.{List, [], ◌∷◌}
+use Prim.Native.Nat.{ℕ, ◌<◌, ◌≤◌}
 use native.Mathlib.Omega.{arith}
 use lib.Dec.{ltb, eqb}
 use lib.ListN.{length, drop}
 use borrow.Author.Tests.{ne_eqb}
-use Rattle.bits.specs.Bits.{bit, low_byte, high_byte, word16}
+use Rattle.bits.specs.Bits.{low_byte, high_byte, word16}
 use Rattle.bits.proofs.Cond.{cond_map, cond_along}
 use Rattle.memory.specs.Memory.{is_register}
 use Rattle.cpu_opcodes.specs.Decode.{decode_of}
@@ -21,7 +21,6 @@ use Rattle.cpu_opcodes.specs.declared.operation.Operation.TheVariants as operati
 use Rattle.cpu_opcodes.specs.declared.operation.ModifyOperation.{ModifyOperation}
 use Rattle.cpu_opcodes.specs.declared.operation.PullOperation.{PullOperation}
 use Rattle.cpu_alu.specs.Status.{pushed, unpacked}
-use Rattle.cpu_alu.specs.declared.Computed.{Computed}
 use Rattle.cpu_access.specs.declared.Bus.{Bus}
 use Rattle.cpu_access.specs.declared.Got.{Got}
 use Rattle.cpu_access.specs.declared.CpuRegisters.{CpuRegisters}
@@ -30,9 +29,9 @@ use Rattle.cpu_access.specs.declared.stack.Write.{Write}
 use Rattle.cpu_access.specs.declared.stack.Writes.{Writes}
 use Rattle.cpu_access.specs.declared.waiting.Waiting.{Waiting}
 use Rattle.cpu_access.specs.declared.waiting.Waiting.TheVariants as waiting
-use Rattle.cpu_access.specs.Bus.{memory_byte, next_address, irq_vector, vector_of, unasked, got, answered, asking, ask_of}
+use Rattle.cpu_access.specs.Bus.{memory_byte, next_address, vector_of, unasked, got, answered, asking, ask_of}
 use Rattle.cpu_access.specs.Bus.{read_of, fetch_of}
-use Rattle.cpu_access.specs.Stack.{write_at, no_writes, stack_address, down, up, push_high, push_low, push_at, push_address}
+use Rattle.cpu_access.specs.Stack.{no_writes, stack_address, down, up, push_high, push_low, push_at, push_address}
 use Rattle.cpu_access.specs.Stack.{push_interrupt, pull_of, pull_address, written_over, read_after}
 use Rattle.cpu_modes.specs.Modes.{relative_to, locate_of}
 use Rattle.cpu_access.specs.Accesses.{Accesses, ends, reads, writes, ◌>>=◌, byte_after, in_order}
@@ -42,28 +41,24 @@ use Rattle.cpu_modes.proofs.Follows.{then_then, located_at, read_on, read_after_
 use Rattle.cpu_modes.proofs.Follows.{locate_on}
 use Rattle.cpu_effects.specs.declared.Worked.{Worked}
 use Rattle.cpu_effects.specs.declared.Operand.{Operand}
-use Rattle.cpu_effects.specs.declared.Executed.{Executed}
 use Rattle.cpu_effects.specs.declared.Writing.{Writing}
 use Rattle.cpu_effects.specs.declared.Writing.TheVariants as writing
 use Rattle.cpu_kinds.specs.Updates.{with_sp, with_pc, with_status, into_a}
-use Rattle.cpu_kinds.specs.Kinds.{with_read, changed_by, byte_to_store, branch_taken, bit_branch_taken, byte_to_push}
-use Rattle.cpu_kinds.specs.Kinds.{with_pulled, with_register, with_flag}
+use Rattle.cpu_kinds.specs.Kinds.{changed_by}
 use Rattle.cpu_effects.specs.Effects.{pushes_of, waiting_of, executed, read_only, completed, stored, modified, branched}
 use Rattle.cpu_effects.specs.Effects.{branch_operand, bit_branched, jumped, pushed_byte, pulled_byte, returned}
 use Rattle.cpu_effects.specs.Effects.{returned_from_interrupt, interrupted, break_taken}
-use Rattle.cpu_operations.specs.Operations.{access_of, operate_of}
-use Rattle.cpu.specs.declared.Ask.{Ask}
+use Rattle.cpu_operations.specs.Operations.{operate_of}
 use Rattle.cpu.specs.declared.Outcome.{Outcome}
 use Rattle.cpu.specs.declared.Outcome.TheVariants.{Stopped, Asked, Done}
 use Rattle.cpu.specs.InstructionInCode.{ask_with, outcome_of, operand_byte, operand_of, carried_out, writes_asked}
-use Rattle.cpu.specs.InstructionInCode.{jsr_to}
 use Rattle.cpu.specs.InstructionInCode.{jsr_outcome, execute_of, decoded_to, instruction_of}
 use Rattle.cpu.specs.InstructionAccesses.{Conclusion, Ending, undefined, leaves, undefined_stop, conclusion}
 use Rattle.cpu.specs.InstructionAccesses.{completion}
 use Rattle.cpu.specs.InstructionAccesses.{store_at, store_back, modify_accesses, branch_on, bit_branch_accesses, jump_to}
 use Rattle.cpu.specs.InstructionAccesses.{push_accesses, pull_accesses, return_accesses, interrupt_return_accesses}
 use Rattle.cpu.specs.InstructionAccesses.{entry_accesses}
-use Rattle.cpu.specs.InstructionAccesses.{break_accesses, jsr_accesses, past_operand, operation_accesses}
+use Rattle.cpu.specs.InstructionAccesses.{break_accesses, jsr_accesses, operation_accesses}
 use Rattle.cpu.specs.InstructionAccesses.{opcode_accesses}
 use Rattle.cpu.specs.InstructionAccesses.{instruction_accesses}
 

@@ -1,7 +1,7 @@
 -- What holds of every instruction: at most three writes; 2 to 7 clocks, 3 to 7 with a store; only registers are asked
 -- for, at most five times.
 use mathlib.Core.Path.{◌≡◌, ◌∙◌, refl, sym, ap}
-use mathlib.Core.Bool.{Bool, true, false, cond, ◌&&◌, ◌||◌, not, false≢true}
+use mathlib.Core.Bool.{Bool, true, false, ◌&&◌, ◌||◌, not, false≢true}
 use mathlib.Core.List.{List}
 use Prim.Native.Nat.{ℕ, suc, ◌+◌, ◌≤◌, ◌<◌}
 use native.Mathlib.Omega.{arith}
@@ -44,8 +44,8 @@ use Rattle.cpu_operations.specs.Operations.{access_of, is_jsr}
 use Rattle.cpu.specs.InstructionInCode.{ask_with, outcome_of, operand_byte, operand_of, carried_out, writes_asked}
 use Rattle.cpu.specs.InstructionInCode.{jsr_to}
 use Rattle.cpu.specs.InstructionInCode.{jsr_outcome, execute_of, decoded_to, instruction_of}
-use Rattle.cpu_operations.proofs.Sound.{Cost, cost_of, Sound, operate_sound}
-use Rattle.cpu_operations.proofs.Stores.{is_store, stores, Stores, operate_stores}
+use Rattle.cpu_operations.proofs.Sound.{cost_of, operate_sound}
+use Rattle.cpu_operations.proofs.Stores.{is_store, stores, operate_stores}
 
 -- an instruction that is done
 pub record Fits (w : Worked) : Type 0 where

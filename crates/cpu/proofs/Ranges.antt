@@ -1,15 +1,15 @@
 -- Ranges kept: from registers, memory and answers within their ranges an instruction leaves registers and writes within
 -- theirs (01, Machine state: "Well-formed: every field is within its range here").
-use mathlib.Core.Path.{◌≡◌, refl}
-use mathlib.Core.Bool.{Bool, true, false, not, ◌&&◌, cond}
+use mathlib.Core.Path.{◌≡◌}
+use mathlib.Core.Bool.{Bool, true, false, ◌&&◌, cond}
 use mathlib.Core.List.{List}
-use Prim.Native.Nat.{ℕ, ◌+◌, ◌-◌, ◌*◌, ◌/◌, ◌%◌, ◌^◌, ◌≤◌, ◌<◌}
+use Prim.Native.Nat.{ℕ, ◌+◌, ◌-◌, ◌%◌, ◌<◌}
 use native.Mathlib.Omega.{arith}
 use lib.Bits.{and_lt, or_lt, xor_lt}
-use lib.Dec.{ltb, leb, eqb}
+use lib.Dec.{ltb, eqb}
 use lib.IntN.{ℤ, pos, negsuc}
 use lib.ListN.{get_or, length}
-use Rattle.bits.specs.Bits.{bit, one_where, with_bit, word16, wrapping8, wrapping16}
+use Rattle.bits.specs.Bits.{one_where, with_bit, word16, wrapping8, wrapping16}
 use Rattle.bits.proofs.Bits.{bit_room}
 use Rattle.bits.proofs.Cond.{cond_both, one_where_le}
 use Rattle.cpu_opcodes.specs.Decode.{decode_of}
@@ -36,7 +36,7 @@ use Rattle.cpu_opcodes.specs.declared.operation.PullOperation.TheVariants.{Pla, 
 use Rattle.cpu_opcodes.specs.declared.operation.RegisterOperation.{RegisterOperation}
 use Rattle.cpu_opcodes.specs.declared.operation.RegisterOperation.TheVariants.{Dex, Dey, Inx, Iny, Tax, Tay, Tsx, Txa}
 use Rattle.cpu_opcodes.specs.declared.operation.RegisterOperation.TheVariants.{Txs, Tya}
-use Rattle.cpu_alu.specs.Status.{packed, pushed}
+use Rattle.cpu_alu.specs.Status.{pushed}
 use Rattle.cpu_alu.specs.Arithmetic.{modulo, lowered, digit_difference, decimal_difference, subtract_binary, add_binary}
 use Rattle.cpu_alu.specs.Arithmetic.{add_decimal, adc_of, sbc_of}
 use Rattle.cpu_alu.specs.Logic.{and_of, ora_of, eor_of}

@@ -14,7 +14,7 @@ use Rattle.cpu_opcodes.specs.declared.operation.Operation.TheVariants as operati
 use Rattle.cpu_opcodes.specs.Decode.{decode_of}
 use Rattle.cpu_access.specs.declared.CpuRegisters.{CpuRegisters}
 use Rattle.cpu_access.specs.Accesses.{Accesses, ends, reads, writes, ◌>>=◌}
-use Rattle.cpu_modes.specs.ModeAccesses.{Located, located, branch_target}
+use Rattle.cpu_modes.specs.ModeAccesses.{Located, located}
 use Rattle.cpu_kinds.proofs.Flags.{listed}
 use Rattle.cpu_operations.specs.Operations.{access_of}
 use Rattle.cpu_operations.proofs.Stores.{modifies, read_modify_write, just_eight}

@@ -1,6 +1,6 @@
 -- Interrupt entries (01, One clock, 4) as the code works them: reset, NMI, IRQ. By their accesses they stand in
 -- `InstructionAccesses.antt`.
-use Rattle.std.specs.Prelude.{Bool, true, false, List, ℕ}
+use Rattle.std.specs.Prelude.{true, false, List, ℕ}
 use Rattle.cpu_alu.specs.Status.{pushed, with_i}
 use Rattle.cpu_access.specs.declared.CpuRegisters.{CpuRegisters}
 use Rattle.cpu_access.specs.Bus.{reset_vector, vector_of}

@@ -17,7 +17,7 @@ use Rattle.cpu_access.specs.declared.waiting.Waiting.{Waiting}
 use Rattle.cpu_access.specs.declared.waiting.Waiting.TheVariants.{Nothing, Byte}
 use Rattle.cpu_access.specs.Bus.{next_address, reset_vector, irq_vector}
 use Rattle.cpu_access.specs.Stack.{write_at, stack_address, down, up}
-use Rattle.cpu_access.specs.Accesses.{Accesses, ends, reads, writes, ◌>>=◌, ◌>>◌, byte_at, byte_to_modify, address_at, push}
+use Rattle.cpu_access.specs.Accesses.{Accesses, ends, ◌>>=◌, ◌>>◌, byte_at, byte_to_modify, address_at, push}
 use Rattle.cpu_modes.specs.ModeAccesses.{Located, located, branch_target}
 use Rattle.cpu_kinds.specs.Updates.{with_sp, with_pc, with_status, into_a}
 use Rattle.cpu_kinds.specs.Kinds.{with_read, changed_by, byte_to_store, branch_taken, bit_branch_taken, byte_to_push}

@@ -1,7 +1,7 @@
 -- One whole instruction as the code works it, with the answers so far: the opcode, the operand's place, its byte, the
 -- operation. What is to be believed of an instruction stands in `InstructionAccesses.antt`; this is the same, asked
 -- (`instruction_asked` of `cpu/proofs/InstructionAccesses.antt`).
-use Rattle.std.specs.Prelude.{Bool, true, false, cond, List, ℕ, ◌+◌, ◌*◌}
+use Rattle.std.specs.Prelude.{true, false, cond, List, ℕ}
 use Rattle.bits.specs.Bits.{word16}
 use Rattle.cpu_opcodes.specs.Decode.{decode_of}
 use Rattle.cpu_opcodes.specs.declared.Decoded.{Decoded}

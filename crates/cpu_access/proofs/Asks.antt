@@ -1,6 +1,6 @@
 -- What holds of every bus that reads have left: only a register is asked for, and with an answer for each read nothing
 -- is.
-use Rattle.std.proofs.Common.{◌≡◌, ℕ, suc, ◌+◌, ◌<◌, ◌≤◌, Bool, true, false, cond, ltb, List, length, refl, add-one, arith, ltb-false, ltb-true}
+use Rattle.std.proofs.Common.{◌≡◌, ℕ, suc, ◌<◌, ◌≤◌, Bool, true, false, ltb, List, length, refl, arith, ltb-false, ltb-true}
 use mathlib.Core.Bool.{false≢true}
 use Rattle.bits.proofs.Cond.{cond_both}
 use Rattle.cpu_access.specs.declared.Bus.{Bus}

@@ -1,5 +1,5 @@
 -- What an instruction reads: the register file by asking, all else from the lent memory.
-use Rattle.std.specs.Prelude.{ℕ, ◌+◌, ◌*◌, ◌/◌, ◌%◌, Bool, true, false, cond, List, length, nat_lt, slice_index}
+use Rattle.std.specs.Prelude.{ℕ, ◌+◌, Bool, true, false, cond, List, length, nat_lt, slice_index}
 use Rattle.bits.specs.Bits.{word16, wrapping16}
 use Rattle.memory.specs.Memory.{is_register}
 use Rattle.cpu_access.specs.declared.Bus.{Bus}

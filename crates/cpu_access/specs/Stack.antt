@@ -1,6 +1,6 @@
 -- What an instruction writes, and the stack. Nothing is written to memory here: the writes are handed on, in their
 -- order.
-use Rattle.std.specs.Prelude.{ℕ, ◌+◌, ◌*◌, ◌/◌, ◌%◌, Bool, true, false, cond, ◌&&◌, List, ◌==◌, nat_lt}
+use Rattle.std.specs.Prelude.{ℕ, ◌%◌, Bool, false, cond, ◌&&◌, List, ◌==◌, nat_lt}
 use Rattle.bits.specs.Bits.{low_byte, high_byte, word16, wrapping8}
 use Rattle.cpu_access.specs.declared.Bus.{Bus}
 use Rattle.cpu_access.specs.declared.Got.{Got}

@@ -1,7 +1,5 @@
 -- Bounds of what the specifications compute.
-use mathlib.Core.Path.{◌≡◌, refl}
-use mathlib.Core.Bool.{Bool, true, false, not, cond}
-use Prim.Native.Nat.{ℕ, ◌+◌, ◌*◌, ◌/◌, ◌%◌, ◌^◌, ◌≤◌, ◌<◌}
+use Prim.Native.Nat.{◌≤◌}
 use native.Mathlib.Omega.{arith}
 use Rattle.bits.proofs.Cond.{one_where_le}
 use Rattle.cpu_alu.specs.Status.{packed}

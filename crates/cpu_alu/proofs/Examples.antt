@@ -2,8 +2,6 @@
 use mathlib.Core.Path.{◌≡◌, refl}
 use mathlib.Core.Bool.{Bool, true, false}
 use Rattle.cpu_alu.specs.Arithmetic.{adc_of, add_binary, add_decimal, digit_sum, low_sum, corrected, overflow}
-use Rattle.cpu_alu.specs.declared.Status.{Status}
-use Rattle.cpu_alu.specs.declared.Computed.{Computed}
 
 -- P3: "decimal 58h + 46h + C: 05h, C"; the digits' sum before 60h is added is A5h, so N and V are set
 pub p3 : (n v i z : Bool)

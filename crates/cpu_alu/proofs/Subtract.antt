@@ -1,15 +1,14 @@
 -- The binary difference, stated as a sum with the complement, is a - m less borrow, and C says that none is left to
 -- borrow.
 use mathlib.Core.Path.{◌≡◌}
-use mathlib.Core.Bool.{Bool, true, false, not}
-use Prim.Native.Nat.{ℕ, ◌+◌, ◌-◌, ◌%◌, ◌≤◌, ◌<◌}
+use mathlib.Core.Bool.{not}
+use Prim.Native.Nat.{ℕ, ◌+◌, ◌-◌, ◌%◌, ◌<◌}
 use native.Mathlib.Omega.{arith}
 use borrow.Author.Tests.{le-leb, lt-leb}
 use lib.Dec.{leb}
 use Rattle.bits.specs.Bits.{one_where}
 use Rattle.cpu_alu.specs.Arithmetic.{sum, add_binary, subtract_binary}
 use Rattle.cpu_alu.specs.declared.Status.{Status}
-use Rattle.cpu_alu.specs.declared.Computed.{Computed}
 use Rattle.cpu_alu.proofs.Integers.{by_less}
 use Rattle.bits.proofs.Cond.{one_where_not}
 

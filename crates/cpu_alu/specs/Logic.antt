@@ -1,5 +1,5 @@
 -- AND, ORA, EOR and BIT.
-use Rattle.std.specs.Prelude.{Bool, true, false, ℕ, ◌/◌, ◌%◌, ◌^◌, eqb}
+use Rattle.std.specs.Prelude.{ℕ, eqb}
 use Rattle.std.specs.Int.Bits.{bit_and, bit_or, bit_xor}
 use Rattle.bits.specs.Bits.{bit}
 use Rattle.cpu_alu.specs.Status.{computed}

@@ -1,5 +1,5 @@
 -- The instructions that read, modify and write a byte: shifts, counts by one, single bits.
-use Rattle.std.specs.Prelude.{Bool, true, false, ℕ, ◌+◌, ◌*◌, ◌/◌, ◌%◌, ◌^◌}
+use Rattle.std.specs.Prelude.{true, false, ℕ, ◌+◌, ◌*◌, ◌/◌, ◌%◌}
 use Rattle.bits.specs.Bits.{bit, one_where, with_bit, wrapping8}
 use Rattle.cpu_alu.specs.Status.{with_c, computed}
 use Rattle.cpu_alu.specs.declared.Status.{Status}

@@ -2,7 +2,7 @@
 use mathlib.Core.Path.{◌≡◌, refl, sym, ap, subst, ◌∙◌}
 use mathlib.Core.Bool.{Bool, true, false, ◌||◌, cond}
 use mathlib.Core.List.{List, []}
-use Prim.Native.Nat.{ℕ, ◌+◌, ◌-◌, ◌≤◌, ◌<◌}
+use Prim.Native.Nat.{ℕ, ◌+◌, ◌-◌, ◌<◌}
 use native.Mathlib.Nat.{add-zero}
 use native.Mathlib.Omega.{arith}
 use lib.Dec.{ltb}
@@ -38,20 +38,17 @@ use Rattle.cpu_access.specs.Bus.{unasked, next_address, memory_byte, read_of, fe
 use Rattle.cpu_modes.specs.Modes.{locate_of, relative_to}
 use Rattle.cpu_access.specs.Stack.{write_at, one_write, push_at, down, pull_of, pull_address}
 use Rattle.cpu_effects.specs.declared.Worked.{Worked}
-use Rattle.cpu_effects.specs.declared.Writing.{Writing}
 use Rattle.cpu_effects.specs.declared.Writing.TheVariants.{Nothing, Pushed, Stored}
 use Rattle.cpu_effects.specs.Effects.{pushes_of, waiting_of, completed, stored, modified, branched, bit_branched}
 use Rattle.cpu_effects.specs.Effects.{jumped, pushed_byte, pulled_byte, returned, returned_from_interrupt}
-use Rattle.cpu_kinds.specs.Kinds.{with_read, changed_by, byte_to_store, branch_taken, bit_branch_taken, byte_to_push}
+use Rattle.cpu_kinds.specs.Kinds.{with_read, byte_to_store, branch_taken, bit_branch_taken, byte_to_push}
 use Rattle.cpu_kinds.specs.Kinds.{with_pulled, with_register, with_flag}
 use Rattle.cpu_operations.specs.Operations.{operate_of}
-use Rattle.cpu_kinds.specs.Updates.{with_pc, with_sp, with_status, into_a}
+use Rattle.cpu_kinds.specs.Updates.{with_pc, with_sp, with_status}
 use Rattle.cpu_kinds.proofs.Bytes.{byte_stored, byte_pushed}
-use Rattle.cpu.specs.declared.Outcome.{Outcome}
 use Rattle.cpu.specs.declared.Outcome.TheVariants.{Done}
 use Rattle.cpu.specs.declared.work.Work.{Work}
 use Rattle.cpu.specs.InstructionInCode.{instruction_of, execute_of, outcome_of, carried_out, operand_byte, jsr_outcome}
-use Rattle.cpu.specs.InstructionInCode.{writes_asked}
 use Rattle.cpu.specs.Work.{next_work}
 use Rattle.memory_writes.specs.Commit.{put_write, committed}
 use Rattle.cpu_access.specs.Halt.{ends_span}

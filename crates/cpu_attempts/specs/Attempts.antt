@@ -1,5 +1,5 @@
 -- One instruction of a span tried by its opcode: done whole, with the byte that it stores put, or not at all.
-use Rattle.std.specs.Prelude.{◌≡◌, Bool, true, false, ◌||◌, cond, List, [], ℕ, ◌+◌, ◌-◌, ◌≤◌, ◌<◌, ltb, eqb}
+use Rattle.std.specs.Prelude.{◌≡◌, Bool, true, false, ◌||◌, cond, List, [], ℕ, ◌+◌, ◌-◌, ◌≤◌, ◌<◌, ltb}
 use Rattle.bits.specs.Bits.{one_where}
 use Rattle.memory.specs.Memory.{is_register}
 use Rattle.cpu_opcodes.specs.declared.operation.BitBranchOperation.{BitBranchOperation}
@@ -14,7 +14,6 @@ use Rattle.cpu_access.specs.declared.halt.Halt.{Halt}
 use Rattle.cpu_modes.specs.declared.Place.{Place}
 use Rattle.cpu_access.specs.declared.stack.Write.{Write}
 use Rattle.cpu_access.specs.declared.stack.Writes.{Writes}
-use Rattle.cpu_access.specs.declared.waiting.Waiting.{Waiting}
 use Rattle.cpu_access.specs.declared.waiting.Waiting.TheVariants as waiting
 use Rattle.cpu_access.specs.declared.Fetched.{Fetched}
 use Rattle.cpu_access.specs.declared.Got.{Got}
@@ -29,7 +28,7 @@ use Rattle.cpu_modes.specs.Modes.{relative_to}
 use Rattle.cpu_access.specs.Stack.{write_at, one_write, push_at, down, push_address, pull_of, pull_address, read_after}
 use Rattle.cpu_effects.specs.declared.Worked.{Worked}
 use Rattle.cpu_effects.specs.declared.Writing.{Writing}
-use Rattle.cpu_effects.specs.declared.Writing.TheVariants.{Nothing, Pushed, Stored}
+use Rattle.cpu_effects.specs.declared.Writing.TheVariants.{Nothing, Stored}
 use Rattle.cpu_effects.specs.Effects.{pushes_of, waiting_of}
 use Rattle.cpu_kinds.specs.Kinds.{with_read, changed_by, byte_to_store, bit_branch_taken, with_pulled, with_register}
 use Rattle.cpu_kinds.specs.Kinds.{with_flag}

@@ -1,6 +1,6 @@
 -- What an instruction leaves, by kind: the registers, what it writes, and the clocks that it takes.
-use Rattle.std.specs.Prelude.{Bool, true, false, cond, List, ℕ, ◌+◌, ◌*◌, ◌/◌, ◌%◌, eqb}
-use Rattle.bits.specs.Bits.{bit, one_where}
+use Rattle.std.specs.Prelude.{Bool, true, false, cond, List, ℕ, ◌+◌}
+use Rattle.bits.specs.Bits.{one_where}
 use Rattle.cpu_opcodes.specs.declared.operation.PullOperation.{PullOperation}
 use Rattle.cpu_alu.specs.Status.{unpacked, pushed, with_i}
 use Rattle.cpu_alu.specs.declared.Status.{Status}

@@ -1,6 +1,6 @@
 -- Which operations affect which flag (001, 3.8). Each list there is closed: an operation outside it keeps the flag.
 use mathlib.Core.Path.{◌≡◌, refl}
-use mathlib.Core.Bool.{Bool, true, false, cond}
+use mathlib.Core.Bool.{Bool, true, false}
 use mathlib.Core.List.{List, [], ◌∷◌}
 use Prim.Native.Nat.{ℕ}
 use lib.Dec.{eqb}
@@ -8,9 +8,8 @@ use Rattle.bits.specs.Lists.{any_of}
 use Rattle.bits.proofs.Cond.{cond_both}
 use Rattle.cpu_opcodes.specs.TableInCode.{operation_number}
 use Rattle.cpu_opcodes.specs.declared.operation.Operation.{Operation}
-use Rattle.cpu_opcodes.specs.declared.operation.Operation.TheVariants.{Read, Modify, Store, Branch, BitBranch, Push}
-use Rattle.cpu_opcodes.specs.declared.operation.Operation.TheVariants.{Pull, Register, Flag, Brk, Jmp, Jsr, Nop, Rti}
-use Rattle.cpu_opcodes.specs.declared.operation.Operation.TheVariants.{Rts}
+use Rattle.cpu_opcodes.specs.declared.operation.Operation.TheVariants.{Read, Modify}
+use Rattle.cpu_opcodes.specs.declared.operation.Operation.TheVariants.{Pull, Register, Flag, Brk, Rti}
 use Rattle.cpu_opcodes.specs.declared.operation.ReadOperation.{ReadOperation}
 use Rattle.cpu_opcodes.specs.declared.operation.ReadOperation.TheVariants.{Adc, And, Bit, Cmp, Cpx, Cpy, Eor, Lda, Ldx}
 use Rattle.cpu_opcodes.specs.declared.operation.ReadOperation.TheVariants.{Ldy, Ora, Sbc}

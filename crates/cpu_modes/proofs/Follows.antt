@@ -1,5 +1,5 @@
 -- Reads, fetches, pulls and addressing modes by the bus, against their accesses: what follows them follows alike.
-use Rattle.std.proofs.Common.{◌≡◌, ℕ, Bool, true, false, cond, List, [], ◌∷◌, ◌++◌, refl, ap, ◌∙◌}
+use Rattle.std.proofs.Common.{◌≡◌, ℕ, Bool, false, List, [], refl, ap, ◌∙◌}
 use mathlib.Core.Path.{fun_ext}
 use Rattle.bits.specs.Bits.{word16, wrapping8}
 use Rattle.cpu_opcodes.specs.declared.Mode.{Mode}

@@ -1,6 +1,6 @@
 -- Addressing modes (001, appendix A): where the operand lies, whether finding it crossed a page, and PC past the
 -- operand bytes.
-use Rattle.std.specs.Prelude.{ℕ, ◌+◌, ◌*◌, ◌/◌, ◌%◌, Bool, true, false, cond, not, List, ◌==◌, nat_lt}
+use Rattle.std.specs.Prelude.{ℕ, ◌+◌, ◌/◌, Bool, true, false, cond, not, List, ◌==◌, nat_lt}
 use Rattle.bits.specs.Bits.{low_byte, high_byte, word16, wrapping8, wrapping16}
 use Rattle.cpu_opcodes.specs.declared.Mode.{Mode}
 use Rattle.cpu_opcodes.specs.declared.Mode.TheVariants.{Implied, Accumulator, Immediate, ZeroPage, ZeroPageX}

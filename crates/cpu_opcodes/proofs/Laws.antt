@@ -1,14 +1,14 @@
 -- What holds of the whole table, each by one computed test: 183 opcodes are defined (P8 of document 01), each by one
 -- row, and a defined one takes 2 to 7 clocks.
 use mathlib.Core.Path.{◌≡◌, refl}
-use mathlib.Core.Bool.{Bool, true, false, cond, ◌&&◌}
+use mathlib.Core.Bool.{Bool, true, cond, ◌&&◌}
 use mathlib.Core.List.{List, [], ◌∷◌}
 use Prim.Native.Nat.{ℕ, ◌+◌, ◌<◌, ◌≤◌}
 use lib.Dec.{T, leb, eqb, leb→le, eqb→eq}
 use lib.ListN.{length}
 use Rattle.bits.specs.Lists.{all_of, tabulate}
 use Rattle.bits.proofs.Cond.{cond_both, both_left, both_right}
-use Rattle.bits.proofs.Tables.{up_to, below}
+use Rattle.bits.proofs.Tables.{below}
 use Rattle.cpu_opcodes.specs.InstructionSet.{Row, rows}
 use Rattle.cpu_opcodes.specs.Decode.{look_up, decode_of, defined, count_defined}
 use Rattle.cpu_opcodes.specs.declared.Decoded.{Decoded}

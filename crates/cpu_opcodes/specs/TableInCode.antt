@@ -5,7 +5,6 @@ use Rattle.bits.specs.Lists.{tabulate}
 use Rattle.cpu_opcodes.specs.Decode.{decode_of}
 use Rattle.cpu_opcodes.specs.declared.Decoded.{Decoded}
 use Rattle.cpu_opcodes.specs.declared.Decoded.TheVariants.{Undefined, Defined}
-use Rattle.cpu_opcodes.specs.declared.Entry.{Entry}
 use Rattle.cpu_opcodes.specs.declared.operation.Operation.{Operation}
 use Rattle.cpu_opcodes.specs.declared.operation.Operation.TheVariants.{Read, Modify, Store, Branch, BitBranch}
 use Rattle.cpu_opcodes.specs.declared.operation.Operation.TheVariants.{Push, Pull, Register, Flag, Brk, Jmp, Jsr}

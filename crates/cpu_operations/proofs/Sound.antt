@@ -1,11 +1,11 @@
 -- What an operation may leave, by kind: at most three writes, 2 to 7 clocks, and a bus after so many reads.
 use mathlib.Core.Path.{◌≡◌}
-use mathlib.Core.Bool.{Bool, true, false, not, cond}
+use mathlib.Core.Bool.{Bool, true}
 use mathlib.Core.List.{List}
-use Prim.Native.Nat.{ℕ, suc, ◌+◌, ◌/◌, ◌%◌, ◌^◌, ◌≤◌}
+use Prim.Native.Nat.{ℕ, suc, ◌+◌, ◌≤◌}
 use native.Mathlib.Omega.{arith}
-use lib.Dec.{lit≤, eqb}
-use Rattle.bits.specs.Bits.{bit, one_where}
+use lib.Dec.{lit≤}
+use Rattle.bits.specs.Bits.{one_where}
 use Rattle.bits.proofs.Cond.{cond_both, one_where_le}
 use Rattle.cpu_opcodes.specs.declared.operation.Operation.{Operation}
 use Rattle.cpu_opcodes.specs.declared.operation.Operation.TheVariants as operation

@@ -1,9 +1,8 @@
 -- A change of a machine's world that plain clocks, gaps and counts do not see: it may be made before a run or after it.
 use mathlib.Core.Path.{◌≡◌, refl, sym, ap, ◌∙◌}
-use mathlib.Core.Bool.{Bool, true, false, ◌&&◌, cond}
+use mathlib.Core.Bool.{Bool, true, false, ◌&&◌}
 use Prim.Native.Nat.{ℕ, zero, suc, ◌+◌}
 use lib.Dec.{ltb}
-use Rattle.bits.specs.Bits.{one_where}
 use Rattle.bits.proofs.Cond.{cond_along}
 use Rattle.leaps.specs.Leaps.{System, Run, plains, leap_of, moved_of, left_after, leaps_of, run}
 

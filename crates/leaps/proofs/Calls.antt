@@ -1,30 +1,30 @@
 -- Demand 3 of every chip that keeps its laws: the list of calls, the cut, and the first half's inputs.
 use mathlib.Core.Path.{◌≡◌, refl, sym, ap, ◌∙◌}
-use mathlib.Core.Bool.{Bool, true, false, cond, not, ◌||◌, false≢true}
-use mathlib.Core.List.{List, [], ◌∷◌, ◌++◌}
+use mathlib.Core.Bool.{Bool, true, false, not, ◌||◌, false≢true}
+use mathlib.Core.List.{List, [], ◌∷◌}
 use Prim.Native.Nat.{ℕ, zero, suc, ◌+◌, ◌-◌, ◌≤◌, ◌<◌}
 use native.Mathlib.Nat.{add-zero, zero-add}
 use native.Mathlib.Omega.{arith}
 use lib.Dec.{ltb, eqb}
-use lib.ListN.{length, take, drop, get_or, length-drop, take-append-drop}
+use lib.ListN.{length, drop, get_or, length-drop, take-append-drop}
 use borrow.Author.Tests.{eqb-true, eqb-false, eq-eqb, ne_eqb}
 use Rattle.pin_lists.specs.PinLists.{pins_right}
 use Rattle.pin_lists.proofs.PinLists.{right_lengths, right_above}
 use Rattle.refusals.specs.declared.Limits.{Limits}
 use Rattle.refusals.specs.Refusals.{last_clock, first_of, refusal_of}
-use Rattle.refusals.proofs.Accepted.{Accepted, accepted, accepts}
+use Rattle.refusals.proofs.Accepted.{accepted, accepts}
 use Rattle.leaps.specs.Leaps.{plains, leap_count, trace, leading_quiet}
 use Rattle.leaps.specs.Chip.{ChipRules}
 use Rattle.leaps.specs.World.{WorldOf, plain_of, running_in, done_in, system_of}
-use Rattle.leaps.specs.CallLists.{Machine, Call, run_for, Listed, calls, FairOf, step_of, run_of, plain_run_of}
-use Rattle.leaps.specs.Calls.{ResultOf, HandedOf, stop_of, call_start, handed_back_of, refused_with, lent_of}
+use Rattle.leaps.specs.CallLists.{Machine, Call, run_for, calls, FairOf, step_of, run_of, plain_run_of}
+use Rattle.leaps.specs.Calls.{ResultOf, HandedOf, stop_of, call_start, handed_back_of, lent_of}
 use Rattle.leaps.specs.Calls.{after_call_of, result_by_of, refusal_in, refused_handed, refused_call, machine_of, Room}
 use Rattle.leaps.specs.Calls.{Fit}
-use Rattle.leaps.proofs.Laws.{Lawful, plains_stopped, gap_leads}
+use Rattle.leaps.proofs.Laws.{plains_stopped, gap_leads}
 use Rattle.leaps.proofs.CallLists as lists
 use Rattle.leaps.proofs.CallLists.{Callable}
 use Rattle.leaps.proofs.Chips.{ChipLaws, lawful, no_gap_event, plain_fits, plains_stop, clock_most}
-use Rattle.leaps.proofs.Parts.{whole_of, Rest, plains_rest, plains_whole, lent_whole, count_whole}
+use Rattle.leaps.proofs.Parts.{whole_of, plains_rest, plains_whole, lent_whole, count_whole}
 
 -- what is lent is refused just where the whole is: the output lists lose as much of their lengths
 drop_eqb : (k : ℕ) (l m : List ℕ) → k ≤ length l → k ≤ length m

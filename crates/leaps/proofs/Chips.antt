@@ -1,19 +1,19 @@
 -- A chip that keeps the laws below, with its memory and lists, is a machine whose leaps are lawful.
-use mathlib.Core.Path.{◌≡◌, refl, sym, ap, ◌∙◌}
-use mathlib.Core.Bool.{Bool, true, false, cond, ◌||◌, false≢true}
+use mathlib.Core.Path.{◌≡◌, refl, sym, ◌∙◌}
+use mathlib.Core.Bool.{Bool, true, false, false≢true}
 use mathlib.Core.List.{List, []}
 use Prim.Native.Nat.{ℕ, zero, suc, ◌+◌, ◌-◌, ◌≤◌, ◌<◌}
 use native.Mathlib.Nat.{add-zero}
 use native.Mathlib.Omega.{arith}
 use lib.Dec.{ltb, eqb}
-use lib.ListN.{length, take, drop, set, length-set}
-use borrow.Author.Tests.{ltb-true, eqb-true, eq-eqb, ne_eqb}
+use lib.ListN.{length, take, set, length-set}
+use borrow.Author.Tests.{ltb-true, eqb-true, ne_eqb}
 use Rattle.bits.specs.Bits.{one_where}
 use Rattle.bits.proofs.Cond.{cond_both}
 use Rattle.pin_lists.specs.PinLists.{pins_right, input_count}
 use Rattle.pin_lists.proofs.PinLists.{right_read, input_count_within}
 use Rattle.leaps.specs.Chip.{ChipRules, ClockEnd, ClockOutcome, stopped, ended}
-use Rattle.leaps.specs.Leaps.{System, plains}
+use Rattle.leaps.specs.Leaps.{plains}
 use Rattle.leaps.specs.World.{WorldOf, put_record, stopped_at, moved_to, after, input_count_in, outcome_in, plain_of}
 use Rattle.leaps.specs.World.{running_in}
 use Rattle.leaps.specs.World.{is_done, done_in, event_in, pass_in, system_of}

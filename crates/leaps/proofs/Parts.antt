@@ -3,20 +3,20 @@
 use mathlib.Core.Path.{◌≡◌, refl, sym, ap, ◌∙◌}
 use mathlib.Core.Bool.{Bool, true, false, cond}
 use mathlib.Core.List.{List, [], ◌∷◌, ◌++◌}
-use Prim.Native.Nat.{ℕ, zero, suc, ◌+◌, ◌-◌, ◌≤◌, ◌<◌}
+use Prim.Native.Nat.{ℕ, zero, suc, ◌+◌}
 use native.Mathlib.Nat.{add-zero, add_assoc}
 use native.Mathlib.Omega.{arith}
-use lib.Dec.{ltb, eqb}
+use lib.Dec.{ltb}
 use lib.ListN.{length, take, drop, set, length-append, take-append-drop}
 use lib.Seq.{length-take-le, drop-drop}
 use borrow.Author.Tests.{ltb-true, ltb-false, lt-ltb, le-ltb}
 use Rattle.bits.specs.Bits.{one_where}
 use Rattle.bits.proofs.Cond.{cond_both}
-use Rattle.leaps.specs.Leaps.{plains, trace, leap_count, events_in, quiet_end}
-use Rattle.leaps.specs.Chip.{ChipRules, ClockEnd, ClockOutcome, stopped, ended}
-use Rattle.leaps.specs.World.{WorldOf, stopped_at, moved_to, put_record, after, input_count_in, outcome_in, plain_of}
+use Rattle.leaps.specs.Leaps.{plains, trace, leap_count}
+use Rattle.leaps.specs.Chip.{ChipRules, ClockOutcome, stopped, ended}
+use Rattle.leaps.specs.World.{WorldOf, put_record, after, input_count_in, outcome_in, plain_of}
 use Rattle.leaps.specs.World.{running_in}
-use Rattle.leaps.specs.World.{is_done, done_in, event_in, system_of}
+use Rattle.leaps.specs.World.{done_in, event_in, system_of}
 use Rattle.leaps.specs.Calls.{lent_of, Room}
 use Rattle.leaps.proofs.Laws.{trace_done, trace_undone}
 use Rattle.leaps.proofs.Chips.{ChipLaws, lawful}

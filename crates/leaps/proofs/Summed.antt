@@ -1,10 +1,10 @@
 -- Document 02, U7: calls with page sums, and lists of them.
 use mathlib.Core.Path.{◌≡◌, refl, sym, ap, ◌∙◌}
-use mathlib.Core.Bool.{Bool, true, false, cond}
+use mathlib.Core.Bool.{Bool, true, false}
 use mathlib.Core.List.{List, [], ◌∷◌, map}
 use Prim.Native.Nat.{ℕ, ◌+◌, ◌%◌, ◌<◌}
 use native.Mathlib.Omega.{arith}
-use lib.ListN.{length, get_or}
+use lib.ListN.{length}
 use borrow.Author.Tests.{ne_eqb}
 use Rattle.memory.specs.Memory.{memory_length}
 use Rattle.page_sums.specs.PageSums.{page_count, sum_modulus, sum_at, page_sum, sums_after, SixteenBits, Right}
@@ -15,11 +15,11 @@ use Rattle.refusals.specs.Refusals.{refusal_of}
 use Rattle.leaps.specs.Leaps.{plains}
 use Rattle.leaps.specs.Chip.{ChipRules}
 use Rattle.leaps.specs.World.{WorldOf, running_in, system_of}
-use Rattle.leaps.specs.CallLists.{Call, single_clock, run_for, count_of, step_of, run_of, call_of, Listed, listed}
+use Rattle.leaps.specs.CallLists.{Call, single_clock, run_for, step_of, run_of, call_of, Listed, listed}
 use Rattle.leaps.specs.CallLists.{calls}
 use Rattle.leaps.specs.CallLists.{clocks_accepted, results_by}
-use Rattle.leaps.specs.Calls.{ResultOf, HandedOf, refused_with, refused_handed, refused_call, stop_of, lent_of}
-use Rattle.leaps.specs.Calls.{after_call_of, refusal_in, machine_of, Room}
+use Rattle.leaps.specs.Calls.{ResultOf, HandedOf, refused_with, refused_handed, stop_of, lent_of}
+use Rattle.leaps.specs.Calls.{after_call_of, machine_of, Room}
 use Rattle.leaps.specs.Summed.{with_sums, listed_sums, calls_with_sums}
 use Rattle.leaps.proofs.Chips.{ChipLaws}
 use Rattle.leaps.proofs.Calls.{fair, refused_hands_on}

@@ -1,5 +1,5 @@
 -- Calls on a chip with its memory and lists, of any chip: document 01, "What is handed back" and "Run and leaps".
-use Rattle.std.specs.Prelude.{◌≡◌, Bool, true, false, ◌||◌, cond, List, ◌++◌, ℕ, ◌+◌, ◌-◌, ◌≤◌, eqb, length, take, drop}
+use Rattle.std.specs.Prelude.{◌≡◌, Bool, true, ◌||◌, cond, List, ◌++◌, ℕ, ◌+◌, ◌-◌, ◌≤◌, eqb, length, take, drop}
 use Rattle.pin_lists.specs.PinLists.{pins_right}
 use Rattle.refusals.specs.Refusals.{refusal_of}
 use Rattle.leaps.specs.Chip.{ChipRules}

@@ -1,5 +1,5 @@
 -- What clocks, calls and leaps ask of a chip: document 01, "One clock" and "Run and leaps".
-use Rattle.std.specs.Prelude.{Bool, true, false, List, ℕ}
+use Rattle.std.specs.Prelude.{Bool, List, ℕ}
 use Rattle.refusals.specs.declared.Limits.{Limits}
 
 -- a clock that is done: the state and the memory after it, its output record if the word differs, and the stop that it

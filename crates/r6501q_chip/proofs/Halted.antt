@@ -7,22 +7,21 @@ use Prim.Native.Nat.{ℕ, zero, suc, ◌+◌, ◌<◌}
 use native.Mathlib.Omega.{arith}
 use lib.Dec.{ltb, eqb}
 use lib.ListN.{length, take, set}
-use borrow.Author.Tests.{eq-eqb, ne_eqb, eqb-true, eqb-false, lt-ltb, le-ltb, ltb-true, ltb-false}
-use Rattle.bits.proofs.Cond.{cond_yes, cond_no}
+use borrow.Author.Tests.{eq-eqb, eqb-true, eqb-false, lt-ltb, le-ltb, ltb-true, ltb-false}
+use Rattle.bits.proofs.Cond.{cond_no}
 use Rattle.pin_lists.specs.PinLists.{pins_right, input_count}
 use Rattle.cpu_access.specs.declared.stack.Write.{Write}
 use Rattle.cpu_access.specs.declared.stack.Writes.{Writes}
 use Rattle.cpu_access.specs.declared.halt.Halt.{Halt}
-use Rattle.cpu_access.specs.declared.halt.Halt.TheVariants.{Nowhere, At}
+use Rattle.cpu_access.specs.declared.halt.Halt.TheVariants.{Nowhere}
 use Rattle.cpu_access.specs.Stack.{no_writes}
 use Rattle.cpu_access.specs.Halt.{halts}
 use Rattle.cpu_access.proofs.Told.{told, in_turn, each_told, unwritten}
 use Rattle.leaps.specs.Leaps.{plains}
-use Rattle.leaps.specs.World.{stopped_at, moved_to, after, input_count_in, running_in, plain_of}
+use Rattle.leaps.specs.World.{stopped_at, after, input_count_in, running_in, plain_of}
 use Rattle.r6501q_state.specs.declared.state.State.{State}
 use Rattle.r6501q_state.specs.Inputs.{last_pin}
 use Rattle.r6501q_state.specs.Pins.{driven_word}
-use Rattle.r6501q_clock.specs.declared.Ended.{Ended}
 use Rattle.r6501q_clock.specs.declared.Clocked.{Clocked}
 use Rattle.r6501q_clock.specs.declared.Clocked.TheVariants.{Stopped, Done}
 use Rattle.r6501q_clock.specs.Clock.{halt_stop, finished, clock_of}
@@ -32,7 +31,7 @@ use Rattle.r6501q_events.specs.Events.{has_input, event_of}
 use Rattle.r6501q_events.specs.Gaps.{gap_of}
 use Rattle.r6501q_events.proofs.Gaps.{gap_clock, gap_event}
 use Rattle.r6501q_events.proofs.Passing.{pass_driven}
-use Rattle.r6501q_chip.specs.R6501q.{World, end_of, clock_outcome, r6501q, plain, system}
+use Rattle.r6501q_chip.specs.R6501q.{World, clock_outcome, r6501q, plain, system}
 
 -- ---- what a clock tells
 

@@ -1,12 +1,12 @@
 -- 02, U8: "every test that relied on the old start now give RES high on clock 1": the first clock of a fresh chip with
 -- that input is the first clock of the old start, in all but the one input more that is read.
 use mathlib.Core.Path.{◌≡◌, refl, sym, ap, ◌∙◌}
-use mathlib.Core.Bool.{Bool, true, false, ◌&&◌, cond, false≢true}
+use mathlib.Core.Bool.{Bool, true, false, false≢true}
 use mathlib.Core.List.{List, [], ◌∷◌, ◌++◌}
-use Prim.Native.Nat.{ℕ, zero, suc, ◌+◌, ◌≤◌}
+use Prim.Native.Nat.{ℕ, suc, ◌+◌, ◌≤◌}
 use native.Mathlib.Omega.{arith}
-use lib.Dec.{ltb, eqb}
-use lib.ListN.{length, take, drop}
+use lib.Dec.{ltb}
+use lib.ListN.{length, take}
 use borrow.Author.Tests.{ltb-true, ltb-false, eq-eqb}
 use Rattle.bits.specs.Bits.{with_bit, set_where, flip_where}
 use Rattle.bits.proofs.Cond.{and_left, and_right}

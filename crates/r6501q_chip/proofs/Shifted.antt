@@ -9,7 +9,6 @@ use lib.ListN.{length}
 use borrow.Author.Tests.{eq-eqb}
 use Rattle.bits.proofs.Cond.{cond_map, cond_along}
 use Rattle.cpu_access.specs.declared.halt.Halt.{Halt}
-use Rattle.cpu_access.specs.declared.halt.Halt.TheVariants.{At}
 use Rattle.cpu_access.specs.declared.waiting.Waiting.{Waiting}
 use Rattle.cpu_access.specs.declared.waiting.Waiting.TheVariants.{Nothing, Byte}
 use Rattle.cpu_access.specs.declared.stack.Write.{Write}
@@ -28,7 +27,6 @@ use Rattle.leaps.proofs.ShiftedCalls as calls
 use Rattle.r6501q_state.specs.declared.state.State.{State}
 use Rattle.r6501q_state.specs.declared.state.Peripherals.{Peripherals}
 use Rattle.r6501q_state.specs.State.{fresh, well_formed}
-use Rattle.r6501q_state.specs.Inputs.{res_high}
 use Rattle.r6501q_state.specs.Pins.{driven_word, levels_of, with_edges, reset_of, sensed_at, sensed}
 use Rattle.r6501q_cpu.specs.declared.Next.{Next}
 use Rattle.r6501q_cpu.specs.declared.Processed.{Processed}

@@ -1,5 +1,5 @@
 -- 01, What is handed back: "6 | the next clock would start an undefined opcode", said of a plain clock.
-use mathlib.Core.Path.{◌≡◌, refl, sym, ap, ◌∙◌}
+use mathlib.Core.Path.{◌≡◌, refl, ap, ◌∙◌}
 use mathlib.Core.Bool.{Bool, true, false, ◌&&◌, not, cond}
 use mathlib.Core.List.{List}
 use Prim.Native.Nat.{ℕ}
@@ -23,7 +23,6 @@ use Rattle.cpu_access.specs.declared.waiting.Waiting.{Waiting}
 use Rattle.cpu_access.specs.declared.waiting.Waiting.TheVariants.{Nothing, Byte}
 use Rattle.r6501q_cpu.specs.Processor.{waited_by, whole_instruction, opcode_at, irq_due, start_of, processor_of}
 use Rattle.r6501q_cpu.proofs.Undefined.{undefined_opcode, defined_opcode}
-use Rattle.r6501q_clock.specs.declared.Clocked.{Clocked}
 use Rattle.r6501q_clock.specs.Clock.{halt_stop, before_cpu, finished, recorded, clock_of}
 use Rattle.r6501q_chip.specs.R6501q.{World, clock_outcome, r6501q, plain}
 

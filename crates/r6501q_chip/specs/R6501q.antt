@@ -1,5 +1,5 @@
 -- The R6501Q as an instance of the theory of leaps: the definitions of its parts, under the theory's names.
-use Rattle.std.specs.Prelude.{Bool, true, false, cond, List, ℕ}
+use Rattle.std.specs.Prelude.{Bool, cond, List, ℕ}
 use Rattle.memory.specs.Memory.{memory_length}
 use Rattle.refusals.specs.declared.Limits.{Limits}
 use Rattle.leaps.specs.Leaps.{System}

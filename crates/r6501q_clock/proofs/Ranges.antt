@@ -1,26 +1,22 @@
 -- Steps 1 to 3 take well-formed states to well-formed states: of the fields that `well_formed` tests. (The clock is
 -- below its largest number where a clock is done.)
 use mathlib.Core.Path.{◌≡◌, refl}
-use mathlib.Core.Bool.{Bool, true, false, not}
+use mathlib.Core.Bool.{true}
 use mathlib.Core.List.{List}
-use Prim.Native.Nat.{ℕ, ◌+◌, ◌<◌}
+use Prim.Native.Nat.{ℕ, ◌+◌}
 use native.Mathlib.Omega.{arith}
 use Rattle.bits.specs.Bits.{bit}
 use Rattle.bits.proofs.Cond.{cond_both}
 use Rattle.counters.specs.declared.time.Ticks.{Ticks}
-use Rattle.counters.specs.declared.a.CountedA.{CountedA}
-use Rattle.counters.specs.declared.b.CountedB.{CountedB}
-use Rattle.counters.specs.Counters.{clock_a, clock_b}
 use Rattle.serial.proofs.Ranges.{transmitter_clock_fits, receiver_clock_fits}
 use Rattle.r6501q_state.specs.declared.state.Peripherals.{Peripherals}
 use Rattle.r6501q_state.specs.declared.state.State.{State}
 use Rattle.r6501q_state.specs.State.{peripherals_fit, well_formed}
 use Rattle.r6501q_state.specs.Pins.{levels_of, rose, with_edges, reset_of, sensed_at, sensed}
-use Rattle.r6501q_state.specs.Control.{mode_a, mode_b}
 use Rattle.r6501q_state.proofs.Ranges.{InPeripherals, in_peripherals, fit_peripherals, set_lt, formed, formed_cpu}
 use Rattle.r6501q_state.proofs.Ranges.{formed_peripherals, sensed_formed}
 use Rattle.r6501q_clock.specs.Clock.{inputs_set, count_a, count_b, sent_by, heard_by, peripherals_clock}
-use Rattle.r6501q_clock.specs.Clock.{with_peripherals_clock, before_cpu}
+use Rattle.r6501q_clock.specs.Clock.{before_cpu}
 
 counted_a_in : (p : Peripherals) (before now : ℕ) → InPeripherals p → InPeripherals (count_a p before now).peripherals
 unfolding count_a

@@ -1,5 +1,5 @@
 -- Document 01, "One clock, in this order": steps 1 to 5. What a clock comes to is decided before anything is written.
-use Rattle.std.specs.Prelude.{Bool, true, false, ◌&&◌, not, cond, List, [], ◌∷◌, ℕ, ◌+◌, eqb}
+use Rattle.std.specs.Prelude.{Bool, ◌&&◌, not, cond, List, [], ◌∷◌, ℕ, ◌+◌, eqb}
 use Rattle.bits.specs.Bits.{bit, set_where, flip_where}
 use Rattle.counters.specs.declared.time.Ticks.{Ticks}
 use Rattle.counters.specs.declared.a.CountedA.{CountedA}

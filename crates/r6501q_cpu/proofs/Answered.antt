@@ -1,8 +1,8 @@
 -- What the code does, by questions and answers, is what the accesses do, performed one after the other.
 use mathlib.Core.Path.{◌≡◌, refl, sym, ap, ◌∙◌}
-use mathlib.Core.Bool.{Bool, true, false, cond}
+use mathlib.Core.Bool.{Bool, true, false}
 use mathlib.Core.List.{List, [], ◌∷◌, ◌++◌}
-use Prim.Native.Nat.{ℕ, suc, ◌+◌, ◌-◌, ◌≤◌, ◌<◌}
+use Prim.Native.Nat.{ℕ, suc, ◌≤◌, ◌<◌}
 use native.Mathlib.Omega.{arith}
 use lib.Dec.{ltb}
 use lib.ListN.{length}
@@ -18,23 +18,19 @@ use Rattle.cpu_access.specs.declared.CpuRegisters.{CpuRegisters}
 use Rattle.cpu_access.specs.declared.stack.Write.{Write}
 use Rattle.cpu_access.specs.Bus.{next_address, nmi_vector, irq_vector, vector_of}
 use Rattle.cpu_access.specs.Stack.{push_interrupt}
-use Rattle.cpu_access.specs.Accesses.{RegisterFile, Performed, byte_after, peripherals_read, peripherals_written}
+use Rattle.cpu_access.specs.Accesses.{RegisterFile, byte_after, peripherals_read, peripherals_written}
 use Rattle.cpu_access.specs.Accesses.{value_read, performed, in_order}
 use Rattle.cpu_access.proofs.Asked.{Reply, asks, over, asked}
 use Rattle.cpu_access.proofs.Answering.{all_written, performs}
 use Rattle.cpu_effects.specs.Effects.{pushes_of, waiting_of, interrupted}
 use Rattle.cpu.specs.EntriesInCode.{reset_entry, interrupt_entry}
-use Rattle.cpu.specs.declared.Outcome.{Outcome}
-use Rattle.cpu.specs.declared.Outcome.TheVariants as outcome
 use Rattle.cpu.specs.InstructionInCode.{instruction_of}
-use Rattle.cpu.specs.InstructionAccesses.{Conclusion, Ending, undefined, leaves, undefined_stop, entry_accesses}
+use Rattle.cpu.specs.InstructionAccesses.{Ending, undefined, leaves, undefined_stop, entry_accesses}
 use Rattle.cpu.specs.InstructionAccesses.{instruction_accesses}
 use Rattle.cpu.specs.InstructionAccesses.{reset_accesses, interrupt_accesses}
 use Rattle.cpu.proofs.Laws.{done_fits, asked_writes, asks_end}
 use Rattle.cpu.proofs.InstructionAccesses.{pushes_as, waiting_as, worked_of, outcome_from, unpushed, instruction_asked}
-use Rattle.r6501q_cpu.specs.declared.Processed.{Processed}
-use Rattle.r6501q_cpu.specs.declared.Processed.TheVariants.{Stopped, Done}
-use Rattle.r6501q_cpu.specs.declared.Round.TheVariants.{Over, Answered}
+use Rattle.r6501q_cpu.specs.declared.Processed.TheVariants.{Stopped}
 use Rattle.r6501q_cpu.specs.Processor.{registers_of, register_file, performed_in, next_after, processed_by}
 use Rattle.r6501q_cpu.specs.Processor.{processed_after, whole_instruction, reset_start, nmi_start, irq_start}
 use Rattle.r6501q_cpu.specs.Asking.{put_register, registers_after, answer_of, next_of, round_by, round_of}

@@ -1,7 +1,7 @@
 -- Questions and answers of an instruction: one round of `instruction_from`, and that its bound is never met.
-use mathlib.Core.Path.{◌≡◌, refl, sym, ◌∙◌}
+use mathlib.Core.Path.{◌≡◌, refl}
 use mathlib.Core.List.{List, [], ◌∷◌, ◌++◌}
-use Prim.Native.Nat.{ℕ, zero, suc, ◌+◌, ◌-◌, ◌≤◌, ◌<◌}
+use Prim.Native.Nat.{ℕ, zero, suc, ◌+◌, ◌≤◌, ◌<◌}
 use native.Mathlib.Omega.{arith}
 use lib.ListN.{length, length-append}
 use Rattle.r6501q_state.specs.declared.state.Peripherals.{Peripherals}
@@ -15,7 +15,6 @@ use Rattle.cpu.specs.InstructionAccesses.{undefined_stop}
 use Rattle.cpu.proofs.Laws.{asks_end}
 use Rattle.r6501q_cpu.specs.declared.Processed.{Processed}
 use Rattle.r6501q_cpu.specs.declared.Processed.TheVariants.{Stopped}
-use Rattle.r6501q_cpu.specs.declared.Round.{Round}
 use Rattle.r6501q_cpu.specs.declared.Round.TheVariants.{Over, Answered}
 use Rattle.r6501q_cpu.specs.Processor.{registers_of}
 use Rattle.r6501q_cpu.specs.Asking.{round_by, after_round, round_of, instruction_from, answered_instruction}

@@ -1,6 +1,6 @@
 -- 02, U6: a store begins on its first clock and writes nothing; its byte waits, and is put on its last clock alone.
 -- What an instruction begins with, of its direct definition.
-use mathlib.Core.Path.{◌≡◌, refl, sym, ap, ◌∙◌}
+use mathlib.Core.Path.{◌≡◌, refl, ap, ◌∙◌}
 use mathlib.Core.Bool.{Bool, true, false, ◌&&◌, cond}
 use mathlib.Core.List.{List, []}
 use Prim.Native.Nat.{ℕ, ◌-◌, ◌≤◌, ◌<◌}

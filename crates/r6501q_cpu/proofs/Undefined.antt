@@ -1,7 +1,7 @@
 -- 01, stop 6, "the next clock would start an undefined opcode": an instruction is undefined just where the opcode at PC
 -- is, and the CPU's part of a clock has no other stop.
 use mathlib.Core.Path.{◌≡◌, refl, sym, ap, subst, ◌∙◌}
-use mathlib.Core.List.{List, [], ◌∷◌, ◌++◌}
+use mathlib.Core.List.{List, []}
 use Prim.Native.Nat.{ℕ}
 use lib.Dec.{ltb, eqb}
 use Rattle.bits.proofs.Cond.{cond_both}

@@ -1,5 +1,5 @@
 -- Document 01, "One clock", 4: the CPU, on the state that steps 1 to 3 leave.
-use Rattle.std.specs.Prelude.{Bool, true, false, ◌&&◌, not, cond, List, [], ℕ, ◌-◌, ltb, eqb}
+use Rattle.std.specs.Prelude.{Bool, false, ◌&&◌, not, cond, List, [], ℕ, ◌-◌, ltb, eqb}
 use Rattle.bits.specs.Bits.{bit}
 use Rattle.cpu_alu.specs.Status.{packed, unpacked}
 use Rattle.r6501q_state.specs.declared.state.Cpu.{Cpu}

@@ -6,7 +6,7 @@ use Prim.Native.Nat.{ℕ, zero, suc, ◌+◌, ◌-◌, ◌<◌}
 use native.Mathlib.Omega.{arith}
 use lib.Dec.{ltb, eqb}
 use lib.ListN.{get_or}
-use borrow.Author.Tests.{eqb-true, eqb-false, ne_eqb, le-ltb, lt-ltb, not-false}
+use borrow.Author.Tests.{eqb-true, eqb-false, ne_eqb, le-ltb, not-false}
 use Rattle.bits.specs.Bits.{bit, one_where, set_where, flip_where}
 use Rattle.cpu_access.specs.Waiting.{byte_waits}
 use Rattle.bits.specs.Lists.{any_of}

@@ -1,5 +1,5 @@
 -- Document 01, "Run and leaps": the gap and the gap passed.
-use Rattle.std.specs.Prelude.{Bool, true, false, not, cond, List, [], ◌∷◌, ℕ, ◌+◌, ◌-◌, min}
+use Rattle.std.specs.Prelude.{Bool, not, cond, List, [], ◌∷◌, ℕ, ◌+◌, ◌-◌, min}
 use Rattle.bits.specs.Bits.{bit, one_where}
 use Rattle.cpu_access.specs.Waiting.{byte_waits}
 use Rattle.counters.specs.declared.time.Clocks.{Clocks}

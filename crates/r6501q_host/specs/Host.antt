@@ -1,5 +1,5 @@
 -- What crosses to and from programs in C and Rust: document 01, "Machine state", with each flag and level as a byte.
-use Rattle.std.specs.Prelude.{Bool, true, false, ◌&&◌, ◌||◌, cond, ℕ, leb, eqb}
+use Rattle.std.specs.Prelude.{Bool, ◌&&◌, ◌||◌, cond, ℕ, leb, eqb}
 use Rattle.page_sums.specs.declared.TotalResult.{TotalResult}
 use Rattle.bits.specs.Bits.{one_where}
 use Rattle.bit_rate.specs.declared.Found.{Found}

@@ -1,13 +1,13 @@
 -- The run in code, leap by leap.
 use mathlib.Core.Path.{◌≡◌, refl, sym, ap, ◌∙◌}
-use mathlib.Core.Bool.{Bool, true, false, ◌&&◌, cond}
+use mathlib.Core.Bool.{true, false}
 use mathlib.Core.List.{List}
 use Prim.Native.Nat.{ℕ, ◌+◌, ◌-◌, ◌≤◌, ◌<◌}
 use native.Mathlib.Nat.{zero-add, add-zero, add_assoc}
 use native.Mathlib.Omega.{arith}
 use lib.Dec.{ltb, eqb}
 use lib.ListN.{length, drop, length-drop}
-use borrow.Author.Tests.{ltb-true, ltb-false, lt-ltb, le-ltb, eq-eqb, ne_eqb, eqb-true}
+use borrow.Author.Tests.{ltb-true, lt-ltb, le-ltb, eq-eqb, ne_eqb, eqb-true}
 use Rattle.bits.proofs.Cond.{cond_both, one_where_le, and_left, and_right}
 use Rattle.counters.specs.declared.time.Clocks.{Clocks}
 use Rattle.cpu_access.specs.declared.halt.Halt.{Halt}
@@ -16,13 +16,13 @@ use Rattle.refusals.proofs.Accepted.{accepted}
 use Rattle.leaps.specs.Leaps.{Run, leap_of, left_after, moved_of, run}
 use Rattle.leaps.specs.World.{running_in, pass_in}
 use Rattle.leaps.specs.CallLists.{handed_run, run_of, plain_run_of}
-use Rattle.leaps.specs.Calls.{call_start, handed_back_of, refusal_in}
+use Rattle.leaps.specs.Calls.{call_start, handed_back_of}
 use Rattle.leaps.proofs.Laws.{run_leap, run_over}
-use Rattle.leaps.proofs.Chips.{Advanced, plain_advances}
+use Rattle.leaps.proofs.Chips.{plain_advances}
 use Rattle.leaps.proofs.Calls as theory
 use Rattle.r6501q_state.specs.declared.state.State.{State}
 use Rattle.r6501q_state.specs.State.{well_formed}
-use Rattle.r6501q_events.specs.Gaps.{clocks_of, gap_of, pass_of}
+use Rattle.r6501q_events.specs.Gaps.{clocks_of, gap_of}
 use Rattle.r6501q_events.proofs.Gaps.{gap_le}
 use Rattle.r6501q_events.proofs.Passing.{pass_clock}
 use Rattle.r6501q_advance.specs.declared.Progress.{Progress}

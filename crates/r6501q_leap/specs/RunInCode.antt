@@ -1,5 +1,5 @@
 -- A run in code: what it carries, and what it starts from.
-use Rattle.std.specs.Prelude.{◌≡◌, Bool, ◌&&◌, List, ℕ, ◌+◌, ◌-◌, ◌≤◌, ltb, eqb, length}
+use Rattle.std.specs.Prelude.{◌≡◌, Bool, ◌&&◌, List, ℕ, ◌+◌, ◌≤◌, ltb, eqb, length}
 use Rattle.counters.specs.declared.time.Clocks.{Clocks}
 use Rattle.cpu_access.specs.declared.halt.Halt.{Halt}
 use Rattle.refusals.specs.Refusals.{last_clock}

@@ -2,7 +2,7 @@
 use Rattle.std.specs.Prelude.{ℕ}
 use Rattle.r6501q_state.specs.declared.state.Control.{Control}
 use Rattle.r6501q_state.specs.declared.state.Peripherals.{Peripherals}
-use Rattle.r6501q_state.specs.Copies.{with_ports, with_control}
+use Rattle.r6501q_state.specs.Copies.{with_ports}
 
 abbrev pub latched_b : Peripherals → ℕ → Peripherals
 latched_b p v = with_ports p (record { a = p.ports.a; b = v; c = p.ports.c; d = p.ports.d })

@@ -1,5 +1,5 @@
 -- Reads of 00h to 3Fh: 001, C.1, column READ, a row for each address in its order; 01, Registers.
-use Rattle.std.specs.Prelude.{Bool, true, false, cond, ℕ, ◌/◌, ◌%◌, eqb}
+use Rattle.std.specs.Prelude.{Bool, false, cond, ℕ, ◌/◌, ◌%◌, eqb}
 use Rattle.bits.specs.Bits.{low_byte, high_byte, with_bit}
 use Rattle.r6501q_state.specs.declared.state.Peripherals.{Peripherals}
 use Rattle.r6501q_state.specs.Copies.{flagged, scsr_set}

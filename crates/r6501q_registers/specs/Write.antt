@@ -1,5 +1,5 @@
 -- Writes of 00h to 3Fh: 001, C.1, column WRITE, a row for each address in its order; 01, Registers.
-use Rattle.std.specs.Prelude.{Bool, true, false, ◌&&◌, not, cond, ℕ, eqb}
+use Rattle.std.specs.Prelude.{false, ◌&&◌, not, cond, ℕ, eqb}
 use Rattle.bits.specs.Bits.{bit, with_bit, set_where, flip_where}
 use Rattle.counters.specs.Counters.{lower_a, upper_a, load_counter_a, lower_b, upper_b, copy_b, load_counter_b, turn_to_c}
 use Rattle.serial_transmitter.specs.Transmitter.{transmitter_with_sccr}

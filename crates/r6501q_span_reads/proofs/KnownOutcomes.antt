@@ -1,6 +1,6 @@
 -- An instruction whose operand is a register in the zero page: it asks for the operand, and no other question follows;
 -- a store asks nothing.
-use mathlib.Core.Path.{◌≡◌, refl, sym, ap, ◌∙◌}
+use mathlib.Core.Path.{◌≡◌, refl, ap, ◌∙◌}
 use mathlib.Core.Bool.{Bool, true, false, cond}
 use mathlib.Core.List.{List, [], ◌∷◌}
 use Prim.Native.Nat.{ℕ, ◌+◌}
@@ -15,7 +15,7 @@ use Rattle.cpu_opcodes.specs.declared.operation.ReadOperation.{ReadOperation}
 use Rattle.cpu_opcodes.specs.declared.operation.StoreOperation.{StoreOperation}
 use Rattle.cpu_access.specs.declared.CpuRegisters.{CpuRegisters}
 use Rattle.cpu_modes.specs.declared.Place.{Place}
-use Rattle.cpu_access.specs.Bus.{unasked, next_address, memory_byte, ask_of, read_of, fetch_of}
+use Rattle.cpu_access.specs.Bus.{unasked, next_address, ask_of, read_of, fetch_of}
 use Rattle.cpu_modes.specs.Modes.{locate_of, relative_to}
 use Rattle.cpu_access.specs.Stack.{write_at, no_writes}
 use Rattle.cpu_effects.specs.declared.Worked.{Worked}

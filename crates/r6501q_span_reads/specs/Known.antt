@@ -1,6 +1,6 @@
 -- Instructions whose operand is a register of the chip in the zero page, by a mode without an index: what is known of
 -- their outcome in a span.
-use Rattle.std.specs.Prelude.{◌≡◌, Bool, true, false, List, ℕ, ◌≤◌}
+use Rattle.std.specs.Prelude.{◌≡◌, true, false, List, ℕ, ◌≤◌}
 use Rattle.memory.specs.Memory.{is_register}
 use Rattle.cpu_opcodes.specs.Decode.{decode_of}
 use Rattle.cpu_opcodes.specs.declared.Entry.{Entry}

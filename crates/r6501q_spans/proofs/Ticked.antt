@@ -25,13 +25,12 @@ use Rattle.cpu_access.specs.Waiting.{byte_waits}
 use Rattle.cpu_access.specs.Accesses.{peripherals_written}
 use Rattle.memory.specs.Memory.{is_register}
 use Rattle.cpu_effects.specs.declared.Worked.{Worked}
-use Rattle.cpu_effects.specs.Effects.{pushes_of, waiting_of}
+use Rattle.cpu_effects.specs.Effects.{pushes_of}
 use Rattle.cpu.specs.declared.Ask.{Ask}
 use Rattle.cpu.specs.declared.Outcome.{Outcome}
 use Rattle.cpu.specs.declared.Outcome.TheVariants as outcome
 use Rattle.cpu.specs.declared.work.Work.{Work}
 use Rattle.cpu.specs.InstructionInCode.{instruction_of}
-use Rattle.cpu.specs.Work.{next_work}
 use Rattle.cpu.specs.InstructionAccesses.{undefined_stop}
 use Rattle.r6501q_cpu.specs.declared.Processed.{Processed}
 use Rattle.r6501q_cpu.specs.declared.Processed.TheVariants as processed
@@ -51,7 +50,7 @@ use Rattle.r6501q_events.proofs.Same.{same_levels_lem}
 use Rattle.r6501q_events.proofs.Quiet.{not_put, not_over, before_cpu_peripherals}
 use Rattle.r6501q_events.proofs.Gaps.{no_event, no_input_next}
 use Rattle.r6501q_clock.specs.declared.Clocked.TheVariants.{Done}
-use Rattle.r6501q_clock.specs.Clock.{before_cpu, peripherals_clock, ended_with, finished, clock_of}
+use Rattle.r6501q_clock.specs.Clock.{before_cpu, ended_with, finished, clock_of}
 use Rattle.r6501q_unseen.specs.Unseen.{peripherals_clocks, ticks_in, SameSeen, Unseen}
 use Rattle.r6501q_unseen.proofs.TickClocks.{peripherals_add}
 use Rattle.r6501q_unseen.proofs.Laws.{peripherals_one, none_ticks, unseen_left_b, peripherals_pass}

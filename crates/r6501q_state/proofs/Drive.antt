@@ -1,13 +1,12 @@
 -- Port A's drive, pin by pin (01, Pin lists; 02, U1).
 use mathlib.Core.Path.{◌≡◌, refl, ◌∙◌}
 use mathlib.Core.Bool.{Bool, true, false, cond}
-use Prim.Native.Nat.{ℕ}
 use Rattle.bits.specs.Bits.{bit, with_bit}
 use Rattle.bits.proofs.Bits.{bit_put, bit_above, bit_below}
 use Rattle.serial_format.specs.Format.{transmitter_shifts}
 use Rattle.serial_transmitter.specs.Transmitter.{line, shift_clock}
 use Rattle.r6501q_state.specs.declared.state.Peripherals.{Peripherals}
-use Rattle.r6501q_state.specs.Pins.{with_shift_clock, drive_a}
+use Rattle.r6501q_state.specs.Pins.{drive_a}
 
 module _ (p : Peripherals) where
   -- "PA6 is the transmitter's line .. while SCCR7 is set", in either mode

@@ -1,5 +1,5 @@
 -- What several registers share: the interrupt flags as read, and the counters' modes.
-use Rattle.std.specs.Prelude.{Bool, true, false, ◌&&◌, ◌||◌, not, cond, ℕ, ◌/◌, ◌%◌, eqb}
+use Rattle.std.specs.Prelude.{Bool, ◌&&◌, ◌||◌, not, ℕ, ◌/◌, ◌%◌, eqb}
 use Rattle.std.specs.Int.Bits.{bit_and}
 use Rattle.bits.specs.Bits.{bit, with_bit}
 use Rattle.counters.specs.Counters.{in_force}

@@ -1,5 +1,5 @@
 -- Document 01, "Pin lists": the R6501Q's last pin, and the external level that an input sets.
-use Rattle.std.specs.Prelude.{Bool, true, false, cond, ℕ, ltb, eqb}
+use Rattle.std.specs.Prelude.{Bool, cond, ℕ, ltb, eqb}
 use Rattle.bits.specs.Bits.{with_bit}
 use Rattle.pin_lists.specs.PinLists.{pin_of, high_of}
 use Rattle.r6501q_state.specs.declared.state.Levels.{Levels}

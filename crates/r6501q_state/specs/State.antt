@@ -1,5 +1,5 @@
 -- Document 01, "Machine state".
-use Rattle.std.specs.Prelude.{Bool, true, false, ◌&&◌, not, ℕ, ◌/◌, ◌%◌, leb, ltb, eqb}
+use Rattle.std.specs.Prelude.{Bool, true, false, ◌&&◌, not, ◌/◌, ◌%◌, leb, ltb, eqb}
 use Rattle.cpu_access.specs.declared.waiting.Waiting.TheVariants.{Nothing}
 use Rattle.cpu_access.specs.Waiting.{byte_waits}
 use Rattle.serial_transmitter.specs.Transmitter.{idle_transmitter, transmitter_fits}

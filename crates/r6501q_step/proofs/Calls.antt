@@ -1,14 +1,12 @@
 -- The single-clock call, by its parts.
-use mathlib.Core.Path.{◌≡◌, refl, sym, ap, ◌∙◌}
-use mathlib.Core.Bool.{Bool}
+use mathlib.Core.Path.{◌≡◌, refl, ap}
 use mathlib.Core.List.{List}
-use Prim.Native.Nat.{ℕ, ◌+◌, ◌≤◌, ◌<◌}
+use Prim.Native.Nat.{ℕ}
 use native.Mathlib.Omega.{arith}
-use lib.Dec.{eqb}
 use lib.ListN.{length}
 use borrow.Author.Tests.{eq-eqb, ne_eqb}
 use Rattle.cpu_access.specs.declared.halt.Halt.{Halt}
-use Rattle.refusals.specs.Refusals.{last_clock, refusal_of}
+use Rattle.refusals.specs.Refusals.{refusal_of}
 use Rattle.refusals.proofs.Accepted.{accepted}
 use Rattle.leaps.specs.Leaps.{moved_of}
 use Rattle.leaps.specs.CallLists.{step_of}

@@ -1,12 +1,12 @@
 -- Steps 2 and 3 of n clocks between which no port level changes, in closed form, where their ticks cannot be seen.
 use mathlib.Core.Path.{◌≡◌, refl, sym, ap, ◌∙◌}
 use mathlib.Core.Bool.{Bool, true, false, ◌&&◌, not, cond}
-use Prim.Native.Nat.{ℕ, zero, suc, ◌+◌, ◌-◌, ◌*◌, ◌/◌, ◌%◌, ◌^◌, ◌≤◌, ◌<◌, min}
+use Prim.Native.Nat.{ℕ, zero, suc, ◌+◌, ◌*◌, ◌/◌, ◌%◌, ◌^◌, ◌≤◌, ◌<◌, min}
 use native.Mathlib.Nat.{zero-add, sub-zero}
 use native.Mathlib.Omega.{arith}
-use lib.Dec.{leb, eqb}
+use lib.Dec.{eqb}
 use borrow.Author.Tests.{eqb-true, not-true}
-use Rattle.bits.specs.Bits.{bit, one_where, with_bit, set_where, flip_where}
+use Rattle.bits.specs.Bits.{bit, with_bit, set_where, flip_where}
 use Rattle.bits.proofs.Cond.{and_left, and_right}
 use Rattle.counters.specs.declared.a.CounterA.{CounterA}
 use Rattle.counters.specs.declared.b.CounterB.{CounterB}
@@ -15,8 +15,8 @@ use Rattle.counters.proofs.Gaps.{pass_add_b}
 use Rattle.r6501q_state.specs.declared.state.Peripherals.{Peripherals}
 use Rattle.r6501q_state.specs.Copies.{with_counter_a, with_counter_b}
 use Rattle.r6501q_state.specs.Control.{mode_a}
-use Rattle.r6501q_state.specs.Pins.{rose, drive_a, drive_d, driven_word}
-use Rattle.r6501q_clock.specs.Clock.{count_a, count_b, sent_by, heard_by, peripherals_clock}
+use Rattle.r6501q_state.specs.Pins.{drive_a, drive_d, driven_word}
+use Rattle.r6501q_clock.specs.Clock.{count_a, sent_by, heard_by, peripherals_clock}
 use Rattle.r6501q_events.specs.Gaps.{clocks_of, counting_a, counting_b}
 use Rattle.r6501q_events.proofs.Quiet.{no_rise, above_zero, counted_b_quiet, peripherals_quiet}
 use Rattle.r6501q_unseen.specs.Ticks.{underflows_in, counter_after, unseen_sends, sent_after, unseen_listens}

@@ -1,16 +1,16 @@
 -- Counter A over n clocks between which no port level changes: its count, and its underflows.
-use mathlib.Core.Path.{◌≡◌, refl, sym, ap, ◌∙◌}
-use mathlib.Core.Bool.{Bool, true, false, ◌&&◌, not, cond}
+use mathlib.Core.Path.{◌≡◌, refl, sym, ◌∙◌}
+use mathlib.Core.Bool.{Bool, true, false, ◌&&◌, cond}
 use Prim.Native.Nat.{ℕ, zero, suc, ◌+◌, ◌-◌, ◌*◌, ◌/◌, ◌%◌, ◌≤◌, ◌<◌}
 use native.Mathlib.Nat.{div-eq_of_lt, div-eq-sub-div, mod-eq_of_lt, mod-eq-sub-mod, zero-add, sub-zero}
 use native.Mathlib.Nat.{div-lt_iff_lt-mul}
 use native.Mathlib.Omega.{arith}
 use lib.Dec.{leb, eqb}
 use borrow.Author.Tests.{leb-true, leb-false, le-leb, lt-leb, eqb-true, eqb-false}
-use Rattle.bits.specs.Bits.{bit, one_where}
+use Rattle.bits.specs.Bits.{one_where}
 use Rattle.counters.specs.declared.a.CounterA.{CounterA}
 use Rattle.counters.specs.declared.a.CountedA.{CountedA}
-use Rattle.counters.specs.Counters.{clock_a, counts_a, down_a, counts_through_a, at_a, counted_a}
+use Rattle.counters.specs.Counters.{clock_a, down_a, counts_through_a, at_a, counted_a}
 use Rattle.r6501q_state.specs.declared.state.Peripherals.{Peripherals}
 use Rattle.r6501q_clock.specs.Clock.{count_a, count_b, sent_by, heard_by, peripherals_clock}
 use Rattle.r6501q_events.specs.Gaps.{counting_a}

@@ -1,12 +1,12 @@
 -- The receiver over ticks that cannot be seen.
-use mathlib.Core.Path.{◌≡◌, refl, sym, ap, ◌∙◌}
+use mathlib.Core.Path.{◌≡◌, refl, ◌∙◌}
 use mathlib.Core.Bool.{Bool, true, false, ◌&&◌, not, cond}
 use Prim.Native.Nat.{ℕ, zero, suc, ◌+◌, ◌-◌, ◌*◌, ◌/◌, ◌%◌, ◌≤◌, ◌<◌}
 use native.Mathlib.Nat.{add-zero, sub-zero}
 use native.Mathlib.Omega.{arith}
 use lib.Dec.{leb, ltb, eqb}
 use borrow.Author.Tests.{ltb-true, ltb-false, lt-ltb, leb-true, le-leb, eq-eqb, ne_eqb}
-use Rattle.bits.specs.Bits.{bit, one_where}
+use Rattle.bits.specs.Bits.{one_where}
 use Rattle.bits.proofs.Cond.{one_where_le, and_left, and_right}
 use Rattle.counters.specs.Counters.{ticks_of}
 use Rattle.serial_receiver.specs.declared.Receiver.{Receiver}

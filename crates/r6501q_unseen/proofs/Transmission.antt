@@ -1,17 +1,16 @@
 -- The transmitter over ticks that cannot be seen.
 use mathlib.Core.Path.{◌≡◌, refl, sym, ap, ◌∙◌}
 use mathlib.Core.Bool.{Bool, true, false, ◌&&◌, not, cond, false≢true}
-use Prim.Native.Nat.{ℕ, zero, suc, ◌+◌, ◌-◌, ◌%◌, ◌≤◌, ◌<◌}
+use Prim.Native.Nat.{ℕ, suc, ◌+◌, ◌-◌, ◌%◌, ◌≤◌, ◌<◌}
 use native.Mathlib.Nat.{add-zero, mod-eq_of_lt}
 use native.Mathlib.Omega.{arith}
-use lib.Dec.{ltb, eqb}
+use lib.Dec.{eqb}
 use borrow.Author.Tests.{lt-ltb, ne_eqb}
 use Rattle.bits.specs.Bits.{bit, with_bit}
 use Rattle.counters.specs.Counters.{ticks_of}
 use Rattle.serial_transmitter.specs.declared.Transmitter.{Transmitter}
 use Rattle.serial_format.specs.Format.{pace}
 use Rattle.serial_transmitter.specs.Transmitter.{sending, idle_tick, next_phase, ticked, bit_tick, send_tick, transmitter_clock, line}
-use Rattle.serial_transmitter.specs.Transmitter.{shift_clock}
 use Rattle.r6501q_state.specs.Pins.{with_shift_clock}
 use Rattle.r6501q_unseen.specs.Ticks.{most_ticks, unseen_sends, at_phase, sends, sent_after}
 

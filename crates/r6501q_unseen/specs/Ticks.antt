@@ -1,6 +1,6 @@
 -- Closed forms: counter A over clocks in all of which it counts, and each half of the serial channel over ticks that
 -- cannot be seen, with a number of ticks up to which they cannot.
-use Rattle.std.specs.Prelude.{Bool, true, false, ◌&&◌, not, cond, ℕ, zero, suc, ◌+◌, ◌-◌, ◌*◌, ◌/◌, ◌%◌, min, leb, ltb, eqb}
+use Rattle.std.specs.Prelude.{Bool, ◌&&◌, not, cond, ℕ, zero, suc, ◌+◌, ◌-◌, ◌*◌, ◌/◌, ◌%◌, min, leb, eqb}
 use Rattle.bits.specs.Bits.{bit, one_where}
 use Rattle.counters.specs.declared.a.CounterA.{CounterA}
 use Rattle.counters.specs.Counters.{at_a}

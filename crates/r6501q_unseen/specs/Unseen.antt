@@ -1,6 +1,6 @@
 -- Clocks between which no port level changes, of which nothing can be seen but what counts: counters A and B go on, and
 -- the serial channel's progress; flags, control registers, port latches, serial data and driven word stay.
-use Rattle.std.specs.Prelude.{◌≡◌, Bool, true, false, ◌&&◌, cond, ℕ, zero, suc, ◌+◌, ◌-◌, ◌*◌, ◌%◌, ◌≤◌, ◌<◌, leb, eqb}
+use Rattle.std.specs.Prelude.{◌≡◌, Bool, true, ◌&&◌, cond, ℕ, zero, suc, ◌+◌, ◌-◌, ◌%◌, ◌≤◌, leb, eqb}
 use Rattle.bits.specs.Bits.{one_where}
 use Rattle.r6501q_state.specs.declared.state.Peripherals.{Peripherals}
 use Rattle.r6501q_state.specs.Pins.{driven_word}

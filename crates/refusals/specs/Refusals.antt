@@ -1,5 +1,5 @@
 -- Document 01, "What is handed back", numbers 1 to 5: what a call checks before anything else, of any chip.
-use Rattle.std.specs.Prelude.{Bool, true, false, ◌||◌, not, cond, List, [], ◌∷◌, ℕ, ◌+◌, ltb, eqb, length}
+use Rattle.std.specs.Prelude.{Bool, ◌||◌, not, cond, List, [], ◌∷◌, ℕ, ◌+◌, ltb, eqb, length}
 use Rattle.pin_lists.specs.PinLists.{pins_right}
 use Rattle.refusals.specs.declared.Limits.{Limits}
 

@@ -1,6 +1,6 @@
 -- P5 and P6 of document 01; a byte sent and one received in shift-register mode (02, U1).
 use mathlib.Core.Path.{◌≡◌, refl}
-use mathlib.Core.Bool.{Bool, true, false, cond}
+use mathlib.Core.Bool.{Bool, true, false}
 use mathlib.Core.List.{List, [], ◌∷◌}
 use Prim.Native.Nat.{ℕ, zero, suc}
 use Rattle.bits.specs.Bits.{with_bit, set_where}

@@ -1,16 +1,16 @@
 -- Every clock keeps the ranges of the serial progress.
-use mathlib.Core.Path.{◌≡◌, refl, ap, sym}
+use mathlib.Core.Path.{◌≡◌, refl}
 use mathlib.Core.Bool.{Bool, true, false, ◌&&◌, not, cond}
 use mathlib.Core.List.{List}
-use Prim.Native.Nat.{ℕ, ◌+◌, ◌-◌, ◌*◌, ◌/◌, ◌%◌, ◌^◌, ◌≤◌, ◌<◌}
+use Prim.Native.Nat.{ℕ, ◌+◌, ◌-◌, ◌%◌, ◌^◌, ◌≤◌, ◌<◌}
 use native.Mathlib.Nat.{lt_of_lt_of_le}
 use native.Mathlib.Omega.{arith}
 use lib.Dec.{leb, ltb, eqb}
 use lib.Pow.{pow_mono}
 use lib.ListN.{length}
-use borrow.Author.Tests.{leb-true, ltb-true, le-leb, lt-ltb, ltb-false, leb-false, eqb-false}
-use Rattle.bits.specs.Bits.{bit, one_where, with_bit}
-use Rattle.bits.specs.Lists.{bits_of, number_of_bits}
+use borrow.Author.Tests.{leb-true, ltb-true, le-leb, lt-ltb}
+use Rattle.bits.specs.Bits.{bit, with_bit}
+use Rattle.bits.specs.Lists.{bits_of}
 use Rattle.bits.proofs.Cond.{and_left, and_right, and_both, cond_both, one_where_le}
 use Rattle.bits.proofs.Numbers.{number_lt}
 use Rattle.counters.specs.declared.time.Ticks.{Ticks}
@@ -19,7 +19,7 @@ use Rattle.serial_transmitter.specs.declared.Sending.{Sending}
 use Rattle.serial_receiver.specs.declared.Receiver.{Receiver}
 use Rattle.serial_receiver.specs.declared.Receiving.{Receiving}
 use Rattle.serial_format.specs.Format.{transmitter_shifts, receiver_asynchronous, receiver_shifting, keeps_transmitter}
-use Rattle.serial_format.specs.Format.{keeps_receiver, width, has_parity, frame_bits, pace}
+use Rattle.serial_format.specs.Format.{keeps_receiver, has_parity, frame_bits, pace}
 use Rattle.serial_transmitter.specs.Transmitter.{sent_bits}
 use Rattle.serial_transmitter.specs.Transmitter.{transmitter_fits, sending, framed, taken, idle_tick, frame_end, next_phase}
 use Rattle.serial_transmitter.specs.Transmitter.{ticked, bit_tick, send_tick, transmitter_clock, raised, shifted_down}

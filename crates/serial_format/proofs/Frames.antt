@@ -1,7 +1,7 @@
 -- Laws of widths, parity and frames.
-use mathlib.Core.Path.{◌≡◌, refl, ap, ◌∙◌, sym, subst}
-use mathlib.Core.Bool.{Bool, true, false, ◌&&◌, not, cond, beq}
-use mathlib.Core.List.{List, [], ◌∷◌, ◌++◌}
+use mathlib.Core.Path.{◌≡◌, refl, ◌∙◌}
+use mathlib.Core.Bool.{Bool, true, ◌&&◌, beq}
+use mathlib.Core.List.{List, [], ◌∷◌}
 use Prim.Native.Nat.{ℕ, ◌+◌, ◌-◌, ◌*◌, ◌/◌, ◌%◌, ◌^◌, ◌≤◌, ◌<◌}
 use native.Mathlib.Nat.{mod-lt, mul-le-mul, mod-eq_of_lt}
 use native.Mathlib.Omega.{arith}
@@ -9,10 +9,10 @@ use lib.Pow.{pow_pos, pow_mono}
 use lib.Bits.{bit_xor}
 use lib.Dec.{T, eqb, eqb→eq}
 use lib.ListN.{length, length-append}
-use Rattle.bits.specs.Bits.{bit, one_where}
-use Rattle.bits.specs.Lists.{bits_of, number_of_bits, odd_ones, all_of, tabulate}
+use Rattle.bits.specs.Bits.{bit}
+use Rattle.bits.specs.Lists.{bits_of, number_of_bits, odd_ones}
 use Rattle.bits.proofs.Cond.{both_left, both_right, equal, one_where_le, cond_both}
-use Rattle.bits.proofs.Tables.{below, below2, length_tabulate, up_to}
+use Rattle.bits.proofs.Tables.{below, below2, length_tabulate}
 use Rattle.bits.proofs.Numbers.{number_append}
 use Rattle.serial_format.specs.Format.{width, has_parity, parity_bit, data_bits, parity_and_stops, frame_bits}
 

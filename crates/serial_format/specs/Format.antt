@@ -1,6 +1,6 @@
 -- What SCCR says (01, Registers), and the frame (01, Serial channel).
-use Rattle.std.specs.Prelude.{Bool, true, false, ◌&&◌, ◌||◌, not, cond, List, [], ◌∷◌, ◌++◌, ℕ, ◌+◌, ◌-◌, ◌/◌, ◌%◌, ◌^◌}
-use Rattle.bits.specs.Bits.{bit, one_where}
+use Rattle.std.specs.Prelude.{Bool, true, false, ◌&&◌, ◌||◌, not, cond, List, [], ◌∷◌, ◌++◌, ℕ, ◌-◌, ◌/◌, ◌%◌}
+use Rattle.bits.specs.Bits.{bit}
 use Rattle.bits.specs.Lists.{bits_of, odd_ones}
 
 -- "SCCR5: transmitter shifts; else SCCR4: receiver shifts"

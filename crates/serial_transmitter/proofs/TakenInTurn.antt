@@ -10,7 +10,7 @@ use native.Mathlib.Omega.{arith}
 use lib.Dec.{eqb, ltb}
 use lib.ListN.{length, drop, get_or, length-drop, drop_of_length-le}
 use borrow.Author.Tests.{ltb-true, ltb-false, eqb-true, eqb-false, eq-eqb, ne_eqb}
-use Rattle.bits.specs.Bits.{bit, one_where, with_bit}
+use Rattle.bits.specs.Bits.{bit, with_bit}
 use Rattle.bits.specs.Lists.{bits_of, number_of_bits}
 use Rattle.bits.proofs.Cond.{one_where_le}
 use Rattle.serial_transmitter.specs.declared.Transmitter.{Transmitter}

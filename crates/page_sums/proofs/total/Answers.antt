@@ -1,7 +1,7 @@
 use Rattle.page_sums.proofs.Totals.{total_next, total_end}
 use Rattle.page_sums.specs.PageSums.{total_of, total_call}
 use mathlib.Core.Path.{◌≡◌}
-use Prim.Native.Nat.{◌-◌, ◌<◌}
+use Prim.Native.Nat.{◌<◌}
 use lib.ListN.{length}
 use borrow.Author.Tests.{eq-eqb, ne_eqb}
 use native.Mathlib.Omega.{arith}

@@ -1,4 +1,3 @@
-use Prim.Native.Nat.{◌-◌}
 use native.Mathlib.Omega.{arith}
 use Rattle.pin_lists.proofs.Steps.{input_count_end, input_count_other, input_count_more}
 use Rattle.pin_lists.proofs.input_count.Goals as goal

@@ -1,7 +1,5 @@
-use Prim.Native.Nat.{◌-◌}
 use mathlib.Core.Path.{sym, ◌∙◌}
 use native.Mathlib.Omega.{arith}
-use borrow.Author.Tests.{not-true, not-false}
 use Rattle.pin_lists.proofs.Steps.{behind_last, unequal, rest_end, rest_next}
 use Rattle.pin_lists.proofs.pins_right.Goals as goal
 

@@ -1,6 +1,5 @@
 use mathlib.Core.Path.{refl}
 use native.Mathlib.Omega.{arith}
-use Rattle.leaps.specs.World.{put_record}
 use Rattle.r6501q_advance.proofs.Worlds.{progress_done}
 use Rattle.r6501q_advance.proofs.complete.Goals as goal
 

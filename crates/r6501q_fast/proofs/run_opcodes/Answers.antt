@@ -1,5 +1,4 @@
 use mathlib.Core.Path.{◌≡◌, refl, sym, ap, ◌∙◌}
-use Prim.Native.Nat.{◌-◌}
 use lib.ListN.{length}
 use native.Mathlib.Omega.{arith}
 use Rattle.page_sums.specs.PageSums.{SixteenBits, sums_after}
@@ -186,67 +185,82 @@ stepped : (c : Joined-opcode-div16) → Tries c.args.halt c.args.span.0 c.loop-o
     × (length c.match-opcode-div16.memory ≡ length c.loop-on.memory)
 stepped c =
     elim c.match-opcode-div16.branch [
-      in-0 w ↦ (
+      | in-0 w ↦ (
         rw (w.memory-is, w.tried-is) w.opcodes_00-tried.ensures.tries,
         rw (w.memory-is, w.sums-is) w.opcodes_00-tried.ensures.sums_after,
         rw w.memory-is w.opcodes_00-tried.auto.memory,
-      ) | in-1 w ↦ (
+      )
+      | in-1 w ↦ (
         rw (w.memory-is, w.tried-is) w.opcodes_10-tried.ensures.tries,
         rw (w.memory-is, w.sums-is) w.opcodes_10-tried.ensures.sums_after,
         rw w.memory-is w.opcodes_10-tried.auto.memory,
-      ) | in-2 w ↦ (
+      )
+      | in-2 w ↦ (
         rw (w.memory-is, w.tried-is) w.opcodes_20-tried.ensures.tries,
         rw (w.memory-is, w.sums-is) w.opcodes_20-tried.ensures.sums_after,
         rw w.memory-is w.opcodes_20-tried.auto.memory,
-      ) | in-3 w ↦ (
+      )
+      | in-3 w ↦ (
         rw (w.memory-is, w.tried-is) w.opcodes_30-tried.ensures.tries,
         rw (w.memory-is, w.sums-is) w.opcodes_30-tried.ensures.sums_after,
         rw w.memory-is w.opcodes_30-tried.auto.memory,
-      ) | in-4 w ↦ (
+      )
+      | in-4 w ↦ (
         rw (w.memory-is, w.tried-is) w.opcodes_40-tried.ensures.tries,
         rw (w.memory-is, w.sums-is) w.opcodes_40-tried.ensures.sums_after,
         rw w.memory-is w.opcodes_40-tried.auto.memory,
-      ) | in-5 w ↦ (
+      )
+      | in-5 w ↦ (
         rw (w.memory-is, w.tried-is) w.opcodes_50-tried.ensures.tries,
         rw (w.memory-is, w.sums-is) w.opcodes_50-tried.ensures.sums_after,
         rw w.memory-is w.opcodes_50-tried.auto.memory,
-      ) | in-6 w ↦ (
+      )
+      | in-6 w ↦ (
         rw (w.memory-is, w.tried-is) w.opcodes_60-tried.ensures.tries,
         rw (w.memory-is, w.sums-is) w.opcodes_60-tried.ensures.sums_after,
         rw w.memory-is w.opcodes_60-tried.auto.memory,
-      ) | in-7 w ↦ (
+      )
+      | in-7 w ↦ (
         rw (w.memory-is, w.tried-is) w.opcodes_70-tried.ensures.tries,
         rw (w.memory-is, w.sums-is) w.opcodes_70-tried.ensures.sums_after,
         rw w.memory-is w.opcodes_70-tried.auto.memory,
-      ) | in-8 w ↦ (
+      )
+      | in-8 w ↦ (
         rw (w.memory-is, w.tried-is) w.opcodes_80-tried.ensures.tries,
         rw (w.memory-is, w.sums-is) w.opcodes_80-tried.ensures.sums_after,
         rw w.memory-is w.opcodes_80-tried.auto.memory,
-      ) | in-9 w ↦ (
+      )
+      | in-9 w ↦ (
         rw (w.memory-is, w.tried-is) w.opcodes_90-tried.ensures.tries,
         rw (w.memory-is, w.sums-is) w.opcodes_90-tried.ensures.sums_after,
         rw w.memory-is w.opcodes_90-tried.auto.memory,
-      ) | in-10 w ↦ (
+      )
+      | in-10 w ↦ (
         rw (w.memory-is, w.tried-is) w.opcodes_a0-tried.ensures.tries,
         rw (w.memory-is, w.sums-is) w.opcodes_a0-tried.ensures.sums_after,
         rw w.memory-is w.opcodes_a0-tried.auto.memory,
-      ) | in-11 w ↦ (
+      )
+      | in-11 w ↦ (
         rw (w.memory-is, w.tried-is) w.opcodes_b0-tried.ensures.tries,
         rw (w.memory-is, w.sums-is) w.opcodes_b0-tried.ensures.sums_after,
         rw w.memory-is w.opcodes_b0-tried.auto.memory,
-      ) | in-12 w ↦ (
+      )
+      | in-12 w ↦ (
         rw (w.memory-is, w.tried-is) w.opcodes_c0-tried.ensures.tries,
         rw (w.memory-is, w.sums-is) w.opcodes_c0-tried.ensures.sums_after,
         rw w.memory-is w.opcodes_c0-tried.auto.memory,
-      ) | in-13 w ↦ (
+      )
+      | in-13 w ↦ (
         rw (w.memory-is, w.tried-is) w.opcodes_d0-tried.ensures.tries,
         rw (w.memory-is, w.sums-is) w.opcodes_d0-tried.ensures.sums_after,
         rw w.memory-is w.opcodes_d0-tried.auto.memory,
-      ) | in-14 w ↦ (
+      )
+      | in-14 w ↦ (
         rw (w.memory-is, w.tried-is) w.opcodes_e0-tried.ensures.tries,
         rw (w.memory-is, w.sums-is) w.opcodes_e0-tried.ensures.sums_after,
         rw w.memory-is w.opcodes_e0-tried.auto.memory,
-      ) | in_default w ↦ (
+      )
+      | in_default w ↦ (
         rw (w.memory-is, w.tried-is) w.opcodes_f0-tried.ensures.tries,
         rw (w.memory-is, w.sums-is) w.opcodes_f0-tried.ensures.sums_after,
         rw w.memory-is w.opcodes_f0-tried.auto.memory,

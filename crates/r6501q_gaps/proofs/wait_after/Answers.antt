@@ -1,6 +1,5 @@
 use native.Mathlib.Omega.{arith}
 use Rattle.r6501q_events.specs.Gaps.{wait_after}
-use borrow.Author.Tests.{not-true, not-false}
 use Rattle.r6501q_gaps.proofs.wait_after.Goals as goal
 
 pub returns-then-not-high : goal.returns-then-not-high

@@ -1,6 +1,5 @@
 use Rattle.r6501q_unseen.proofs.Clocks.{unseen_before}
 use Rattle.counters.specs.declared.time.Clocks.{Clocks}
-use borrow.Author.Tests.{not-true}
 use mathlib.Core.Bool.{false≢true}
 use mathlib.Core.Path.{sym, ap, ◌∙◌}
 use native.Mathlib.Omega.{arith}

@@ -1,6 +1,5 @@
 use native.Mathlib.Omega.{arith}
 use Rattle.r6501q_unseen.specs.Ticks.{unseen_ticks}
-use borrow.Author.Tests.{not-true, not-false}
 use borrow.Author.Rules.{rules}
 use Rattle.r6501q_unseen.proofs.unseen_ticks.Goals as goal
 

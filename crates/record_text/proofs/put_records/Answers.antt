@@ -1,5 +1,4 @@
 use native.Mathlib.Omega.{arith}
-use Prim.Native.Nat.{◌-◌}
 use Rattle.record_text.proofs.Laws.{listing_begins, listing_on, listed}
 use Rattle.record_text.proofs.put_records.Goals as goal
 

@@ -1,5 +1,4 @@
 use Rattle.tape.proofs.TapeLaws.{check_end, check_skip, check_fault, check_last, check_on}
-use Prim.Native.Nat.{◌-◌}
 use mathlib.Core.Path.{refl, sym, ◌∙◌}
 use native.Mathlib.Omega.{arith}
 use Rattle.tape.proofs.check.Goals as goal
@@ -71,12 +70,13 @@ loop-place-smaller c = omega arith
 pub loop-place-preserved : goal.loop-place-preserved
 loop-place-preserved c =
     elim c.if-tape-place-eq-MARK.branch [
-      then-tape-place-eq-MARK+else-number-ne0+else-count-eq0 w ↦ (
+      | then-tape-place-eq-MARK+else-number-ne0+else-count-eq0 w ↦ (
         rw w.seen-is (omega (arith, c.loop-place.invariant.0)),
         rw w.seen-is (sym (check_on c.args.tape.now c.loop-place.place c.loop-place-test.true
             w.if-tape-place-eq-MARK.true c.loop-place.seen w.fault-number.result w.count.result w.fault-number.ensures
             w.if-number-ne0.false w.count.ensures w.if-count-eq0.false) ∙ c.loop-place.invariant.1),
-      ) | else-tape-place-eq-MARK w ↦ (
+      )
+      | else-tape-place-eq-MARK w ↦ (
         rw w.seen-is (omega (arith, c.loop-place.invariant.0)),
         rw w.seen-is (sym (check_skip c.args.tape.now c.loop-place.place c.loop-place-test.true
             w.if-tape-place-eq-MARK.false c.loop-place.seen) ∙ c.loop-place.invariant.1),

@@ -1,8 +1,7 @@
 use Rattle.tape.proofs.TapeLaws.{landed_all_end, landed_all_skip, landed_all_last, landed_all_on, data_fits}
-use Rattle.page_sums.specs.PageSums.{sums_after, SixteenBits}
+use Rattle.page_sums.specs.PageSums.{SixteenBits}
 use Rattle.page_sums.proofs.Sums.{sums_length, sums_kept, sums_then}
 use lib.ListN.{length}
-use Prim.Native.Nat.{◌-◌}
 use mathlib.Core.Path.{refl, sym, ap, ◌∙◌}
 use native.Mathlib.Omega.{arith}
 use Rattle.tape.proofs.land_all.Goals as goal
@@ -65,7 +64,7 @@ loop-place-preserved c =
     let loop = c.loop-place in
     let test = c.loop-place-test.true in
     elim c.if-tape-place-eq-MARK.branch [
-      then-tape-place-eq-MARK+else-count-eq0 w ↦ (
+      | then-tape-place-eq-MARK+else-count-eq0 w ↦ (
         rw w.memory-is (w.land.auto.memory ∙ loop.invariant.0),
         rw w.memory-is
             (sym (landed_all_on at.tape.now loop.place test w.if-tape-place-eq-MARK.true w.count.result
@@ -74,7 +73,8 @@ loop-place-preserved c =
             ∙ loop.invariant.1),
         rw (w.memory-is, w.sums-is) (sums_then 0 at.sums.now at.memory.now loop.memory w.land.new.memory
             loop.invariant.2 w.land.ensures.sums_after),
-      ) | else-tape-place-eq-MARK w ↦ (
+      )
+      | else-tape-place-eq-MARK w ↦ (
         rw w.memory-is loop.invariant.0,
         rw w.memory-is
             (sym (landed_all_skip at.tape.now loop.place test w.if-tape-place-eq-MARK.false loop.memory)

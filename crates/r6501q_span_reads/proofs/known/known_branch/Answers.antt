@@ -1,7 +1,6 @@
 use mathlib.Core.Path.{refl, sym, ◌∙◌}
 use mathlib.Core.Bool.{false≢true}
 use native.Mathlib.Omega.{arith}
-use borrow.Author.Tests.{not-false}
 use Rattle.bits.proofs.Cond.{one_where_le}
 use Rattle.cpu_effects.specs.Effects.{pushes_of}
 use Rattle.r6501q_span_reads.proofs.KnownOutcomes.{branch_known}

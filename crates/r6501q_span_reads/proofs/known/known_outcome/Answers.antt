@@ -1,6 +1,5 @@
 use mathlib.Core.Path.{sym, ◌∙◌}
 use mathlib.Core.Bool.{◌||◌, false≢true}
-use borrow.Author.Tests.{not-false}
 use Rattle.cpu_opcodes.proofs.Laws.{length_fits_lem}
 use Rattle.bits.proofs.Cond.{either_false}
 use Rattle.r6501q_span_reads.proofs.known.known_outcome.Goals as goal

@@ -1,6 +1,5 @@
 use mathlib.Core.Path.{refl, sym, ◌∙◌}
 use mathlib.Core.Bool.{false≢true}
-use borrow.Author.Tests.{not-false}
 use Rattle.cpu_effects.specs.Effects.{pushes_of}
 use Rattle.r6501q_span_reads.proofs.KnownOutcomes.{read_known}
 use Rattle.r6501q_span_reads.proofs.known.known_read.Goals as goal

@@ -2,7 +2,7 @@ use Prim.Native.Nat.{◌+◌, ◌-◌}
 use native.Mathlib.Nat.{mod-lt}
 use native.Mathlib.Omega.{arith}
 use Rattle.r6501q_unseen.specs.Ticks.{count_after}
-use borrow.Author.Tests.{le-leb, lt-leb, not-true, not-false}
+use borrow.Author.Tests.{le-leb, lt-leb}
 use Rattle.r6501q_unseen.proofs.counter.counter_after.Goals as goal
 
 pub returns-then-not-counting : goal.returns-then-not-counting

@@ -1,8 +1,6 @@
 use Rattle.r6501q_unseen.proofs.Reception.{waits_within, takes_within}
 use Rattle.r6501q_unseen.specs.Ticks.{looked_for, heard_after}
-use borrow.Author.Tests.{not-true, not-false, eq-eqb, ne_eqb}
-use lib.Dec.{leb}
-use mathlib.Core.Bool.{◌&&◌}
+use borrow.Author.Tests.{eq-eqb, ne_eqb}
 use Rattle.r6501q_unseen.proofs.receiver.heard_after.Goals as goal
 
 pub returns-then-not-listens : goal.returns-then-not-listens

@@ -1,6 +1,6 @@
 use native.Mathlib.Omega.{arith}
 use Rattle.r6501q_unseen.specs.Ticks.{unseen_listens}
-use borrow.Author.Tests.{le-leb, lt-leb, not-true, not-false}
+use borrow.Author.Tests.{le-leb, lt-leb}
 use borrow.Author.Rules.{rules}
 use Rattle.r6501q_unseen.proofs.receiver.unseen_listens.Goals as goal
 

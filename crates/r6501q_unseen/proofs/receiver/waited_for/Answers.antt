@@ -1,6 +1,6 @@
 use native.Mathlib.Omega.{arith}
 use Rattle.r6501q_unseen.specs.Ticks.{waited_looks}
-use borrow.Author.Tests.{eq-eqb, ne_eqb, not-true, not-false}
+use borrow.Author.Tests.{eq-eqb, ne_eqb}
 use Rattle.r6501q_unseen.proofs.receiver.waited_for.Goals as goal
 
 pub overflow_add-r : goal.overflow_add-r

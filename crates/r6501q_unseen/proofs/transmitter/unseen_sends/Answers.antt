@@ -1,6 +1,6 @@
 use native.Mathlib.Omega.{arith}
 use Rattle.r6501q_unseen.specs.Ticks.{unseen_sends}
-use borrow.Author.Tests.{eq-eqb, ne_eqb, not-true, not-false}
+use borrow.Author.Tests.{eq-eqb, ne_eqb}
 use borrow.Author.Rules.{rules}
 use Rattle.r6501q_unseen.proofs.transmitter.unseen_sends.Goals as goal
 

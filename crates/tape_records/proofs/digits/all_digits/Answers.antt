@@ -1,7 +1,4 @@
-use borrow.Author.Tests.{not-true, not-false}
 use Rattle.tape_records.proofs.DigitLaws.{digits_next, digits_end}
-use Rattle.tape_records.specs.Digits.{is_digit}
-use Prim.Native.Nat.{◌-◌}
 use mathlib.Core.Path.{refl, sym, ◌∙◌}
 use native.Mathlib.Omega.{arith}
 use Rattle.tape_records.proofs.digits.all_digits.Goals as goal

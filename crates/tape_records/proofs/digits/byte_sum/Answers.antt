@@ -1,6 +1,6 @@
 use Rattle.tape_records.proofs.DigitLaws.{byte_most, total_next, total_end}
 use lib.ListN.{get_or}
-use Prim.Native.Nat.{◌+◌, ◌*◌, ◌-◌}
+use Prim.Native.Nat.{◌+◌, ◌*◌}
 use native.Mathlib.Omega.{arith}
 use Rattle.tape_records.proofs.digits.byte_sum.Goals as goal
 

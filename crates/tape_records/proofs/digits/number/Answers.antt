@@ -1,7 +1,7 @@
 use Rattle.tape_records.proofs.DigitLaws.{number_word, number_least, number_next, number_end}
 use Rattle.tape_records.specs.Digits.{value_of}
 use lib.ListN.{drop, get_or}
-use Prim.Native.Nat.{◌+◌, ◌*◌, ◌-◌}
+use Prim.Native.Nat.{◌+◌, ◌*◌}
 use mathlib.Core.Path.{refl, sym, ◌∙◌}
 use native.Mathlib.Omega.{arith}
 use Rattle.tape_records.proofs.digits.number.Goals as goal
