@@ -25,11 +25,15 @@ pub struct Stepped {
     pub shared: u32,
 }
 
-// The clocks in which nothing but the CPU does what can be seen; none where the run has stopped.
+// The clocks in which nothing but the CPU does what can be seen; none where no clock is left or the run has stopped. Any
+// smaller number, none too, would meet the contract. No clock left is looked at first, for calls of few clocks.
 fn span_from(at: Leaped, inputclocks: &[u32]) -> Clocks
     requires { at.progress.read ≤ length inputclocks.now }
     ensures { 0 < result.0 → SpanBegun at inputclocks.now result.0 }
 {
+    if at.left.0 == 0 {
+        return Clocks(0);
+    }
     if at.progress.stop != 0 {
         return Clocks(0);
     }

@@ -20,15 +20,13 @@ pub leap_on-end-requires : goal.leap_on-end-requires
 leap_on-end-requires c = let at = c.args in
     let good = sym c.call_refusal-number.ensures
     ∙ c.if-number-ne0.false in
-    rw c.begin_run.ensures (
-      leaping_begins at.state at.n at.memory.now at.inputclocks.now at.inputcodes.now
-          at.outputclocks.now at.outputwords.now good,
-      (
-        begins_bound at.state at.n at.memory.now at.inputclocks.now at.inputcodes.now
-            at.outputclocks.now at.outputwords.now good,
-        c.opcode_table-entries.ensures,
-      ),
-    )
+    rw c.begin_run.ensures (record {
+      leaping = leaping_begins at.state at.n at.memory.now at.inputclocks.now at.inputcodes.now
+          at.outputclocks.now at.outputwords.now good;
+      left_bound = begins_bound at.state at.n at.memory.now at.inputclocks.now at.inputcodes.now
+          at.outputclocks.now at.outputwords.now good;
+      entries_value = c.opcode_table-entries.ensures;
+    })
 
 pub returns : goal.returns
 returns c = let at = c.args in

@@ -2,6 +2,9 @@ use native.Mathlib.Omega.{arith}
 use Rattle.r6501q_advance.proofs.Worlds.{lent_part}
 use Rattle.r6501q_span_leaps.proofs.span_from.Goals as goal
 
+pub returns-then-at-eq0 : goal.returns-then-at-eq0
+returns-then-at-eq0 c = λ some. absurd (omega arith)
+
 pub returns-then-at-ne0 : goal.returns-then-at-ne0
 returns-then-at-ne0 c = λ some. absurd (omega arith)
 
