@@ -17,19 +17,22 @@ overflow_add-result c = let room = c.run_working-ran.ensures.within_span_2 in
     )
 
 pub returns : goal.returns
-returns c = let at = c.args in record { steps_on = record {
-        middle = c.run_working-ran.result;
-        between = c.run_working-ran.new.memory;
-        ran = c.run_working-ran.ensures.runs_on;
-        step = c.work_once-next.ensures.worked_on;
-        shared = ap (λ (k : ℕ). c.run_working-ran.result.shared + k) c.shared_in.ensures;
-        room = c.run_working-ran.ensures.within_span_2.0;
-        fewer = c.run_working-ran.ensures.within_span_2.1;
-        kept = c.run_working-ran.auto.memory;
-        keeps = c.work_once-next.auto.memory;
-      }; sums_after = sums_then 0 at.sums.now at.memory.now c.run_working-ran.new.memory c.work_once-next.new.memory
-          c.run_working-ran.ensures.sums_after
-          c.work_once-next.ensures.sums_after }
+returns c = let at = c.args in record {
+  steps_on = record {
+    middle = c.run_working-ran.result;
+    between = c.run_working-ran.new.memory;
+    ran = c.run_working-ran.ensures.runs_on;
+    step = c.work_once-next.ensures.worked_on;
+    shared = ap (λ (k : ℕ). c.run_working-ran.result.shared + k) c.shared_in.ensures;
+    room = c.run_working-ran.ensures.within_span_2.0;
+    fewer = c.run_working-ran.ensures.within_span_2.1;
+    kept = c.run_working-ran.auto.memory;
+    keeps = c.work_once-next.auto.memory;
+  };
+  sums_after = sums_then 0 at.sums.now at.memory.now c.run_working-ran.new.memory c.work_once-next.new.memory
+      c.run_working-ran.ensures.sums_after
+      c.work_once-next.ensures.sums_after;
+}
 
 pub shared_in-requires : goal.shared_in-requires
 shared_in-requires c = c.requires.span_bound.1
