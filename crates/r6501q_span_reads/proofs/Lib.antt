@@ -1,2 +1,3 @@
+pub mod SteadyAddresses
 pub mod SteadyReads
 pub mod KnownOutcomes

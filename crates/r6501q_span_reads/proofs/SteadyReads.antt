@@ -1,11 +1,11 @@
 -- A read of a register in a span: its value stays, and the read leaves all as it was.
 use mathlib.Core.Path.{◌≡◌, refl}
-use mathlib.Core.Bool.{Bool, true, false, ◌||◌}
+use mathlib.Core.Bool.{Bool, true, false}
 use mathlib.Core.List.{List, []}
-use Prim.Native.Nat.{ℕ, ◌≤◌}
+use Prim.Native.Nat.{ℕ}
 use native.Mathlib.Omega.{arith}
-use lib.Dec.{ltb, eqb}
-use borrow.Author.Tests.{ltb-true, eqb-true, ne_eqb}
+use lib.Dec.{eqb}
+use borrow.Author.Tests.{eqb-true}
 use Rattle.bits.proofs.Cond.{and_left, and_right}
 use Rattle.cpu_access.specs.declared.CpuRegisters.{CpuRegisters}
 use Rattle.cpu_access.specs.declared.stack.Writes.{Writes}
@@ -20,6 +20,7 @@ use Rattle.r6501q_registers.specs.Read.{register_value, after_read}
 use Rattle.r6501q_cpu.specs.Asking.{put_register, registers_after, answer_of}
 use Rattle.r6501q_unseen.specs.Unseen.{SameSeen}
 use Rattle.r6501q_span_reads.specs.Steady.{steady_at, steady_ask, outcome_within}
+use Rattle.r6501q_span_reads.proofs.SteadyAddresses.{not_at}
 
 abbrev pub is_done : Outcome → Bool
 is_done (Stopped number) = false
@@ -31,15 +32,6 @@ pub within_done : (s : State) (r : CpuRegisters) (memory : List ℕ) (worked : W
     → instruction_of r [] memory ≡ Done worked → outcome_within s r memory ≡ Done worked
 unfolding outcome_within
 within_done s r memory worked e = rw e refl
-
--- neither the data received, 17h, nor a counter, up to 1Eh
-not_at : (a b : ℕ) → steady_at a ≡ true → 0x17 ≤ b → b ≤ 0x1E → eqb a b ≡ false
-unfolding steady_at
-not_at a b e low high = by_test (ltb a 0x17) refl e
-  where
-    by_test : (t : Bool) → ltb a 0x17 ≡ t → (t || ltb 0x1E a) ≡ true → eqb a b ≡ false
-    by_test true z f = ne_eqb a b (λ q. omega (arith, ltb-true a 0x17 z, q))
-    by_test false z f = ne_eqb a b (λ q. omega (arith, ltb-true 0x1E a f, q))
 
 steady_read : (p : Peripherals) (a : ℕ) → steady_at a ≡ true → after_read p a ≡ p
 unfolding after_read
