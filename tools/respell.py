@@ -16,7 +16,7 @@ import re
 import sys
 
 WORD = re.compile(r"[^\s(){}.;,@\"«»`\[\]]+")
-DECLARED = re.compile(r"^ *(?:(?:abbrev|unfoldable|pub|ruleset) +)*([^\s(){}.;,@\"«»:]+)(?: \{[^{}\n]*\})*(?: +: |$)")
+DECLARED = re.compile(r"^ *(?:(?:abbrev|unfoldable|pub|ruleset) +)*([^\s(){}.;,@\"«»:]+)(?: \{[^{}\n]*\})*(?: +:(?= |$))")
 USE = re.compile(r"^(?:pub )?(?:ghost )?use ([^\s;{]+?)\.\{([^}]*)\}")
 STRING = re.compile(r'"(?:[^"\\\n]|\\.)*"')
 # Lemmas that port.py spelled as a definition now is.

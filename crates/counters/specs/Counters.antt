@@ -33,14 +33,14 @@ down_a c = cond (eqb c.count 0) (counted_a (at_a c c.latch) true) (counted_a (at
 -- "00 interval, a count each clock; 01 pulse, as 00, ..; 10 a count at each rise of PA4 or PA5; 11 for A a count each
 -- clock with PA4 low"
 unfoldable pub counts_a : ℕ → Bool → Bool → Bool
-counts_a mode rise isLow = cond (ltb mode 2) true (cond (eqb mode 2) rise isLow)
+counts_a mode rise is_low = cond (ltb mode 2) true (cond (eqb mode 2) rise is_low)
 
 unfoldable pub clock_a : CounterA → ℕ → Bool → Bool → CountedA
-clock_a c mode rise isLow = cond (counts_a mode rise isLow) (down_a c) (counted_a c false)
+clock_a c mode rise is_low = cond (counts_a mode rise is_low) (down_a c) (counted_a c false)
 
 -- 01, Run and leaps: "each counter that counts in all of it": in a gap no pin changes, so there is no rise
 unfoldable pub counts_through_a : ℕ → Bool → Bool
-counts_through_a mode isLow = counts_a mode false isLow
+counts_through_a mode is_low = counts_a mode false is_low
 
 -- "the gap passed: .. each counter that counts in all of it minus gap"
 unfoldable pub pass_a : CounterA → Bool → Clocks → CounterA

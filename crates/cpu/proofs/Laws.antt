@@ -29,8 +29,8 @@ use Rattle.memory.specs.Memory.{is_register}
 use Rattle.cpu_access.specs.Stack.{no_writes, push_address, read_after}
 use Rattle.cpu_modes.specs.Modes.{indexed_by, relative_to, locate_of}
 use Rattle.cpu_modes.proofs.Accesses.{reads_of_mode, read_keeps, fetch_keeps, read_after_keeps, locate_keeps}
-use Rattle.cpu_access.proofs.Asks.{AsksRegister, unasked_asks_register, register_more, register-asks, Answered, Within}
-use Rattle.cpu_access.proofs.Asks.{unasked_answered, answered_more, answered-asks}
+use Rattle.cpu_access.proofs.Asks.{AsksRegister, unasked_asks_register, register_more, register_asks, Answered, Within}
+use Rattle.cpu_access.proofs.Asks.{unasked_answered, answered_more, answered_asks}
 use Rattle.cpu.specs.declared.Ask.{Ask}
 use Rattle.cpu_effects.specs.declared.Worked.{Worked}
 use Rattle.cpu_effects.specs.declared.Writing.TheVariants.{Pushed, Stored}
@@ -244,11 +244,11 @@ module _ (P : ℕ → Bus → Type 0) (answers memory : List ℕ)
 
 module _ (r : CpuRegisters) (answers memory : List ℕ) where
   by_register : Lawful AsksRegister (instruction_of r answers memory)
-  by_register = lawful AsksRegister answers memory register_more (register-asks answers) r (unasked_asks_register 0)
+  by_register = lawful AsksRegister answers memory register_more (register_asks answers) r (unasked_asks_register 0)
 
   by_answers : Lawful (Answered answers) (instruction_of r answers memory)
   by_answers =
-      lawful (Answered answers) answers memory (answered_more answers) (answered-asks answers) r
+      lawful (Answered answers) answers memory (answered_more answers) (answered_asks answers) r
       (unasked_answered answers)
 
   -- an instruction that is done made at most three writes and takes 2 to 7 clocks

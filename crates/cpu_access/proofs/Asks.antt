@@ -27,11 +27,11 @@ pub register_more : (k : ℕ) (b : Bus) → AsksRegister k b → AsksRegister (s
 unfolding AsksRegister
 register_more k b h = h
 
-pub register-asks :
+pub register_asks :
     (answers : List ℕ) (k a : ℕ) (modify : Bool) (b : Bus) → is_register a ≡ true → AsksRegister k b
     → AsksRegister (suc k) (ask_of answers a modify b).bus
 unfolding AsksRegister ask_of
-register-asks answers k a modify b e h =
+register_asks answers k a modify b e h =
     cond_both (λ g. g.bus.missing ≡ true → g.bus.address < 0x40) (ltb b.used (length answers))
     (answered answers b) (got 0 (asking a modify b))
     (λ t. h)
@@ -48,11 +48,11 @@ answered_more answers k b h l =
     let w : Within k b = h (omega arith) in
     record { given = w.given; used = omega (arith, w.used) }
 
-pub answered-asks :
+pub answered_asks :
     (answers : List ℕ) (k a : ℕ) (modify : Bool) (b : Bus) → is_register a ≡ true → Answered answers k b
     → Answered answers (suc k) (ask_of answers a modify b).bus
 unfolding Answered ask_of
-answered-asks answers k a modify b e h l =
+answered_asks answers k a modify b e h l =
     let w : Within k b = h (omega arith) in
     cond_both (λ g. Within (suc k) g.bus) (ltb b.used (length answers)) (answered answers b)
     (got 0 (asking a modify b))

@@ -35,15 +35,15 @@ module _ (spent : Processed) (s : State) (p : Peripherals) (answers memory : Lis
   round_answered n m r h e = rw (h, e)
 
 -- one round, whatever goes on after it
-module _ (s : State) (p : Peripherals) (answers memory : List ℕ) (goOn goOn' : Reading → Processed) where
+module _ (s : State) (p : Peripherals) (answers memory : List ℕ) (go_on go_on' : Reading → Processed) where
   same_round : ((q : Ask) (r : Reading) → instruction_of (registers_of s.cpu) answers memory ≡ outcome.Asked q
-      → goOn r ≡ goOn' r)
-      → after_round goOn (round_of s p answers memory) ≡ after_round goOn' (round_of s p answers memory)
+      → go_on r ≡ go_on' r)
+      → after_round go_on (round_of s p answers memory) ≡ after_round go_on' (round_of s p answers memory)
   unfolding round_of
   same_round same = by_outcome (instruction_of (registers_of s.cpu) answers memory) refl
     where
       by_outcome : (o : Outcome) → instruction_of (registers_of s.cpu) answers memory ≡ o
-          → after_round goOn (round_by s p o) ≡ after_round goOn' (round_by s p o)
+          → after_round go_on (round_by s p o) ≡ after_round go_on' (round_by s p o)
       by_outcome (outcome.Stopped number) e = refl
       by_outcome (outcome.Asked q) e = same q _ e
       by_outcome (outcome.Done w) e = refl

@@ -111,14 +111,14 @@ Ends P (Done n) = P n
 module _ (s : State) (memory : List ℕ) (Q : Peripherals → Type 0) (P : Next → Type 0)
     (first : Q s.peripherals) (reads : (p : Peripherals) (at : ℕ) → Q p → Q (after_read p at))
     (ends : (due : Due) (p : Peripherals) (w : Worked) → Q p → Fits w → P (next_of s due p w)) where
-  round_ends : (p : Peripherals) (answers : List ℕ) (goOn : Reading → Processed) → Q p
-      → ((r : Reading) → Q r.peripherals → Ends P (goOn r))
-      → Ends P (after_round goOn (round_of s p answers memory))
+  round_ends : (p : Peripherals) (answers : List ℕ) (go_on : Reading → Processed) → Q p
+      → ((r : Reading) → Q r.peripherals → Ends P (go_on r))
+      → Ends P (after_round go_on (round_of s p answers memory))
   unfolding round_of answer_of
-  round_ends p answers goOn q on = by_outcome (instruction_of (registers_of s.cpu) answers memory) refl
+  round_ends p answers go_on q on = by_outcome (instruction_of (registers_of s.cpu) answers memory) refl
     where
       by_outcome : (o : Outcome) → instruction_of (registers_of s.cpu) answers memory ≡ o
-          → Ends P (after_round goOn (round_by s p o))
+          → Ends P (after_round go_on (round_by s p o))
       by_outcome (outcome.Stopped number) e = tt
       by_outcome (outcome.Asked ask) e = on _ (reads p ask.address q)
       by_outcome (outcome.Done w) e = ends s.due p w q (done_fits (registers_of s.cpu) answers memory w e)

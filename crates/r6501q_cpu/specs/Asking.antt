@@ -66,8 +66,8 @@ unfoldable pub round_of : State → Peripherals → List ℕ → List ℕ → Ro
 round_of s p answers memory = round_by s p (instruction_of (registers_of s.cpu) answers memory)
 
 abbrev pub after_round : (Reading → Processed) → Round → Processed
-after_round goOn (Over x) = x
-after_round goOn (Answered r) = goOn r
+after_round go_on (Over x) = x
+after_round go_on (Answered r) = go_on r
 
 -- Each question is answered in turn, and the instruction worked on with the answer. No instruction asks more than five
 -- times (`asks_end` of `cpu/proofs/Laws.antt`): what stands for a sixth question, `spent`, is never met, and may be

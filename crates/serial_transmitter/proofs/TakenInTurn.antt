@@ -252,7 +252,7 @@ module _ (sccr : ℕ) (scsr next : ℕ → ℕ) (byte : ℕ) where
       begun 16 k j (frame_bits sccr byte) (rw e) (rw e) h g
       ∙ ap (λ n. sending_bits (drop k (frame_bits sccr byte)) n) phase
 
-  -- a byte in shift_register mode: 2 ticks a bit; `clock_in_turn` has the shift clock
+  -- a byte in shift-register mode: 2 ticks a bit; `clock_in_turn` has the shift clock
   pub byte_sent : (k j : ℕ) → transmitter_shifts sccr ≡ true → k < 8 → j < 2
       → sent_for (k * 2 + j) sccr scsr next (framed sccr byte) ≡ sending_bits (drop k (bits_of 8 byte)) (k * 2 + j)
   unfolding sent_bits pace
