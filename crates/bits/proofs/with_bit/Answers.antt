@@ -23,6 +23,7 @@ returns-then-on c = rw (weight 8 _ c.requires, c.if-on.true)
 
 pub returns-else-on : goal.returns-else-on
 unfolding with_bit
-returns-else-on c = let x = c.args.x in
+returns-else-on c =
+    let x = c.args.x in
     let k = c.args.k in
     rw (c.if-on.false, add-zero) (ap (λ w. x - x / 2 ^ k % 2 * w) (weight 8 k c.requires))

@@ -30,7 +30,8 @@ returns-then-bus c = rw (
 
 pub returns-in_default : goal.returns-in_default
 unfolding instruction_of
-returns-in_default c = let at = c.args in
+returns-in_default c =
+    let at = c.args in
     rw (
       ← c.unasked.ensures,
       ← c.fetch-opcode.ensures,
@@ -46,7 +47,8 @@ execute-requires c = (length_fits_lem _ _
 
 pub returns : goal.returns
 unfolding instruction_of
-returns c = let at = c.args in
+returns c =
+    let at = c.args in
     rw (
       c.execute.ensures,
       c.with_pc.ensures,

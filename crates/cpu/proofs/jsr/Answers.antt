@@ -20,7 +20,8 @@ unfolding jsr_outcome
 jsr-as answers memory r n b l w h e p q = rw (q, p, e) refl
 
 pub returns : goal.returns
-returns c = let at = c.args in
+returns c =
+    let at = c.args in
     rw (
       c.outcome_of.ensures,
       c.writes_asked.ensures,

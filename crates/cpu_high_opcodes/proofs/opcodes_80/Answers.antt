@@ -17,7 +17,8 @@ use Rattle.cpu_high_opcodes.proofs.opcodes_80.Goals as goal
 
 pub returns-in-129 : goal.returns-in-129
 unfolding locate_of
-returns-in-129 c = let at = c.args in
+returns-in-129 c =
+    let at = c.args in
     let decodes = ap decode_of
     (c.requires.pc_value_2 ∙ c.in-129.is)
     ∙ opcode_81 in record {
@@ -33,7 +34,8 @@ returns-in-129 c = let at = c.args in
 
 pub returns-in-132 : goal.returns-in-132
 unfolding locate_of
-returns-in-132 c = let at = c.args in
+returns-in-132 c =
+    let at = c.args in
     let decodes = ap decode_of
     (c.requires.pc_value_2 ∙ c.in-132.is)
     ∙ opcode_84 in record {
@@ -49,7 +51,8 @@ returns-in-132 c = let at = c.args in
 
 pub returns-in-133 : goal.returns-in-133
 unfolding locate_of
-returns-in-133 c = let at = c.args in
+returns-in-133 c =
+    let at = c.args in
     let decodes = ap decode_of
     (c.requires.pc_value_2 ∙ c.in-133.is)
     ∙ opcode_85 in record {
@@ -65,7 +68,8 @@ returns-in-133 c = let at = c.args in
 
 pub returns-in-134 : goal.returns-in-134
 unfolding locate_of
-returns-in-134 c = let at = c.args in
+returns-in-134 c =
+    let at = c.args in
     let decodes = ap decode_of
     (c.requires.pc_value_2 ∙ c.in-134.is)
     ∙ opcode_86 in record {
@@ -81,7 +85,8 @@ returns-in-134 c = let at = c.args in
 
 pub returns-in-135 : goal.returns-in-135
 unfolding locate_of
-returns-in-135 c = let at = c.args in
+returns-in-135 c =
+    let at = c.args in
     let decodes = ap decode_of
     (c.requires.pc_value_2 ∙ c.in-135.is)
     ∙ opcode_87 in record {
@@ -96,7 +101,8 @@ returns-in-135 c = let at = c.args in
     }
 
 pub returns-in-136 : goal.returns-in-136
-returns-in-136 c = let at = c.args in
+returns-in-136 c =
+    let at = c.args in
     let decodes = ap decode_of (c.requires.pc_value_2 ∙ c.in-136.is) ∙ opcode_88 in
     let words : SixteenBits at.sums.now = λ k. omega (arith, c.type_inv.sums k) in record {
       tries = rw (c.dey.ensures, c.next_address-pc.ensures) (register_tries at.halt at.span.0 at.w
@@ -105,7 +111,8 @@ returns-in-136 c = let at = c.args in
     }
 
 pub returns-in-138 : goal.returns-in-138
-returns-in-138 c = let at = c.args in
+returns-in-138 c =
+    let at = c.args in
     let decodes = ap decode_of (c.requires.pc_value_2 ∙ c.in-138.is) ∙ opcode_8a in
     let words : SixteenBits at.sums.now = λ k. omega (arith, c.type_inv.sums k) in record {
       tries = rw (c.txa.ensures, c.next_address-pc.ensures) (register_tries at.halt at.span.0 at.w
@@ -115,7 +122,8 @@ returns-in-138 c = let at = c.args in
 
 pub returns-in-140 : goal.returns-in-140
 unfolding locate_of
-returns-in-140 c = let at = c.args in
+returns-in-140 c =
+    let at = c.args in
     let decodes = ap decode_of
     (c.requires.pc_value_2 ∙ c.in-140.is)
     ∙ opcode_8c in record {
@@ -131,7 +139,8 @@ returns-in-140 c = let at = c.args in
 
 pub returns-in-141 : goal.returns-in-141
 unfolding locate_of
-returns-in-141 c = let at = c.args in
+returns-in-141 c =
+    let at = c.args in
     let decodes = ap decode_of
     (c.requires.pc_value_2 ∙ c.in-141.is)
     ∙ opcode_8d in record {
@@ -147,7 +156,8 @@ returns-in-141 c = let at = c.args in
 
 pub returns-in-142 : goal.returns-in-142
 unfolding locate_of
-returns-in-142 c = let at = c.args in
+returns-in-142 c =
+    let at = c.args in
     let decodes = ap decode_of
     (c.requires.pc_value_2 ∙ c.in-142.is)
     ∙ opcode_8e in record {
@@ -163,7 +173,8 @@ returns-in-142 c = let at = c.args in
 
 pub returns-in-143 : goal.returns-in-143
 unfolding locate_of
-returns-in-143 c = let at = c.args in
+returns-in-143 c =
+    let at = c.args in
     let decodes = ap decode_of (c.requires.pc_value_2 ∙ c.in-143.is) ∙ opcode_8f in
     let words : SixteenBits at.sums.now =
     λ k. omega (arith, c.type_inv.sums k) in record {
@@ -174,5 +185,9 @@ returns-in-143 c = let at = c.args in
     }
 
 pub returns-in_default : goal.returns-in_default
-returns-in_default c = let at = c.args in
-    let words : SixteenBits at.sums.now = λ k. omega (arith, c.type_inv.sums k) in record { tries = rw c.failed_attempt.ensures unchanged; sums_after = sums_kept 0 at.sums.now at.memory.now words }
+returns-in_default c =
+    let at = c.args in
+    let words : SixteenBits at.sums.now = λ k. omega (arith, c.type_inv.sums k) in record {
+      tries = rw c.failed_attempt.ensures unchanged;
+      sums_after = sums_kept 0 at.sums.now at.memory.now words;
+    }

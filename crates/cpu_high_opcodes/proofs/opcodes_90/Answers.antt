@@ -19,7 +19,8 @@ use Rattle.cpu_high_opcodes.proofs.opcodes_90.Goals as goal
 
 pub returns-in-144 : goal.returns-in-144
 unfolding locate_of
-returns-in-144 c = let at = c.args in
+returns-in-144 c =
+    let at = c.args in
     let decodes = ap decode_of (c.requires.pc_value_2 ∙ c.in-144.is) ∙ opcode_90 in
     let words : SixteenBits at.sums.now =
     λ k. omega (arith, c.type_inv.sums k) in record {
@@ -31,7 +32,8 @@ returns-in-144 c = let at = c.args in
 
 pub returns-in-145 : goal.returns-in-145
 unfolding locate_of
-returns-in-145 c = let at = c.args in
+returns-in-145 c =
+    let at = c.args in
     let decodes = ap decode_of
     (c.requires.pc_value_2 ∙ c.in-145.is)
     ∙ opcode_91 in record {
@@ -47,7 +49,8 @@ returns-in-145 c = let at = c.args in
 
 pub returns-in-148 : goal.returns-in-148
 unfolding locate_of
-returns-in-148 c = let at = c.args in
+returns-in-148 c =
+    let at = c.args in
     let decodes = ap decode_of
     (c.requires.pc_value_2 ∙ c.in-148.is)
     ∙ opcode_94 in record {
@@ -63,7 +66,8 @@ returns-in-148 c = let at = c.args in
 
 pub returns-in-149 : goal.returns-in-149
 unfolding locate_of
-returns-in-149 c = let at = c.args in
+returns-in-149 c =
+    let at = c.args in
     let decodes = ap decode_of
     (c.requires.pc_value_2 ∙ c.in-149.is)
     ∙ opcode_95 in record {
@@ -79,7 +83,8 @@ returns-in-149 c = let at = c.args in
 
 pub returns-in-150 : goal.returns-in-150
 unfolding locate_of
-returns-in-150 c = let at = c.args in
+returns-in-150 c =
+    let at = c.args in
     let decodes = ap decode_of
     (c.requires.pc_value_2 ∙ c.in-150.is)
     ∙ opcode_96 in record {
@@ -95,7 +100,8 @@ returns-in-150 c = let at = c.args in
 
 pub returns-in-151 : goal.returns-in-151
 unfolding locate_of
-returns-in-151 c = let at = c.args in
+returns-in-151 c =
+    let at = c.args in
     let decodes = ap decode_of
     (c.requires.pc_value_2 ∙ c.in-151.is)
     ∙ opcode_97 in record {
@@ -110,7 +116,8 @@ returns-in-151 c = let at = c.args in
     }
 
 pub returns-in-152 : goal.returns-in-152
-returns-in-152 c = let at = c.args in
+returns-in-152 c =
+    let at = c.args in
     let decodes = ap decode_of (c.requires.pc_value_2 ∙ c.in-152.is) ∙ opcode_98 in
     let words : SixteenBits at.sums.now = λ k. omega (arith, c.type_inv.sums k) in record {
       tries = rw (c.tya.ensures, c.next_address-pc.ensures) (register_tries at.halt at.span.0 at.w
@@ -120,7 +127,8 @@ returns-in-152 c = let at = c.args in
 
 pub returns-in-153 : goal.returns-in-153
 unfolding locate_of
-returns-in-153 c = let at = c.args in
+returns-in-153 c =
+    let at = c.args in
     let decodes = ap decode_of
     (c.requires.pc_value_2 ∙ c.in-153.is)
     ∙ opcode_99 in record {
@@ -135,7 +143,8 @@ returns-in-153 c = let at = c.args in
     }
 
 pub returns-in-154 : goal.returns-in-154
-returns-in-154 c = let at = c.args in
+returns-in-154 c =
+    let at = c.args in
     let decodes = ap decode_of (c.requires.pc_value_2 ∙ c.in-154.is) ∙ opcode_9a in
     let words : SixteenBits at.sums.now = λ k. omega (arith, c.type_inv.sums k) in record {
       tries = rw (c.txs.ensures, c.next_address-pc.ensures) (register_tries at.halt at.span.0 at.w
@@ -145,7 +154,8 @@ returns-in-154 c = let at = c.args in
 
 pub returns-in-157 : goal.returns-in-157
 unfolding locate_of
-returns-in-157 c = let at = c.args in
+returns-in-157 c =
+    let at = c.args in
     let decodes = ap decode_of
     (c.requires.pc_value_2 ∙ c.in-157.is)
     ∙ opcode_9d in record {
@@ -161,7 +171,8 @@ returns-in-157 c = let at = c.args in
 
 pub returns-in-159 : goal.returns-in-159
 unfolding locate_of
-returns-in-159 c = let at = c.args in
+returns-in-159 c =
+    let at = c.args in
     let decodes = ap decode_of (c.requires.pc_value_2 ∙ c.in-159.is) ∙ opcode_9f in
     let words : SixteenBits at.sums.now =
     λ k. omega (arith, c.type_inv.sums k) in record {
@@ -172,5 +183,9 @@ returns-in-159 c = let at = c.args in
     }
 
 pub returns-in_default : goal.returns-in_default
-returns-in_default c = let at = c.args in
-    let words : SixteenBits at.sums.now = λ k. omega (arith, c.type_inv.sums k) in record { tries = rw c.failed_attempt.ensures unchanged; sums_after = sums_kept 0 at.sums.now at.memory.now words }
+returns-in_default c =
+    let at = c.args in
+    let words : SixteenBits at.sums.now = λ k. omega (arith, c.type_inv.sums k) in record {
+      tries = rw c.failed_attempt.ensures unchanged;
+      sums_after = sums_kept 0 at.sums.now at.memory.now words;
+    }

@@ -18,7 +18,8 @@ use Rattle.cpu_high_opcodes.proofs.opcodes_a0.Goals as goal
 
 pub returns-in-160 : goal.returns-in-160
 unfolding locate_of
-returns-in-160 c = let at = c.args in
+returns-in-160 c =
+    let at = c.args in
     let decodes = ap decode_of (c.requires.pc_value_2 ∙ c.in-160.is) ∙ opcode_a0 in
     let words : SixteenBits at.sums.now =
     λ k. omega (arith, c.type_inv.sums k) in record {
@@ -30,7 +31,8 @@ returns-in-160 c = let at = c.args in
 
 pub returns-in-161 : goal.returns-in-161
 unfolding locate_of
-returns-in-161 c = let at = c.args in
+returns-in-161 c =
+    let at = c.args in
     let decodes = ap decode_of (c.requires.pc_value_2 ∙ c.in-161.is) ∙ opcode_a1 in
     let words : SixteenBits at.sums.now =
     λ k. omega (arith, c.type_inv.sums k) in record {
@@ -45,7 +47,8 @@ returns-in-161 c = let at = c.args in
 
 pub returns-in-162 : goal.returns-in-162
 unfolding locate_of
-returns-in-162 c = let at = c.args in
+returns-in-162 c =
+    let at = c.args in
     let decodes = ap decode_of (c.requires.pc_value_2 ∙ c.in-162.is) ∙ opcode_a2 in
     let words : SixteenBits at.sums.now =
     λ k. omega (arith, c.type_inv.sums k) in record {
@@ -57,7 +60,8 @@ returns-in-162 c = let at = c.args in
 
 pub returns-in-164 : goal.returns-in-164
 unfolding locate_of
-returns-in-164 c = let at = c.args in
+returns-in-164 c =
+    let at = c.args in
     let decodes = ap decode_of (c.requires.pc_value_2 ∙ c.in-164.is) ∙ opcode_a4 in
     let words : SixteenBits at.sums.now =
     λ k. omega (arith, c.type_inv.sums k) in record {
@@ -69,7 +73,8 @@ returns-in-164 c = let at = c.args in
 
 pub returns-in-165 : goal.returns-in-165
 unfolding locate_of
-returns-in-165 c = let at = c.args in
+returns-in-165 c =
+    let at = c.args in
     let decodes = ap decode_of (c.requires.pc_value_2 ∙ c.in-165.is) ∙ opcode_a5 in
     let words : SixteenBits at.sums.now =
     λ k. omega (arith, c.type_inv.sums k) in record {
@@ -81,7 +86,8 @@ returns-in-165 c = let at = c.args in
 
 pub returns-in-166 : goal.returns-in-166
 unfolding locate_of
-returns-in-166 c = let at = c.args in
+returns-in-166 c =
+    let at = c.args in
     let decodes = ap decode_of (c.requires.pc_value_2 ∙ c.in-166.is) ∙ opcode_a6 in
     let words : SixteenBits at.sums.now =
     λ k. omega (arith, c.type_inv.sums k) in record {
@@ -93,7 +99,8 @@ returns-in-166 c = let at = c.args in
 
 pub returns-in-167 : goal.returns-in-167
 unfolding locate_of
-returns-in-167 c = let at = c.args in
+returns-in-167 c =
+    let at = c.args in
     let decodes = ap decode_of
     (c.requires.pc_value_2 ∙ c.in-167.is)
     ∙ opcode_a7 in record {
@@ -108,7 +115,8 @@ returns-in-167 c = let at = c.args in
     }
 
 pub returns-in-168 : goal.returns-in-168
-returns-in-168 c = let at = c.args in
+returns-in-168 c =
+    let at = c.args in
     let decodes = ap decode_of (c.requires.pc_value_2 ∙ c.in-168.is) ∙ opcode_a8 in
     let words : SixteenBits at.sums.now = λ k. omega (arith, c.type_inv.sums k) in record {
       tries = rw (c.tay.ensures, c.next_address-pc.ensures) (register_tries at.halt at.span.0 at.w
@@ -118,7 +126,8 @@ returns-in-168 c = let at = c.args in
 
 pub returns-in-169 : goal.returns-in-169
 unfolding locate_of
-returns-in-169 c = let at = c.args in
+returns-in-169 c =
+    let at = c.args in
     let decodes = ap decode_of (c.requires.pc_value_2 ∙ c.in-169.is) ∙ opcode_a9 in
     let words : SixteenBits at.sums.now =
     λ k. omega (arith, c.type_inv.sums k) in record {
@@ -129,7 +138,8 @@ returns-in-169 c = let at = c.args in
     }
 
 pub returns-in-170 : goal.returns-in-170
-returns-in-170 c = let at = c.args in
+returns-in-170 c =
+    let at = c.args in
     let decodes = ap decode_of (c.requires.pc_value_2 ∙ c.in-170.is) ∙ opcode_aa in
     let words : SixteenBits at.sums.now = λ k. omega (arith, c.type_inv.sums k) in record {
       tries = rw (c.tax.ensures, c.next_address-pc.ensures) (register_tries at.halt at.span.0 at.w
@@ -139,7 +149,8 @@ returns-in-170 c = let at = c.args in
 
 pub returns-in-172 : goal.returns-in-172
 unfolding locate_of
-returns-in-172 c = let at = c.args in
+returns-in-172 c =
+    let at = c.args in
     let decodes = ap decode_of (c.requires.pc_value_2 ∙ c.in-172.is) ∙ opcode_ac in
     let words : SixteenBits at.sums.now =
     λ k. omega (arith, c.type_inv.sums k) in record {
@@ -151,7 +162,8 @@ returns-in-172 c = let at = c.args in
 
 pub returns-in-173 : goal.returns-in-173
 unfolding locate_of
-returns-in-173 c = let at = c.args in
+returns-in-173 c =
+    let at = c.args in
     let decodes = ap decode_of (c.requires.pc_value_2 ∙ c.in-173.is) ∙ opcode_ad in
     let words : SixteenBits at.sums.now =
     λ k. omega (arith, c.type_inv.sums k) in record {
@@ -163,7 +175,8 @@ returns-in-173 c = let at = c.args in
 
 pub returns-in-174 : goal.returns-in-174
 unfolding locate_of
-returns-in-174 c = let at = c.args in
+returns-in-174 c =
+    let at = c.args in
     let decodes = ap decode_of (c.requires.pc_value_2 ∙ c.in-174.is) ∙ opcode_ae in
     let words : SixteenBits at.sums.now =
     λ k. omega (arith, c.type_inv.sums k) in record {
@@ -175,7 +188,8 @@ returns-in-174 c = let at = c.args in
 
 pub returns-in-175 : goal.returns-in-175
 unfolding locate_of
-returns-in-175 c = let at = c.args in
+returns-in-175 c =
+    let at = c.args in
     let decodes = ap decode_of (c.requires.pc_value_2 ∙ c.in-175.is) ∙ opcode_af in
     let words : SixteenBits at.sums.now =
     λ k. omega (arith, c.type_inv.sums k) in record {
@@ -186,5 +200,9 @@ returns-in-175 c = let at = c.args in
     }
 
 pub returns-in_default : goal.returns-in_default
-returns-in_default c = let at = c.args in
-    let words : SixteenBits at.sums.now = λ k. omega (arith, c.type_inv.sums k) in record { tries = rw c.failed_attempt.ensures unchanged; sums_after = sums_kept 0 at.sums.now at.memory.now words }
+returns-in_default c =
+    let at = c.args in
+    let words : SixteenBits at.sums.now = λ k. omega (arith, c.type_inv.sums k) in record {
+      tries = rw c.failed_attempt.ensures unchanged;
+      sums_after = sums_kept 0 at.sums.now at.memory.now words;
+    }

@@ -22,7 +22,8 @@ use Rattle.cpu_high_opcodes.proofs.opcodes_b0.Goals as goal
 
 pub returns-in-176 : goal.returns-in-176
 unfolding locate_of
-returns-in-176 c = let at = c.args in
+returns-in-176 c =
+    let at = c.args in
     let decodes = ap decode_of (c.requires.pc_value_2 ∙ c.in-176.is) ∙ opcode_b0 in
     let words : SixteenBits at.sums.now =
     λ k. omega (arith, c.type_inv.sums k) in record {
@@ -34,7 +35,8 @@ returns-in-176 c = let at = c.args in
 
 pub returns-in-177 : goal.returns-in-177
 unfolding locate_of
-returns-in-177 c = let at = c.args in
+returns-in-177 c =
+    let at = c.args in
     let decodes = ap decode_of (c.requires.pc_value_2 ∙ c.in-177.is) ∙ opcode_b1 in
     let words : SixteenBits at.sums.now =
     λ k. omega (arith, c.type_inv.sums k) in record {
@@ -49,7 +51,8 @@ returns-in-177 c = let at = c.args in
 
 pub returns-in-180 : goal.returns-in-180
 unfolding locate_of
-returns-in-180 c = let at = c.args in
+returns-in-180 c =
+    let at = c.args in
     let decodes = ap decode_of (c.requires.pc_value_2 ∙ c.in-180.is) ∙ opcode_b4 in
     let words : SixteenBits at.sums.now =
     λ k. omega (arith, c.type_inv.sums k) in record {
@@ -64,7 +67,8 @@ returns-in-180 c = let at = c.args in
 
 pub returns-in-181 : goal.returns-in-181
 unfolding locate_of
-returns-in-181 c = let at = c.args in
+returns-in-181 c =
+    let at = c.args in
     let decodes = ap decode_of (c.requires.pc_value_2 ∙ c.in-181.is) ∙ opcode_b5 in
     let words : SixteenBits at.sums.now =
     λ k. omega (arith, c.type_inv.sums k) in record {
@@ -79,7 +83,8 @@ returns-in-181 c = let at = c.args in
 
 pub returns-in-182 : goal.returns-in-182
 unfolding locate_of
-returns-in-182 c = let at = c.args in
+returns-in-182 c =
+    let at = c.args in
     let decodes = ap decode_of (c.requires.pc_value_2 ∙ c.in-182.is) ∙ opcode_b6 in
     let words : SixteenBits at.sums.now =
     λ k. omega (arith, c.type_inv.sums k) in record {
@@ -94,7 +99,8 @@ returns-in-182 c = let at = c.args in
 
 pub returns-in-183 : goal.returns-in-183
 unfolding locate_of
-returns-in-183 c = let at = c.args in
+returns-in-183 c =
+    let at = c.args in
     let decodes = ap decode_of
     (c.requires.pc_value_2 ∙ c.in-183.is)
     ∙ opcode_b7 in record {
@@ -109,7 +115,8 @@ returns-in-183 c = let at = c.args in
     }
 
 pub returns-in-184 : goal.returns-in-184
-returns-in-184 c = let at = c.args in
+returns-in-184 c =
+    let at = c.args in
     let decodes = ap decode_of (c.requires.pc_value_2 ∙ c.in-184.is) ∙ opcode_b8 in
     let words : SixteenBits at.sums.now = λ k. omega (arith, c.type_inv.sums k) in record {
       tries = rw (c.clv.ensures, c.next_address-pc.ensures) (flag_tries at.halt at.span.0 at.w
@@ -119,7 +126,8 @@ returns-in-184 c = let at = c.args in
 
 pub returns-in-185 : goal.returns-in-185
 unfolding locate_of
-returns-in-185 c = let at = c.args in
+returns-in-185 c =
+    let at = c.args in
     let decodes = ap decode_of (c.requires.pc_value_2 ∙ c.in-185.is) ∙ opcode_b9 in
     let words : SixteenBits at.sums.now =
     λ k. omega (arith, c.type_inv.sums k) in record {
@@ -133,7 +141,8 @@ returns-in-185 c = let at = c.args in
     }
 
 pub returns-in-186 : goal.returns-in-186
-returns-in-186 c = let at = c.args in
+returns-in-186 c =
+    let at = c.args in
     let decodes = ap decode_of (c.requires.pc_value_2 ∙ c.in-186.is) ∙ opcode_ba in
     let words : SixteenBits at.sums.now = λ k. omega (arith, c.type_inv.sums k) in record {
       tries = rw (c.tsx.ensures, c.next_address-pc.ensures) (register_tries at.halt at.span.0 at.w
@@ -143,7 +152,8 @@ returns-in-186 c = let at = c.args in
 
 pub returns-in-188 : goal.returns-in-188
 unfolding locate_of
-returns-in-188 c = let at = c.args in
+returns-in-188 c =
+    let at = c.args in
     let decodes = ap decode_of (c.requires.pc_value_2 ∙ c.in-188.is) ∙ opcode_bc in
     let words : SixteenBits at.sums.now =
     λ k. omega (arith, c.type_inv.sums k) in record {
@@ -158,7 +168,8 @@ returns-in-188 c = let at = c.args in
 
 pub returns-in-189 : goal.returns-in-189
 unfolding locate_of
-returns-in-189 c = let at = c.args in
+returns-in-189 c =
+    let at = c.args in
     let decodes = ap decode_of (c.requires.pc_value_2 ∙ c.in-189.is) ∙ opcode_bd in
     let words : SixteenBits at.sums.now =
     λ k. omega (arith, c.type_inv.sums k) in record {
@@ -173,7 +184,8 @@ returns-in-189 c = let at = c.args in
 
 pub returns-in-190 : goal.returns-in-190
 unfolding locate_of
-returns-in-190 c = let at = c.args in
+returns-in-190 c =
+    let at = c.args in
     let decodes = ap decode_of (c.requires.pc_value_2 ∙ c.in-190.is) ∙ opcode_be in
     let words : SixteenBits at.sums.now =
     λ k. omega (arith, c.type_inv.sums k) in record {
@@ -188,7 +200,8 @@ returns-in-190 c = let at = c.args in
 
 pub returns-in-191 : goal.returns-in-191
 unfolding locate_of
-returns-in-191 c = let at = c.args in
+returns-in-191 c =
+    let at = c.args in
     let decodes = ap decode_of (c.requires.pc_value_2 ∙ c.in-191.is) ∙ opcode_bf in
     let words : SixteenBits at.sums.now =
     λ k. omega (arith, c.type_inv.sums k) in record {
@@ -199,5 +212,9 @@ returns-in-191 c = let at = c.args in
     }
 
 pub returns-in_default : goal.returns-in_default
-returns-in_default c = let at = c.args in
-    let words : SixteenBits at.sums.now = λ k. omega (arith, c.type_inv.sums k) in record { tries = rw c.failed_attempt.ensures unchanged; sums_after = sums_kept 0 at.sums.now at.memory.now words }
+returns-in_default c =
+    let at = c.args in
+    let words : SixteenBits at.sums.now = λ k. omega (arith, c.type_inv.sums k) in record {
+      tries = rw c.failed_attempt.ensures unchanged;
+      sums_after = sums_kept 0 at.sums.now at.memory.now words;
+    }

@@ -18,7 +18,8 @@ use Rattle.cpu_high_opcodes.proofs.opcodes_c0.Goals as goal
 
 pub returns-in-192 : goal.returns-in-192
 unfolding locate_of
-returns-in-192 c = let at = c.args in
+returns-in-192 c =
+    let at = c.args in
     let decodes = ap decode_of (c.requires.pc_value_2 ∙ c.in-192.is) ∙ opcode_c0 in
     let words : SixteenBits at.sums.now =
     λ k. omega (arith, c.type_inv.sums k) in record {
@@ -30,7 +31,8 @@ returns-in-192 c = let at = c.args in
 
 pub returns-in-193 : goal.returns-in-193
 unfolding locate_of
-returns-in-193 c = let at = c.args in
+returns-in-193 c =
+    let at = c.args in
     let decodes = ap decode_of (c.requires.pc_value_2 ∙ c.in-193.is) ∙ opcode_c1 in
     let words : SixteenBits at.sums.now =
     λ k. omega (arith, c.type_inv.sums k) in record {
@@ -45,7 +47,8 @@ returns-in-193 c = let at = c.args in
 
 pub returns-in-196 : goal.returns-in-196
 unfolding locate_of
-returns-in-196 c = let at = c.args in
+returns-in-196 c =
+    let at = c.args in
     let decodes = ap decode_of (c.requires.pc_value_2 ∙ c.in-196.is) ∙ opcode_c4 in
     let words : SixteenBits at.sums.now =
     λ k. omega (arith, c.type_inv.sums k) in record {
@@ -57,7 +60,8 @@ returns-in-196 c = let at = c.args in
 
 pub returns-in-197 : goal.returns-in-197
 unfolding locate_of
-returns-in-197 c = let at = c.args in
+returns-in-197 c =
+    let at = c.args in
     let decodes = ap decode_of (c.requires.pc_value_2 ∙ c.in-197.is) ∙ opcode_c5 in
     let words : SixteenBits at.sums.now =
     λ k. omega (arith, c.type_inv.sums k) in record {
@@ -69,7 +73,8 @@ returns-in-197 c = let at = c.args in
 
 pub returns-in-198 : goal.returns-in-198
 unfolding locate_of
-returns-in-198 c = let at = c.args in
+returns-in-198 c =
+    let at = c.args in
     let decodes = ap decode_of
     (c.requires.pc_value_2 ∙ c.in-198.is)
     ∙ opcode_c6 in record {
@@ -85,7 +90,8 @@ returns-in-198 c = let at = c.args in
 
 pub returns-in-199 : goal.returns-in-199
 unfolding locate_of
-returns-in-199 c = let at = c.args in
+returns-in-199 c =
+    let at = c.args in
     let decodes = ap decode_of
     (c.requires.pc_value_2 ∙ c.in-199.is)
     ∙ opcode_c7 in record {
@@ -100,7 +106,8 @@ returns-in-199 c = let at = c.args in
     }
 
 pub returns-in-200 : goal.returns-in-200
-returns-in-200 c = let at = c.args in
+returns-in-200 c =
+    let at = c.args in
     let decodes = ap decode_of (c.requires.pc_value_2 ∙ c.in-200.is) ∙ opcode_c8 in
     let words : SixteenBits at.sums.now = λ k. omega (arith, c.type_inv.sums k) in record {
       tries = rw (c.iny.ensures, c.next_address-pc.ensures) (register_tries at.halt at.span.0 at.w
@@ -110,7 +117,8 @@ returns-in-200 c = let at = c.args in
 
 pub returns-in-201 : goal.returns-in-201
 unfolding locate_of
-returns-in-201 c = let at = c.args in
+returns-in-201 c =
+    let at = c.args in
     let decodes = ap decode_of (c.requires.pc_value_2 ∙ c.in-201.is) ∙ opcode_c9 in
     let words : SixteenBits at.sums.now =
     λ k. omega (arith, c.type_inv.sums k) in record {
@@ -121,7 +129,8 @@ returns-in-201 c = let at = c.args in
     }
 
 pub returns-in-202 : goal.returns-in-202
-returns-in-202 c = let at = c.args in
+returns-in-202 c =
+    let at = c.args in
     let decodes = ap decode_of (c.requires.pc_value_2 ∙ c.in-202.is) ∙ opcode_ca in
     let words : SixteenBits at.sums.now = λ k. omega (arith, c.type_inv.sums k) in record {
       tries = rw (c.dex.ensures, c.next_address-pc.ensures) (register_tries at.halt at.span.0 at.w
@@ -131,7 +140,8 @@ returns-in-202 c = let at = c.args in
 
 pub returns-in-204 : goal.returns-in-204
 unfolding locate_of
-returns-in-204 c = let at = c.args in
+returns-in-204 c =
+    let at = c.args in
     let decodes = ap decode_of (c.requires.pc_value_2 ∙ c.in-204.is) ∙ opcode_cc in
     let words : SixteenBits at.sums.now =
     λ k. omega (arith, c.type_inv.sums k) in record {
@@ -143,7 +153,8 @@ returns-in-204 c = let at = c.args in
 
 pub returns-in-205 : goal.returns-in-205
 unfolding locate_of
-returns-in-205 c = let at = c.args in
+returns-in-205 c =
+    let at = c.args in
     let decodes = ap decode_of (c.requires.pc_value_2 ∙ c.in-205.is) ∙ opcode_cd in
     let words : SixteenBits at.sums.now =
     λ k. omega (arith, c.type_inv.sums k) in record {
@@ -155,7 +166,8 @@ returns-in-205 c = let at = c.args in
 
 pub returns-in-206 : goal.returns-in-206
 unfolding locate_of
-returns-in-206 c = let at = c.args in
+returns-in-206 c =
+    let at = c.args in
     let decodes = ap decode_of
     (c.requires.pc_value_2 ∙ c.in-206.is)
     ∙ opcode_ce in record {
@@ -171,7 +183,8 @@ returns-in-206 c = let at = c.args in
 
 pub returns-in-207 : goal.returns-in-207
 unfolding locate_of
-returns-in-207 c = let at = c.args in
+returns-in-207 c =
+    let at = c.args in
     let decodes = ap decode_of (c.requires.pc_value_2 ∙ c.in-207.is) ∙ opcode_cf in
     let words : SixteenBits at.sums.now =
     λ k. omega (arith, c.type_inv.sums k) in record {
@@ -182,5 +195,9 @@ returns-in-207 c = let at = c.args in
     }
 
 pub returns-in_default : goal.returns-in_default
-returns-in_default c = let at = c.args in
-    let words : SixteenBits at.sums.now = λ k. omega (arith, c.type_inv.sums k) in record { tries = rw c.failed_attempt.ensures unchanged; sums_after = sums_kept 0 at.sums.now at.memory.now words }
+returns-in_default c =
+    let at = c.args in
+    let words : SixteenBits at.sums.now = λ k. omega (arith, c.type_inv.sums k) in record {
+      tries = rw c.failed_attempt.ensures unchanged;
+      sums_after = sums_kept 0 at.sums.now at.memory.now words;
+    }

@@ -18,7 +18,8 @@ use Rattle.cpu_high_opcodes.proofs.opcodes_d0.Goals as goal
 
 pub returns-in-208 : goal.returns-in-208
 unfolding locate_of
-returns-in-208 c = let at = c.args in
+returns-in-208 c =
+    let at = c.args in
     let decodes = ap decode_of (c.requires.pc_value_2 ∙ c.in-208.is) ∙ opcode_d0 in
     let words : SixteenBits at.sums.now =
     λ k. omega (arith, c.type_inv.sums k) in record {
@@ -30,7 +31,8 @@ returns-in-208 c = let at = c.args in
 
 pub returns-in-209 : goal.returns-in-209
 unfolding locate_of
-returns-in-209 c = let at = c.args in
+returns-in-209 c =
+    let at = c.args in
     let decodes = ap decode_of (c.requires.pc_value_2 ∙ c.in-209.is) ∙ opcode_d1 in
     let words : SixteenBits at.sums.now =
     λ k. omega (arith, c.type_inv.sums k) in record {
@@ -45,7 +47,8 @@ returns-in-209 c = let at = c.args in
 
 pub returns-in-213 : goal.returns-in-213
 unfolding locate_of
-returns-in-213 c = let at = c.args in
+returns-in-213 c =
+    let at = c.args in
     let decodes = ap decode_of (c.requires.pc_value_2 ∙ c.in-213.is) ∙ opcode_d5 in
     let words : SixteenBits at.sums.now =
     λ k. omega (arith, c.type_inv.sums k) in record {
@@ -60,7 +63,8 @@ returns-in-213 c = let at = c.args in
 
 pub returns-in-214 : goal.returns-in-214
 unfolding locate_of
-returns-in-214 c = let at = c.args in
+returns-in-214 c =
+    let at = c.args in
     let decodes = ap decode_of
     (c.requires.pc_value_2 ∙ c.in-214.is)
     ∙ opcode_d6 in record {
@@ -76,7 +80,8 @@ returns-in-214 c = let at = c.args in
 
 pub returns-in-215 : goal.returns-in-215
 unfolding locate_of
-returns-in-215 c = let at = c.args in
+returns-in-215 c =
+    let at = c.args in
     let decodes = ap decode_of
     (c.requires.pc_value_2 ∙ c.in-215.is)
     ∙ opcode_d7 in record {
@@ -91,7 +96,8 @@ returns-in-215 c = let at = c.args in
     }
 
 pub returns-in-216 : goal.returns-in-216
-returns-in-216 c = let at = c.args in
+returns-in-216 c =
+    let at = c.args in
     let decodes = ap decode_of (c.requires.pc_value_2 ∙ c.in-216.is) ∙ opcode_d8 in
     let words : SixteenBits at.sums.now = λ k. omega (arith, c.type_inv.sums k) in record {
       tries = rw (c.cld.ensures, c.next_address-pc.ensures) (flag_tries at.halt at.span.0 at.w
@@ -101,7 +107,8 @@ returns-in-216 c = let at = c.args in
 
 pub returns-in-217 : goal.returns-in-217
 unfolding locate_of
-returns-in-217 c = let at = c.args in
+returns-in-217 c =
+    let at = c.args in
     let decodes = ap decode_of (c.requires.pc_value_2 ∙ c.in-217.is) ∙ opcode_d9 in
     let words : SixteenBits at.sums.now =
     λ k. omega (arith, c.type_inv.sums k) in record {
@@ -116,7 +123,8 @@ returns-in-217 c = let at = c.args in
 
 pub returns-in-221 : goal.returns-in-221
 unfolding locate_of
-returns-in-221 c = let at = c.args in
+returns-in-221 c =
+    let at = c.args in
     let decodes = ap decode_of (c.requires.pc_value_2 ∙ c.in-221.is) ∙ opcode_dd in
     let words : SixteenBits at.sums.now =
     λ k. omega (arith, c.type_inv.sums k) in record {
@@ -131,7 +139,8 @@ returns-in-221 c = let at = c.args in
 
 pub returns-in-222 : goal.returns-in-222
 unfolding locate_of indexed_by
-returns-in-222 c = let at = c.args in
+returns-in-222 c =
+    let at = c.args in
     let decodes = ap decode_of
     (c.requires.pc_value_2 ∙ c.in-222.is)
     ∙ opcode_de in record {
@@ -147,7 +156,8 @@ returns-in-222 c = let at = c.args in
 
 pub returns-in-223 : goal.returns-in-223
 unfolding locate_of
-returns-in-223 c = let at = c.args in
+returns-in-223 c =
+    let at = c.args in
     let decodes = ap decode_of (c.requires.pc_value_2 ∙ c.in-223.is) ∙ opcode_df in
     let words : SixteenBits at.sums.now =
     λ k. omega (arith, c.type_inv.sums k) in record {
@@ -158,5 +168,9 @@ returns-in-223 c = let at = c.args in
     }
 
 pub returns-in_default : goal.returns-in_default
-returns-in_default c = let at = c.args in
-    let words : SixteenBits at.sums.now = λ k. omega (arith, c.type_inv.sums k) in record { tries = rw c.failed_attempt.ensures unchanged; sums_after = sums_kept 0 at.sums.now at.memory.now words }
+returns-in_default c =
+    let at = c.args in
+    let words : SixteenBits at.sums.now = λ k. omega (arith, c.type_inv.sums k) in record {
+      tries = rw c.failed_attempt.ensures unchanged;
+      sums_after = sums_kept 0 at.sums.now at.memory.now words;
+    }

@@ -19,7 +19,8 @@ use Rattle.cpu_high_opcodes.proofs.opcodes_e0.Goals as goal
 
 pub returns-in-224 : goal.returns-in-224
 unfolding locate_of
-returns-in-224 c = let at = c.args in
+returns-in-224 c =
+    let at = c.args in
     let decodes = ap decode_of (c.requires.pc_value_2 ∙ c.in-224.is) ∙ opcode_e0 in
     let words : SixteenBits at.sums.now =
     λ k. omega (arith, c.type_inv.sums k) in record {
@@ -31,7 +32,8 @@ returns-in-224 c = let at = c.args in
 
 pub returns-in-225 : goal.returns-in-225
 unfolding locate_of
-returns-in-225 c = let at = c.args in
+returns-in-225 c =
+    let at = c.args in
     let decodes = ap decode_of (c.requires.pc_value_2 ∙ c.in-225.is) ∙ opcode_e1 in
     let words : SixteenBits at.sums.now =
     λ k. omega (arith, c.type_inv.sums k) in record {
@@ -46,7 +48,8 @@ returns-in-225 c = let at = c.args in
 
 pub returns-in-228 : goal.returns-in-228
 unfolding locate_of
-returns-in-228 c = let at = c.args in
+returns-in-228 c =
+    let at = c.args in
     let decodes = ap decode_of (c.requires.pc_value_2 ∙ c.in-228.is) ∙ opcode_e4 in
     let words : SixteenBits at.sums.now =
     λ k. omega (arith, c.type_inv.sums k) in record {
@@ -58,7 +61,8 @@ returns-in-228 c = let at = c.args in
 
 pub returns-in-229 : goal.returns-in-229
 unfolding locate_of
-returns-in-229 c = let at = c.args in
+returns-in-229 c =
+    let at = c.args in
     let decodes = ap decode_of (c.requires.pc_value_2 ∙ c.in-229.is) ∙ opcode_e5 in
     let words : SixteenBits at.sums.now =
     λ k. omega (arith, c.type_inv.sums k) in record {
@@ -70,7 +74,8 @@ returns-in-229 c = let at = c.args in
 
 pub returns-in-230 : goal.returns-in-230
 unfolding locate_of
-returns-in-230 c = let at = c.args in
+returns-in-230 c =
+    let at = c.args in
     let decodes = ap decode_of
     (c.requires.pc_value_2 ∙ c.in-230.is)
     ∙ opcode_e6 in record {
@@ -86,7 +91,8 @@ returns-in-230 c = let at = c.args in
 
 pub returns-in-231 : goal.returns-in-231
 unfolding locate_of
-returns-in-231 c = let at = c.args in
+returns-in-231 c =
+    let at = c.args in
     let decodes = ap decode_of
     (c.requires.pc_value_2 ∙ c.in-231.is)
     ∙ opcode_e7 in record {
@@ -101,7 +107,8 @@ returns-in-231 c = let at = c.args in
     }
 
 pub returns-in-232 : goal.returns-in-232
-returns-in-232 c = let at = c.args in
+returns-in-232 c =
+    let at = c.args in
     let decodes = ap decode_of (c.requires.pc_value_2 ∙ c.in-232.is) ∙ opcode_e8 in
     let words : SixteenBits at.sums.now = λ k. omega (arith, c.type_inv.sums k) in record {
       tries = rw (c.inx.ensures, c.next_address-pc.ensures) (register_tries at.halt at.span.0 at.w
@@ -111,7 +118,8 @@ returns-in-232 c = let at = c.args in
 
 pub returns-in-233 : goal.returns-in-233
 unfolding locate_of
-returns-in-233 c = let at = c.args in
+returns-in-233 c =
+    let at = c.args in
     let decodes = ap decode_of (c.requires.pc_value_2 ∙ c.in-233.is) ∙ opcode_e9 in
     let words : SixteenBits at.sums.now =
     λ k. omega (arith, c.type_inv.sums k) in record {
@@ -122,7 +130,8 @@ returns-in-233 c = let at = c.args in
     }
 
 pub returns-in-234 : goal.returns-in-234
-returns-in-234 c = let at = c.args in
+returns-in-234 c =
+    let at = c.args in
     let decodes = ap decode_of (c.requires.pc_value_2 ∙ c.in-234.is) ∙ opcode_ea in
     let words : SixteenBits at.sums.now = λ k. omega (arith, c.type_inv.sums k) in record {
       tries = rw (c.no_operation.ensures, c.next_address-pc.ensures) (no_operation_tries at.halt
@@ -132,7 +141,8 @@ returns-in-234 c = let at = c.args in
 
 pub returns-in-236 : goal.returns-in-236
 unfolding locate_of
-returns-in-236 c = let at = c.args in
+returns-in-236 c =
+    let at = c.args in
     let decodes = ap decode_of (c.requires.pc_value_2 ∙ c.in-236.is) ∙ opcode_ec in
     let words : SixteenBits at.sums.now =
     λ k. omega (arith, c.type_inv.sums k) in record {
@@ -144,7 +154,8 @@ returns-in-236 c = let at = c.args in
 
 pub returns-in-237 : goal.returns-in-237
 unfolding locate_of
-returns-in-237 c = let at = c.args in
+returns-in-237 c =
+    let at = c.args in
     let decodes = ap decode_of (c.requires.pc_value_2 ∙ c.in-237.is) ∙ opcode_ed in
     let words : SixteenBits at.sums.now =
     λ k. omega (arith, c.type_inv.sums k) in record {
@@ -156,7 +167,8 @@ returns-in-237 c = let at = c.args in
 
 pub returns-in-238 : goal.returns-in-238
 unfolding locate_of
-returns-in-238 c = let at = c.args in
+returns-in-238 c =
+    let at = c.args in
     let decodes = ap decode_of
     (c.requires.pc_value_2 ∙ c.in-238.is)
     ∙ opcode_ee in record {
@@ -172,7 +184,8 @@ returns-in-238 c = let at = c.args in
 
 pub returns-in-239 : goal.returns-in-239
 unfolding locate_of
-returns-in-239 c = let at = c.args in
+returns-in-239 c =
+    let at = c.args in
     let decodes = ap decode_of (c.requires.pc_value_2 ∙ c.in-239.is) ∙ opcode_ef in
     let words : SixteenBits at.sums.now =
     λ k. omega (arith, c.type_inv.sums k) in record {
@@ -183,5 +196,9 @@ returns-in-239 c = let at = c.args in
     }
 
 pub returns-in_default : goal.returns-in_default
-returns-in_default c = let at = c.args in
-    let words : SixteenBits at.sums.now = λ k. omega (arith, c.type_inv.sums k) in record { tries = rw c.failed_attempt.ensures unchanged; sums_after = sums_kept 0 at.sums.now at.memory.now words }
+returns-in_default c =
+    let at = c.args in
+    let words : SixteenBits at.sums.now = λ k. omega (arith, c.type_inv.sums k) in record {
+      tries = rw c.failed_attempt.ensures unchanged;
+      sums_after = sums_kept 0 at.sums.now at.memory.now words;
+    }

@@ -18,7 +18,8 @@ use Rattle.cpu_high_opcodes.proofs.opcodes_f0.Goals as goal
 
 pub returns-in-240 : goal.returns-in-240
 unfolding locate_of
-returns-in-240 c = let at = c.args in
+returns-in-240 c =
+    let at = c.args in
     let decodes = ap decode_of (c.requires.pc_value_2 ∙ c.in-240.is) ∙ opcode_f0 in
     let words : SixteenBits at.sums.now =
     λ k. omega (arith, c.type_inv.sums k) in record {
@@ -30,7 +31,8 @@ returns-in-240 c = let at = c.args in
 
 pub returns-in-241 : goal.returns-in-241
 unfolding locate_of
-returns-in-241 c = let at = c.args in
+returns-in-241 c =
+    let at = c.args in
     let decodes = ap decode_of (c.requires.pc_value_2 ∙ c.in-241.is) ∙ opcode_f1 in
     let words : SixteenBits at.sums.now =
     λ k. omega (arith, c.type_inv.sums k) in record {
@@ -45,7 +47,8 @@ returns-in-241 c = let at = c.args in
 
 pub returns-in-245 : goal.returns-in-245
 unfolding locate_of
-returns-in-245 c = let at = c.args in
+returns-in-245 c =
+    let at = c.args in
     let decodes = ap decode_of (c.requires.pc_value_2 ∙ c.in-245.is) ∙ opcode_f5 in
     let words : SixteenBits at.sums.now =
     λ k. omega (arith, c.type_inv.sums k) in record {
@@ -60,7 +63,8 @@ returns-in-245 c = let at = c.args in
 
 pub returns-in-246 : goal.returns-in-246
 unfolding locate_of
-returns-in-246 c = let at = c.args in
+returns-in-246 c =
+    let at = c.args in
     let decodes = ap decode_of
     (c.requires.pc_value_2 ∙ c.in-246.is)
     ∙ opcode_f6 in record {
@@ -76,7 +80,8 @@ returns-in-246 c = let at = c.args in
 
 pub returns-in-247 : goal.returns-in-247
 unfolding locate_of
-returns-in-247 c = let at = c.args in
+returns-in-247 c =
+    let at = c.args in
     let decodes = ap decode_of
     (c.requires.pc_value_2 ∙ c.in-247.is)
     ∙ opcode_f7 in record {
@@ -91,7 +96,8 @@ returns-in-247 c = let at = c.args in
     }
 
 pub returns-in-248 : goal.returns-in-248
-returns-in-248 c = let at = c.args in
+returns-in-248 c =
+    let at = c.args in
     let decodes = ap decode_of (c.requires.pc_value_2 ∙ c.in-248.is) ∙ opcode_f8 in
     let words : SixteenBits at.sums.now = λ k. omega (arith, c.type_inv.sums k) in record {
       tries = rw (c.sed.ensures, c.next_address-pc.ensures) (flag_tries at.halt at.span.0 at.w
@@ -101,7 +107,8 @@ returns-in-248 c = let at = c.args in
 
 pub returns-in-249 : goal.returns-in-249
 unfolding locate_of
-returns-in-249 c = let at = c.args in
+returns-in-249 c =
+    let at = c.args in
     let decodes = ap decode_of (c.requires.pc_value_2 ∙ c.in-249.is) ∙ opcode_f9 in
     let words : SixteenBits at.sums.now =
     λ k. omega (arith, c.type_inv.sums k) in record {
@@ -116,7 +123,8 @@ returns-in-249 c = let at = c.args in
 
 pub returns-in-253 : goal.returns-in-253
 unfolding locate_of
-returns-in-253 c = let at = c.args in
+returns-in-253 c =
+    let at = c.args in
     let decodes = ap decode_of (c.requires.pc_value_2 ∙ c.in-253.is) ∙ opcode_fd in
     let words : SixteenBits at.sums.now =
     λ k. omega (arith, c.type_inv.sums k) in record {
@@ -131,7 +139,8 @@ returns-in-253 c = let at = c.args in
 
 pub returns-in-254 : goal.returns-in-254
 unfolding locate_of indexed_by
-returns-in-254 c = let at = c.args in
+returns-in-254 c =
+    let at = c.args in
     let decodes = ap decode_of
     (c.requires.pc_value_2 ∙ c.in-254.is)
     ∙ opcode_fe in record {
@@ -147,7 +156,8 @@ returns-in-254 c = let at = c.args in
 
 pub returns-in-255 : goal.returns-in-255
 unfolding locate_of
-returns-in-255 c = let at = c.args in
+returns-in-255 c =
+    let at = c.args in
     let decodes = ap decode_of (c.requires.pc_value_2 ∙ c.in-255.is) ∙ opcode_ff in
     let words : SixteenBits at.sums.now =
     λ k. omega (arith, c.type_inv.sums k) in record {
@@ -158,5 +168,9 @@ returns-in-255 c = let at = c.args in
     }
 
 pub returns-in_default : goal.returns-in_default
-returns-in_default c = let at = c.args in
-    let words : SixteenBits at.sums.now = λ k. omega (arith, c.type_inv.sums k) in record { tries = rw c.failed_attempt.ensures unchanged; sums_after = sums_kept 0 at.sums.now at.memory.now words }
+returns-in_default c =
+    let at = c.args in
+    let words : SixteenBits at.sums.now = λ k. omega (arith, c.type_inv.sums k) in record {
+      tries = rw c.failed_attempt.ensures unchanged;
+      sums_after = sums_kept 0 at.sums.now at.memory.now words;
+    }

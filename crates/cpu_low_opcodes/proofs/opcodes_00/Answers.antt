@@ -18,7 +18,8 @@ use Rattle.cpu_low_opcodes.proofs.opcodes_00.Goals as goal
 
 pub returns-in-1 : goal.returns-in-1
 unfolding locate_of
-returns-in-1 c = let at = c.args in
+returns-in-1 c =
+    let at = c.args in
     let decodes = ap decode_of (c.requires.pc_value_2 ∙ c.in-1.is) ∙ opcode_01 in
     let words : SixteenBits at.sums.now =
     λ k. omega (arith, c.type_inv.sums k) in record {
@@ -33,7 +34,8 @@ returns-in-1 c = let at = c.args in
 
 pub returns-in-5 : goal.returns-in-5
 unfolding locate_of
-returns-in-5 c = let at = c.args in
+returns-in-5 c =
+    let at = c.args in
     let decodes = ap decode_of (c.requires.pc_value_2 ∙ c.in-5.is) ∙ opcode_05 in
     let words : SixteenBits at.sums.now =
     λ k. omega (arith, c.type_inv.sums k) in record {
@@ -45,7 +47,8 @@ returns-in-5 c = let at = c.args in
 
 pub returns-in-6 : goal.returns-in-6
 unfolding locate_of
-returns-in-6 c = let at = c.args in
+returns-in-6 c =
+    let at = c.args in
     let decodes = ap decode_of
     (c.requires.pc_value_2 ∙ c.in-6.is)
     ∙ opcode_06 in record {
@@ -61,7 +64,8 @@ returns-in-6 c = let at = c.args in
 
 pub returns-in-7 : goal.returns-in-7
 unfolding locate_of
-returns-in-7 c = let at = c.args in
+returns-in-7 c =
+    let at = c.args in
     let decodes = ap decode_of
     (c.requires.pc_value_2 ∙ c.in-7.is)
     ∙ opcode_07 in record {
@@ -76,7 +80,8 @@ returns-in-7 c = let at = c.args in
     }
 
 pub returns-in-8 : goal.returns-in-8
-returns-in-8 c = let at = c.args in
+returns-in-8 c =
+    let at = c.args in
     let decodes = ap decode_of
     (c.requires.pc_value_2 ∙ c.in-8.is) ∙ opcode_08 in record {
       tries = rw (c.php.ensures.value, c.php.ensures.memory_after, c.next_address-pc.ensures)
@@ -87,7 +92,8 @@ returns-in-8 c = let at = c.args in
 
 pub returns-in-9 : goal.returns-in-9
 unfolding locate_of
-returns-in-9 c = let at = c.args in
+returns-in-9 c =
+    let at = c.args in
     let decodes = ap decode_of (c.requires.pc_value_2 ∙ c.in-9.is) ∙ opcode_09 in
     let words : SixteenBits at.sums.now =
     λ k. omega (arith, c.type_inv.sums k) in record {
@@ -98,7 +104,8 @@ returns-in-9 c = let at = c.args in
     }
 
 pub returns-in-10 : goal.returns-in-10
-returns-in-10 c = let at = c.args in
+returns-in-10 c =
+    let at = c.args in
     let decodes = ap decode_of (c.requires.pc_value_2 ∙ c.in-10.is) ∙ opcode_0a in
     let words : SixteenBits at.sums.now = λ k. omega (arith, c.type_inv.sums k) in record {
       tries = rw (c.asl_accumulator.ensures, c.next_address-pc.ensures) (accumulator_tries at.halt
@@ -108,7 +115,8 @@ returns-in-10 c = let at = c.args in
 
 pub returns-in-13 : goal.returns-in-13
 unfolding locate_of
-returns-in-13 c = let at = c.args in
+returns-in-13 c =
+    let at = c.args in
     let decodes = ap decode_of (c.requires.pc_value_2 ∙ c.in-13.is) ∙ opcode_0d in
     let words : SixteenBits at.sums.now =
     λ k. omega (arith, c.type_inv.sums k) in record {
@@ -120,7 +128,8 @@ returns-in-13 c = let at = c.args in
 
 pub returns-in-14 : goal.returns-in-14
 unfolding locate_of
-returns-in-14 c = let at = c.args in
+returns-in-14 c =
+    let at = c.args in
     let decodes = ap decode_of
     (c.requires.pc_value_2 ∙ c.in-14.is)
     ∙ opcode_0e in record {
@@ -136,7 +145,8 @@ returns-in-14 c = let at = c.args in
 
 pub returns-in-15 : goal.returns-in-15
 unfolding locate_of
-returns-in-15 c = let at = c.args in
+returns-in-15 c =
+    let at = c.args in
     let decodes = ap decode_of (c.requires.pc_value_2 ∙ c.in-15.is) ∙ opcode_0f in
     let words : SixteenBits at.sums.now =
     λ k. omega (arith, c.type_inv.sums k) in record {
@@ -147,5 +157,9 @@ returns-in-15 c = let at = c.args in
     }
 
 pub returns-in_default : goal.returns-in_default
-returns-in_default c = let at = c.args in
-    let words : SixteenBits at.sums.now = λ k. omega (arith, c.type_inv.sums k) in record { tries = rw c.failed_attempt.ensures unchanged; sums_after = sums_kept 0 at.sums.now at.memory.now words }
+returns-in_default c =
+    let at = c.args in
+    let words : SixteenBits at.sums.now = λ k. omega (arith, c.type_inv.sums k) in record {
+      tries = rw c.failed_attempt.ensures unchanged;
+      sums_after = sums_kept 0 at.sums.now at.memory.now words;
+    }

@@ -18,7 +18,8 @@ use Rattle.cpu_low_opcodes.proofs.opcodes_10.Goals as goal
 
 pub returns-in-16 : goal.returns-in-16
 unfolding locate_of
-returns-in-16 c = let at = c.args in
+returns-in-16 c =
+    let at = c.args in
     let decodes = ap decode_of (c.requires.pc_value_2 ∙ c.in-16.is) ∙ opcode_10 in
     let words : SixteenBits at.sums.now =
     λ k. omega (arith, c.type_inv.sums k) in record {
@@ -30,7 +31,8 @@ returns-in-16 c = let at = c.args in
 
 pub returns-in-17 : goal.returns-in-17
 unfolding locate_of
-returns-in-17 c = let at = c.args in
+returns-in-17 c =
+    let at = c.args in
     let decodes = ap decode_of (c.requires.pc_value_2 ∙ c.in-17.is) ∙ opcode_11 in
     let words : SixteenBits at.sums.now =
     λ k. omega (arith, c.type_inv.sums k) in record {
@@ -45,7 +47,8 @@ returns-in-17 c = let at = c.args in
 
 pub returns-in-21 : goal.returns-in-21
 unfolding locate_of
-returns-in-21 c = let at = c.args in
+returns-in-21 c =
+    let at = c.args in
     let decodes = ap decode_of (c.requires.pc_value_2 ∙ c.in-21.is) ∙ opcode_15 in
     let words : SixteenBits at.sums.now =
     λ k. omega (arith, c.type_inv.sums k) in record {
@@ -60,7 +63,8 @@ returns-in-21 c = let at = c.args in
 
 pub returns-in-22 : goal.returns-in-22
 unfolding locate_of
-returns-in-22 c = let at = c.args in
+returns-in-22 c =
+    let at = c.args in
     let decodes = ap decode_of
     (c.requires.pc_value_2 ∙ c.in-22.is)
     ∙ opcode_16 in record {
@@ -76,7 +80,8 @@ returns-in-22 c = let at = c.args in
 
 pub returns-in-23 : goal.returns-in-23
 unfolding locate_of
-returns-in-23 c = let at = c.args in
+returns-in-23 c =
+    let at = c.args in
     let decodes = ap decode_of
     (c.requires.pc_value_2 ∙ c.in-23.is)
     ∙ opcode_17 in record {
@@ -91,7 +96,8 @@ returns-in-23 c = let at = c.args in
     }
 
 pub returns-in-24 : goal.returns-in-24
-returns-in-24 c = let at = c.args in
+returns-in-24 c =
+    let at = c.args in
     let decodes = ap decode_of (c.requires.pc_value_2 ∙ c.in-24.is) ∙ opcode_18 in
     let words : SixteenBits at.sums.now = λ k. omega (arith, c.type_inv.sums k) in record {
       tries = rw (c.clc.ensures, c.next_address-pc.ensures) (flag_tries at.halt at.span.0 at.w
@@ -101,7 +107,8 @@ returns-in-24 c = let at = c.args in
 
 pub returns-in-25 : goal.returns-in-25
 unfolding locate_of
-returns-in-25 c = let at = c.args in
+returns-in-25 c =
+    let at = c.args in
     let decodes = ap decode_of (c.requires.pc_value_2 ∙ c.in-25.is) ∙ opcode_19 in
     let words : SixteenBits at.sums.now =
     λ k. omega (arith, c.type_inv.sums k) in record {
@@ -116,7 +123,8 @@ returns-in-25 c = let at = c.args in
 
 pub returns-in-29 : goal.returns-in-29
 unfolding locate_of
-returns-in-29 c = let at = c.args in
+returns-in-29 c =
+    let at = c.args in
     let decodes = ap decode_of (c.requires.pc_value_2 ∙ c.in-29.is) ∙ opcode_1d in
     let words : SixteenBits at.sums.now =
     λ k. omega (arith, c.type_inv.sums k) in record {
@@ -131,7 +139,8 @@ returns-in-29 c = let at = c.args in
 
 pub returns-in-30 : goal.returns-in-30
 unfolding locate_of indexed_by
-returns-in-30 c = let at = c.args in
+returns-in-30 c =
+    let at = c.args in
     let decodes = ap decode_of
     (c.requires.pc_value_2 ∙ c.in-30.is)
     ∙ opcode_1e in record {
@@ -147,7 +156,8 @@ returns-in-30 c = let at = c.args in
 
 pub returns-in-31 : goal.returns-in-31
 unfolding locate_of
-returns-in-31 c = let at = c.args in
+returns-in-31 c =
+    let at = c.args in
     let decodes = ap decode_of (c.requires.pc_value_2 ∙ c.in-31.is) ∙ opcode_1f in
     let words : SixteenBits at.sums.now =
     λ k. omega (arith, c.type_inv.sums k) in record {
@@ -158,5 +168,9 @@ returns-in-31 c = let at = c.args in
     }
 
 pub returns-in_default : goal.returns-in_default
-returns-in_default c = let at = c.args in
-    let words : SixteenBits at.sums.now = λ k. omega (arith, c.type_inv.sums k) in record { tries = rw c.failed_attempt.ensures unchanged; sums_after = sums_kept 0 at.sums.now at.memory.now words }
+returns-in_default c =
+    let at = c.args in
+    let words : SixteenBits at.sums.now = λ k. omega (arith, c.type_inv.sums k) in record {
+      tries = rw c.failed_attempt.ensures unchanged;
+      sums_after = sums_kept 0 at.sums.now at.memory.now words;
+    }

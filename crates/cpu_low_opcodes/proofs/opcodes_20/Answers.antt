@@ -18,7 +18,8 @@ use Rattle.cpu_attempts.proofs.Tried.{read_tries}
 use Rattle.cpu_low_opcodes.proofs.opcodes_20.Goals as goal
 
 pub returns-in-32 : goal.returns-in-32
-returns-in-32 c = let at = c.args in
+returns-in-32 c =
+    let at = c.args in
     let decodes = ap decode_of
     (c.requires.pc_value_2 ∙ c.in-32.is) ∙ opcode_20 in record {
       tries = rw (c.jsr.ensures.value, c.jsr.ensures.memory_after, c.next_address-pc.ensures)
@@ -29,7 +30,8 @@ returns-in-32 c = let at = c.args in
 
 pub returns-in-33 : goal.returns-in-33
 unfolding locate_of
-returns-in-33 c = let at = c.args in
+returns-in-33 c =
+    let at = c.args in
     let decodes = ap decode_of (c.requires.pc_value_2 ∙ c.in-33.is) ∙ opcode_21 in
     let words : SixteenBits at.sums.now =
     λ k. omega (arith, c.type_inv.sums k) in record {
@@ -44,7 +46,8 @@ returns-in-33 c = let at = c.args in
 
 pub returns-in-36 : goal.returns-in-36
 unfolding locate_of
-returns-in-36 c = let at = c.args in
+returns-in-36 c =
+    let at = c.args in
     let decodes = ap decode_of (c.requires.pc_value_2 ∙ c.in-36.is) ∙ opcode_24 in
     let words : SixteenBits at.sums.now =
     λ k. omega (arith, c.type_inv.sums k) in record {
@@ -56,7 +59,8 @@ returns-in-36 c = let at = c.args in
 
 pub returns-in-37 : goal.returns-in-37
 unfolding locate_of
-returns-in-37 c = let at = c.args in
+returns-in-37 c =
+    let at = c.args in
     let decodes = ap decode_of (c.requires.pc_value_2 ∙ c.in-37.is) ∙ opcode_25 in
     let words : SixteenBits at.sums.now =
     λ k. omega (arith, c.type_inv.sums k) in record {
@@ -68,7 +72,8 @@ returns-in-37 c = let at = c.args in
 
 pub returns-in-38 : goal.returns-in-38
 unfolding locate_of
-returns-in-38 c = let at = c.args in
+returns-in-38 c =
+    let at = c.args in
     let decodes = ap decode_of
     (c.requires.pc_value_2 ∙ c.in-38.is)
     ∙ opcode_26 in record {
@@ -84,7 +89,8 @@ returns-in-38 c = let at = c.args in
 
 pub returns-in-39 : goal.returns-in-39
 unfolding locate_of
-returns-in-39 c = let at = c.args in
+returns-in-39 c =
+    let at = c.args in
     let decodes = ap decode_of
     (c.requires.pc_value_2 ∙ c.in-39.is)
     ∙ opcode_27 in record {
@@ -99,7 +105,8 @@ returns-in-39 c = let at = c.args in
     }
 
 pub returns-in-40 : goal.returns-in-40
-returns-in-40 c = let at = c.args in
+returns-in-40 c =
+    let at = c.args in
     let decodes = ap decode_of (c.requires.pc_value_2 ∙ c.in-40.is) ∙ opcode_28 in
     let words : SixteenBits at.sums.now =
     λ k. omega (arith, c.type_inv.sums k) in record {
@@ -110,7 +117,8 @@ returns-in-40 c = let at = c.args in
 
 pub returns-in-41 : goal.returns-in-41
 unfolding locate_of
-returns-in-41 c = let at = c.args in
+returns-in-41 c =
+    let at = c.args in
     let decodes = ap decode_of (c.requires.pc_value_2 ∙ c.in-41.is) ∙ opcode_29 in
     let words : SixteenBits at.sums.now =
     λ k. omega (arith, c.type_inv.sums k) in record {
@@ -121,7 +129,8 @@ returns-in-41 c = let at = c.args in
     }
 
 pub returns-in-42 : goal.returns-in-42
-returns-in-42 c = let at = c.args in
+returns-in-42 c =
+    let at = c.args in
     let decodes = ap decode_of (c.requires.pc_value_2 ∙ c.in-42.is) ∙ opcode_2a in
     let words : SixteenBits at.sums.now = λ k. omega (arith, c.type_inv.sums k) in record {
       tries = rw (c.rol_accumulator.ensures, c.next_address-pc.ensures) (accumulator_tries at.halt
@@ -131,7 +140,8 @@ returns-in-42 c = let at = c.args in
 
 pub returns-in-44 : goal.returns-in-44
 unfolding locate_of
-returns-in-44 c = let at = c.args in
+returns-in-44 c =
+    let at = c.args in
     let decodes = ap decode_of (c.requires.pc_value_2 ∙ c.in-44.is) ∙ opcode_2c in
     let words : SixteenBits at.sums.now =
     λ k. omega (arith, c.type_inv.sums k) in record {
@@ -143,7 +153,8 @@ returns-in-44 c = let at = c.args in
 
 pub returns-in-45 : goal.returns-in-45
 unfolding locate_of
-returns-in-45 c = let at = c.args in
+returns-in-45 c =
+    let at = c.args in
     let decodes = ap decode_of (c.requires.pc_value_2 ∙ c.in-45.is) ∙ opcode_2d in
     let words : SixteenBits at.sums.now =
     λ k. omega (arith, c.type_inv.sums k) in record {
@@ -155,7 +166,8 @@ returns-in-45 c = let at = c.args in
 
 pub returns-in-46 : goal.returns-in-46
 unfolding locate_of
-returns-in-46 c = let at = c.args in
+returns-in-46 c =
+    let at = c.args in
     let decodes = ap decode_of
     (c.requires.pc_value_2 ∙ c.in-46.is)
     ∙ opcode_2e in record {
@@ -171,7 +183,8 @@ returns-in-46 c = let at = c.args in
 
 pub returns-in-47 : goal.returns-in-47
 unfolding locate_of
-returns-in-47 c = let at = c.args in
+returns-in-47 c =
+    let at = c.args in
     let decodes = ap decode_of (c.requires.pc_value_2 ∙ c.in-47.is) ∙ opcode_2f in
     let words : SixteenBits at.sums.now =
     λ k. omega (arith, c.type_inv.sums k) in record {
@@ -182,5 +195,9 @@ returns-in-47 c = let at = c.args in
     }
 
 pub returns-in_default : goal.returns-in_default
-returns-in_default c = let at = c.args in
-    let words : SixteenBits at.sums.now = λ k. omega (arith, c.type_inv.sums k) in record { tries = rw c.failed_attempt.ensures unchanged; sums_after = sums_kept 0 at.sums.now at.memory.now words }
+returns-in_default c =
+    let at = c.args in
+    let words : SixteenBits at.sums.now = λ k. omega (arith, c.type_inv.sums k) in record {
+      tries = rw c.failed_attempt.ensures unchanged;
+      sums_after = sums_kept 0 at.sums.now at.memory.now words;
+    }

@@ -18,7 +18,8 @@ use Rattle.cpu_low_opcodes.proofs.opcodes_30.Goals as goal
 
 pub returns-in-48 : goal.returns-in-48
 unfolding locate_of
-returns-in-48 c = let at = c.args in
+returns-in-48 c =
+    let at = c.args in
     let decodes = ap decode_of (c.requires.pc_value_2 ∙ c.in-48.is) ∙ opcode_30 in
     let words : SixteenBits at.sums.now =
     λ k. omega (arith, c.type_inv.sums k) in record {
@@ -30,7 +31,8 @@ returns-in-48 c = let at = c.args in
 
 pub returns-in-49 : goal.returns-in-49
 unfolding locate_of
-returns-in-49 c = let at = c.args in
+returns-in-49 c =
+    let at = c.args in
     let decodes = ap decode_of (c.requires.pc_value_2 ∙ c.in-49.is) ∙ opcode_31 in
     let words : SixteenBits at.sums.now =
     λ k. omega (arith, c.type_inv.sums k) in record {
@@ -45,7 +47,8 @@ returns-in-49 c = let at = c.args in
 
 pub returns-in-53 : goal.returns-in-53
 unfolding locate_of
-returns-in-53 c = let at = c.args in
+returns-in-53 c =
+    let at = c.args in
     let decodes = ap decode_of (c.requires.pc_value_2 ∙ c.in-53.is) ∙ opcode_35 in
     let words : SixteenBits at.sums.now =
     λ k. omega (arith, c.type_inv.sums k) in record {
@@ -60,7 +63,8 @@ returns-in-53 c = let at = c.args in
 
 pub returns-in-54 : goal.returns-in-54
 unfolding locate_of
-returns-in-54 c = let at = c.args in
+returns-in-54 c =
+    let at = c.args in
     let decodes = ap decode_of
     (c.requires.pc_value_2 ∙ c.in-54.is)
     ∙ opcode_36 in record {
@@ -76,7 +80,8 @@ returns-in-54 c = let at = c.args in
 
 pub returns-in-55 : goal.returns-in-55
 unfolding locate_of
-returns-in-55 c = let at = c.args in
+returns-in-55 c =
+    let at = c.args in
     let decodes = ap decode_of
     (c.requires.pc_value_2 ∙ c.in-55.is)
     ∙ opcode_37 in record {
@@ -91,7 +96,8 @@ returns-in-55 c = let at = c.args in
     }
 
 pub returns-in-56 : goal.returns-in-56
-returns-in-56 c = let at = c.args in
+returns-in-56 c =
+    let at = c.args in
     let decodes = ap decode_of (c.requires.pc_value_2 ∙ c.in-56.is) ∙ opcode_38 in
     let words : SixteenBits at.sums.now = λ k. omega (arith, c.type_inv.sums k) in record {
       tries = rw (c.sec.ensures, c.next_address-pc.ensures) (flag_tries at.halt at.span.0 at.w
@@ -101,7 +107,8 @@ returns-in-56 c = let at = c.args in
 
 pub returns-in-57 : goal.returns-in-57
 unfolding locate_of
-returns-in-57 c = let at = c.args in
+returns-in-57 c =
+    let at = c.args in
     let decodes = ap decode_of (c.requires.pc_value_2 ∙ c.in-57.is) ∙ opcode_39 in
     let words : SixteenBits at.sums.now =
     λ k. omega (arith, c.type_inv.sums k) in record {
@@ -116,7 +123,8 @@ returns-in-57 c = let at = c.args in
 
 pub returns-in-61 : goal.returns-in-61
 unfolding locate_of
-returns-in-61 c = let at = c.args in
+returns-in-61 c =
+    let at = c.args in
     let decodes = ap decode_of (c.requires.pc_value_2 ∙ c.in-61.is) ∙ opcode_3d in
     let words : SixteenBits at.sums.now =
     λ k. omega (arith, c.type_inv.sums k) in record {
@@ -131,7 +139,8 @@ returns-in-61 c = let at = c.args in
 
 pub returns-in-62 : goal.returns-in-62
 unfolding locate_of indexed_by
-returns-in-62 c = let at = c.args in
+returns-in-62 c =
+    let at = c.args in
     let decodes = ap decode_of
     (c.requires.pc_value_2 ∙ c.in-62.is)
     ∙ opcode_3e in record {
@@ -147,7 +156,8 @@ returns-in-62 c = let at = c.args in
 
 pub returns-in-63 : goal.returns-in-63
 unfolding locate_of
-returns-in-63 c = let at = c.args in
+returns-in-63 c =
+    let at = c.args in
     let decodes = ap decode_of (c.requires.pc_value_2 ∙ c.in-63.is) ∙ opcode_3f in
     let words : SixteenBits at.sums.now =
     λ k. omega (arith, c.type_inv.sums k) in record {
@@ -158,5 +168,9 @@ returns-in-63 c = let at = c.args in
     }
 
 pub returns-in_default : goal.returns-in_default
-returns-in_default c = let at = c.args in
-    let words : SixteenBits at.sums.now = λ k. omega (arith, c.type_inv.sums k) in record { tries = rw c.failed_attempt.ensures unchanged; sums_after = sums_kept 0 at.sums.now at.memory.now words }
+returns-in_default c =
+    let at = c.args in
+    let words : SixteenBits at.sums.now = λ k. omega (arith, c.type_inv.sums k) in record {
+      tries = rw c.failed_attempt.ensures unchanged;
+      sums_after = sums_kept 0 at.sums.now at.memory.now words;
+    }

@@ -18,7 +18,8 @@ use Rattle.cpu_attempts.proofs.Tried.{jump_tries, push_tries, read_tries}
 use Rattle.cpu_low_opcodes.proofs.opcodes_40.Goals as goal
 
 pub returns-in-64 : goal.returns-in-64
-returns-in-64 c = let at = c.args in
+returns-in-64 c =
+    let at = c.args in
     let decodes = ap decode_of (c.requires.pc_value_2 ∙ c.in-64.is) ∙ opcode_40 in
     let words : SixteenBits at.sums.now =
     λ k. omega (arith, c.type_inv.sums k) in record {
@@ -29,7 +30,8 @@ returns-in-64 c = let at = c.args in
 
 pub returns-in-65 : goal.returns-in-65
 unfolding locate_of
-returns-in-65 c = let at = c.args in
+returns-in-65 c =
+    let at = c.args in
     let decodes = ap decode_of (c.requires.pc_value_2 ∙ c.in-65.is) ∙ opcode_41 in
     let words : SixteenBits at.sums.now =
     λ k. omega (arith, c.type_inv.sums k) in record {
@@ -44,7 +46,8 @@ returns-in-65 c = let at = c.args in
 
 pub returns-in-69 : goal.returns-in-69
 unfolding locate_of
-returns-in-69 c = let at = c.args in
+returns-in-69 c =
+    let at = c.args in
     let decodes = ap decode_of (c.requires.pc_value_2 ∙ c.in-69.is) ∙ opcode_45 in
     let words : SixteenBits at.sums.now =
     λ k. omega (arith, c.type_inv.sums k) in record {
@@ -56,7 +59,8 @@ returns-in-69 c = let at = c.args in
 
 pub returns-in-70 : goal.returns-in-70
 unfolding locate_of
-returns-in-70 c = let at = c.args in
+returns-in-70 c =
+    let at = c.args in
     let decodes = ap decode_of
     (c.requires.pc_value_2 ∙ c.in-70.is)
     ∙ opcode_46 in record {
@@ -72,7 +76,8 @@ returns-in-70 c = let at = c.args in
 
 pub returns-in-71 : goal.returns-in-71
 unfolding locate_of
-returns-in-71 c = let at = c.args in
+returns-in-71 c =
+    let at = c.args in
     let decodes = ap decode_of
     (c.requires.pc_value_2 ∙ c.in-71.is)
     ∙ opcode_47 in record {
@@ -87,7 +92,8 @@ returns-in-71 c = let at = c.args in
     }
 
 pub returns-in-72 : goal.returns-in-72
-returns-in-72 c = let at = c.args in
+returns-in-72 c =
+    let at = c.args in
     let decodes = ap decode_of
     (c.requires.pc_value_2 ∙ c.in-72.is) ∙ opcode_48 in record {
       tries = rw (c.pha.ensures.value, c.pha.ensures.memory_after, c.next_address-pc.ensures)
@@ -98,7 +104,8 @@ returns-in-72 c = let at = c.args in
 
 pub returns-in-73 : goal.returns-in-73
 unfolding locate_of
-returns-in-73 c = let at = c.args in
+returns-in-73 c =
+    let at = c.args in
     let decodes = ap decode_of (c.requires.pc_value_2 ∙ c.in-73.is) ∙ opcode_49 in
     let words : SixteenBits at.sums.now =
     λ k. omega (arith, c.type_inv.sums k) in record {
@@ -109,7 +116,8 @@ returns-in-73 c = let at = c.args in
     }
 
 pub returns-in-74 : goal.returns-in-74
-returns-in-74 c = let at = c.args in
+returns-in-74 c =
+    let at = c.args in
     let decodes = ap decode_of (c.requires.pc_value_2 ∙ c.in-74.is) ∙ opcode_4a in
     let words : SixteenBits at.sums.now = λ k. omega (arith, c.type_inv.sums k) in record {
       tries = rw (c.lsr_accumulator.ensures, c.next_address-pc.ensures) (accumulator_tries at.halt
@@ -119,7 +127,8 @@ returns-in-74 c = let at = c.args in
 
 pub returns-in-76 : goal.returns-in-76
 unfolding locate_of
-returns-in-76 c = let at = c.args in
+returns-in-76 c =
+    let at = c.args in
     let decodes = ap decode_of (c.requires.pc_value_2 ∙ c.in-76.is) ∙ opcode_4c in
     let words : SixteenBits at.sums.now =
     λ k. omega (arith, c.type_inv.sums k) in record {
@@ -131,7 +140,8 @@ returns-in-76 c = let at = c.args in
 
 pub returns-in-77 : goal.returns-in-77
 unfolding locate_of
-returns-in-77 c = let at = c.args in
+returns-in-77 c =
+    let at = c.args in
     let decodes = ap decode_of (c.requires.pc_value_2 ∙ c.in-77.is) ∙ opcode_4d in
     let words : SixteenBits at.sums.now =
     λ k. omega (arith, c.type_inv.sums k) in record {
@@ -143,7 +153,8 @@ returns-in-77 c = let at = c.args in
 
 pub returns-in-78 : goal.returns-in-78
 unfolding locate_of
-returns-in-78 c = let at = c.args in
+returns-in-78 c =
+    let at = c.args in
     let decodes = ap decode_of
     (c.requires.pc_value_2 ∙ c.in-78.is)
     ∙ opcode_4e in record {
@@ -159,7 +170,8 @@ returns-in-78 c = let at = c.args in
 
 pub returns-in-79 : goal.returns-in-79
 unfolding locate_of
-returns-in-79 c = let at = c.args in
+returns-in-79 c =
+    let at = c.args in
     let decodes = ap decode_of (c.requires.pc_value_2 ∙ c.in-79.is) ∙ opcode_4f in
     let words : SixteenBits at.sums.now =
     λ k. omega (arith, c.type_inv.sums k) in record {
@@ -170,5 +182,9 @@ returns-in-79 c = let at = c.args in
     }
 
 pub returns-in_default : goal.returns-in_default
-returns-in_default c = let at = c.args in
-    let words : SixteenBits at.sums.now = λ k. omega (arith, c.type_inv.sums k) in record { tries = rw c.failed_attempt.ensures unchanged; sums_after = sums_kept 0 at.sums.now at.memory.now words }
+returns-in_default c =
+    let at = c.args in
+    let words : SixteenBits at.sums.now = λ k. omega (arith, c.type_inv.sums k) in record {
+      tries = rw c.failed_attempt.ensures unchanged;
+      sums_after = sums_kept 0 at.sums.now at.memory.now words;
+    }

@@ -18,7 +18,8 @@ use Rattle.cpu_low_opcodes.proofs.opcodes_50.Goals as goal
 
 pub returns-in-80 : goal.returns-in-80
 unfolding locate_of
-returns-in-80 c = let at = c.args in
+returns-in-80 c =
+    let at = c.args in
     let decodes = ap decode_of (c.requires.pc_value_2 ∙ c.in-80.is) ∙ opcode_50 in
     let words : SixteenBits at.sums.now =
     λ k. omega (arith, c.type_inv.sums k) in record {
@@ -30,7 +31,8 @@ returns-in-80 c = let at = c.args in
 
 pub returns-in-81 : goal.returns-in-81
 unfolding locate_of
-returns-in-81 c = let at = c.args in
+returns-in-81 c =
+    let at = c.args in
     let decodes = ap decode_of (c.requires.pc_value_2 ∙ c.in-81.is) ∙ opcode_51 in
     let words : SixteenBits at.sums.now =
     λ k. omega (arith, c.type_inv.sums k) in record {
@@ -45,7 +47,8 @@ returns-in-81 c = let at = c.args in
 
 pub returns-in-85 : goal.returns-in-85
 unfolding locate_of
-returns-in-85 c = let at = c.args in
+returns-in-85 c =
+    let at = c.args in
     let decodes = ap decode_of (c.requires.pc_value_2 ∙ c.in-85.is) ∙ opcode_55 in
     let words : SixteenBits at.sums.now =
     λ k. omega (arith, c.type_inv.sums k) in record {
@@ -60,7 +63,8 @@ returns-in-85 c = let at = c.args in
 
 pub returns-in-86 : goal.returns-in-86
 unfolding locate_of
-returns-in-86 c = let at = c.args in
+returns-in-86 c =
+    let at = c.args in
     let decodes = ap decode_of
     (c.requires.pc_value_2 ∙ c.in-86.is)
     ∙ opcode_56 in record {
@@ -76,7 +80,8 @@ returns-in-86 c = let at = c.args in
 
 pub returns-in-87 : goal.returns-in-87
 unfolding locate_of
-returns-in-87 c = let at = c.args in
+returns-in-87 c =
+    let at = c.args in
     let decodes = ap decode_of
     (c.requires.pc_value_2 ∙ c.in-87.is)
     ∙ opcode_57 in record {
@@ -91,7 +96,8 @@ returns-in-87 c = let at = c.args in
     }
 
 pub returns-in-88 : goal.returns-in-88
-returns-in-88 c = let at = c.args in
+returns-in-88 c =
+    let at = c.args in
     let decodes = ap decode_of (c.requires.pc_value_2 ∙ c.in-88.is) ∙ opcode_58 in
     let words : SixteenBits at.sums.now = λ k. omega (arith, c.type_inv.sums k) in record {
       tries = rw (c.cli.ensures, c.next_address-pc.ensures) (flag_tries at.halt at.span.0 at.w
@@ -101,7 +107,8 @@ returns-in-88 c = let at = c.args in
 
 pub returns-in-89 : goal.returns-in-89
 unfolding locate_of
-returns-in-89 c = let at = c.args in
+returns-in-89 c =
+    let at = c.args in
     let decodes = ap decode_of (c.requires.pc_value_2 ∙ c.in-89.is) ∙ opcode_59 in
     let words : SixteenBits at.sums.now =
     λ k. omega (arith, c.type_inv.sums k) in record {
@@ -116,7 +123,8 @@ returns-in-89 c = let at = c.args in
 
 pub returns-in-93 : goal.returns-in-93
 unfolding locate_of
-returns-in-93 c = let at = c.args in
+returns-in-93 c =
+    let at = c.args in
     let decodes = ap decode_of (c.requires.pc_value_2 ∙ c.in-93.is) ∙ opcode_5d in
     let words : SixteenBits at.sums.now =
     λ k. omega (arith, c.type_inv.sums k) in record {
@@ -131,7 +139,8 @@ returns-in-93 c = let at = c.args in
 
 pub returns-in-94 : goal.returns-in-94
 unfolding locate_of indexed_by
-returns-in-94 c = let at = c.args in
+returns-in-94 c =
+    let at = c.args in
     let decodes = ap decode_of
     (c.requires.pc_value_2 ∙ c.in-94.is)
     ∙ opcode_5e in record {
@@ -147,7 +156,8 @@ returns-in-94 c = let at = c.args in
 
 pub returns-in-95 : goal.returns-in-95
 unfolding locate_of
-returns-in-95 c = let at = c.args in
+returns-in-95 c =
+    let at = c.args in
     let decodes = ap decode_of (c.requires.pc_value_2 ∙ c.in-95.is) ∙ opcode_5f in
     let words : SixteenBits at.sums.now =
     λ k. omega (arith, c.type_inv.sums k) in record {
@@ -158,5 +168,9 @@ returns-in-95 c = let at = c.args in
     }
 
 pub returns-in_default : goal.returns-in_default
-returns-in_default c = let at = c.args in
-    let words : SixteenBits at.sums.now = λ k. omega (arith, c.type_inv.sums k) in record { tries = rw c.failed_attempt.ensures unchanged; sums_after = sums_kept 0 at.sums.now at.memory.now words }
+returns-in_default c =
+    let at = c.args in
+    let words : SixteenBits at.sums.now = λ k. omega (arith, c.type_inv.sums k) in record {
+      tries = rw c.failed_attempt.ensures unchanged;
+      sums_after = sums_kept 0 at.sums.now at.memory.now words;
+    }

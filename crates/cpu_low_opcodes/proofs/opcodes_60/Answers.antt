@@ -18,7 +18,8 @@ use Rattle.cpu_attempts.proofs.Tried.{read_tries, return_tries}
 use Rattle.cpu_low_opcodes.proofs.opcodes_60.Goals as goal
 
 pub returns-in-96 : goal.returns-in-96
-returns-in-96 c = let at = c.args in
+returns-in-96 c =
+    let at = c.args in
     let decodes = ap decode_of (c.requires.pc_value_2 ∙ c.in-96.is) ∙ opcode_60 in
     let words : SixteenBits at.sums.now =
     λ k. omega (arith, c.type_inv.sums k) in record {
@@ -29,7 +30,8 @@ returns-in-96 c = let at = c.args in
 
 pub returns-in-97 : goal.returns-in-97
 unfolding locate_of
-returns-in-97 c = let at = c.args in
+returns-in-97 c =
+    let at = c.args in
     let decodes = ap decode_of (c.requires.pc_value_2 ∙ c.in-97.is) ∙ opcode_61 in
     let words : SixteenBits at.sums.now =
     λ k. omega (arith, c.type_inv.sums k) in record {
@@ -44,7 +46,8 @@ returns-in-97 c = let at = c.args in
 
 pub returns-in-101 : goal.returns-in-101
 unfolding locate_of
-returns-in-101 c = let at = c.args in
+returns-in-101 c =
+    let at = c.args in
     let decodes = ap decode_of (c.requires.pc_value_2 ∙ c.in-101.is) ∙ opcode_65 in
     let words : SixteenBits at.sums.now =
     λ k. omega (arith, c.type_inv.sums k) in record {
@@ -56,7 +59,8 @@ returns-in-101 c = let at = c.args in
 
 pub returns-in-102 : goal.returns-in-102
 unfolding locate_of
-returns-in-102 c = let at = c.args in
+returns-in-102 c =
+    let at = c.args in
     let decodes = ap decode_of
     (c.requires.pc_value_2 ∙ c.in-102.is)
     ∙ opcode_66 in record {
@@ -72,7 +76,8 @@ returns-in-102 c = let at = c.args in
 
 pub returns-in-103 : goal.returns-in-103
 unfolding locate_of
-returns-in-103 c = let at = c.args in
+returns-in-103 c =
+    let at = c.args in
     let decodes = ap decode_of
     (c.requires.pc_value_2 ∙ c.in-103.is)
     ∙ opcode_67 in record {
@@ -87,7 +92,8 @@ returns-in-103 c = let at = c.args in
     }
 
 pub returns-in-104 : goal.returns-in-104
-returns-in-104 c = let at = c.args in
+returns-in-104 c =
+    let at = c.args in
     let decodes = ap decode_of (c.requires.pc_value_2 ∙ c.in-104.is) ∙ opcode_68 in
     let words : SixteenBits at.sums.now =
     λ k. omega (arith, c.type_inv.sums k) in record {
@@ -98,7 +104,8 @@ returns-in-104 c = let at = c.args in
 
 pub returns-in-105 : goal.returns-in-105
 unfolding locate_of
-returns-in-105 c = let at = c.args in
+returns-in-105 c =
+    let at = c.args in
     let decodes = ap decode_of (c.requires.pc_value_2 ∙ c.in-105.is) ∙ opcode_69 in
     let words : SixteenBits at.sums.now =
     λ k. omega (arith, c.type_inv.sums k) in record {
@@ -109,7 +116,8 @@ returns-in-105 c = let at = c.args in
     }
 
 pub returns-in-106 : goal.returns-in-106
-returns-in-106 c = let at = c.args in
+returns-in-106 c =
+    let at = c.args in
     let decodes = ap decode_of (c.requires.pc_value_2 ∙ c.in-106.is) ∙ opcode_6a in
     let words : SixteenBits at.sums.now = λ k. omega (arith, c.type_inv.sums k) in record {
       tries = rw (c.ror_accumulator.ensures, c.next_address-pc.ensures) (accumulator_tries at.halt
@@ -119,7 +127,8 @@ returns-in-106 c = let at = c.args in
 
 pub returns-in-108 : goal.returns-in-108
 unfolding locate_of
-returns-in-108 c = let at = c.args in
+returns-in-108 c =
+    let at = c.args in
     let decodes = ap decode_of (c.requires.pc_value_2 ∙ c.in-108.is) ∙ opcode_6c in
     let words : SixteenBits at.sums.now =
     λ k. omega (arith, c.type_inv.sums k) in record {
@@ -131,7 +140,8 @@ returns-in-108 c = let at = c.args in
 
 pub returns-in-109 : goal.returns-in-109
 unfolding locate_of
-returns-in-109 c = let at = c.args in
+returns-in-109 c =
+    let at = c.args in
     let decodes = ap decode_of (c.requires.pc_value_2 ∙ c.in-109.is) ∙ opcode_6d in
     let words : SixteenBits at.sums.now =
     λ k. omega (arith, c.type_inv.sums k) in record {
@@ -143,7 +153,8 @@ returns-in-109 c = let at = c.args in
 
 pub returns-in-110 : goal.returns-in-110
 unfolding locate_of
-returns-in-110 c = let at = c.args in
+returns-in-110 c =
+    let at = c.args in
     let decodes = ap decode_of
     (c.requires.pc_value_2 ∙ c.in-110.is)
     ∙ opcode_6e in record {
@@ -159,7 +170,8 @@ returns-in-110 c = let at = c.args in
 
 pub returns-in-111 : goal.returns-in-111
 unfolding locate_of
-returns-in-111 c = let at = c.args in
+returns-in-111 c =
+    let at = c.args in
     let decodes = ap decode_of (c.requires.pc_value_2 ∙ c.in-111.is) ∙ opcode_6f in
     let words : SixteenBits at.sums.now =
     λ k. omega (arith, c.type_inv.sums k) in record {
@@ -170,5 +182,9 @@ returns-in-111 c = let at = c.args in
     }
 
 pub returns-in_default : goal.returns-in_default
-returns-in_default c = let at = c.args in
-    let words : SixteenBits at.sums.now = λ k. omega (arith, c.type_inv.sums k) in record { tries = rw c.failed_attempt.ensures unchanged; sums_after = sums_kept 0 at.sums.now at.memory.now words }
+returns-in_default c =
+    let at = c.args in
+    let words : SixteenBits at.sums.now = λ k. omega (arith, c.type_inv.sums k) in record {
+      tries = rw c.failed_attempt.ensures unchanged;
+      sums_after = sums_kept 0 at.sums.now at.memory.now words;
+    }

@@ -18,7 +18,8 @@ use Rattle.cpu_low_opcodes.proofs.opcodes_70.Goals as goal
 
 pub returns-in-112 : goal.returns-in-112
 unfolding locate_of
-returns-in-112 c = let at = c.args in
+returns-in-112 c =
+    let at = c.args in
     let decodes = ap decode_of (c.requires.pc_value_2 ∙ c.in-112.is) ∙ opcode_70 in
     let words : SixteenBits at.sums.now =
     λ k. omega (arith, c.type_inv.sums k) in record {
@@ -30,7 +31,8 @@ returns-in-112 c = let at = c.args in
 
 pub returns-in-113 : goal.returns-in-113
 unfolding locate_of
-returns-in-113 c = let at = c.args in
+returns-in-113 c =
+    let at = c.args in
     let decodes = ap decode_of (c.requires.pc_value_2 ∙ c.in-113.is) ∙ opcode_71 in
     let words : SixteenBits at.sums.now =
     λ k. omega (arith, c.type_inv.sums k) in record {
@@ -45,7 +47,8 @@ returns-in-113 c = let at = c.args in
 
 pub returns-in-117 : goal.returns-in-117
 unfolding locate_of
-returns-in-117 c = let at = c.args in
+returns-in-117 c =
+    let at = c.args in
     let decodes = ap decode_of (c.requires.pc_value_2 ∙ c.in-117.is) ∙ opcode_75 in
     let words : SixteenBits at.sums.now =
     λ k. omega (arith, c.type_inv.sums k) in record {
@@ -60,7 +63,8 @@ returns-in-117 c = let at = c.args in
 
 pub returns-in-118 : goal.returns-in-118
 unfolding locate_of
-returns-in-118 c = let at = c.args in
+returns-in-118 c =
+    let at = c.args in
     let decodes = ap decode_of
     (c.requires.pc_value_2 ∙ c.in-118.is)
     ∙ opcode_76 in record {
@@ -76,7 +80,8 @@ returns-in-118 c = let at = c.args in
 
 pub returns-in-119 : goal.returns-in-119
 unfolding locate_of
-returns-in-119 c = let at = c.args in
+returns-in-119 c =
+    let at = c.args in
     let decodes = ap decode_of
     (c.requires.pc_value_2 ∙ c.in-119.is)
     ∙ opcode_77 in record {
@@ -91,7 +96,8 @@ returns-in-119 c = let at = c.args in
     }
 
 pub returns-in-120 : goal.returns-in-120
-returns-in-120 c = let at = c.args in
+returns-in-120 c =
+    let at = c.args in
     let decodes = ap decode_of (c.requires.pc_value_2 ∙ c.in-120.is) ∙ opcode_78 in
     let words : SixteenBits at.sums.now = λ k. omega (arith, c.type_inv.sums k) in record {
       tries = rw (c.sei.ensures, c.next_address-pc.ensures) (flag_tries at.halt at.span.0 at.w
@@ -101,7 +107,8 @@ returns-in-120 c = let at = c.args in
 
 pub returns-in-121 : goal.returns-in-121
 unfolding locate_of
-returns-in-121 c = let at = c.args in
+returns-in-121 c =
+    let at = c.args in
     let decodes = ap decode_of (c.requires.pc_value_2 ∙ c.in-121.is) ∙ opcode_79 in
     let words : SixteenBits at.sums.now =
     λ k. omega (arith, c.type_inv.sums k) in record {
@@ -116,7 +123,8 @@ returns-in-121 c = let at = c.args in
 
 pub returns-in-125 : goal.returns-in-125
 unfolding locate_of
-returns-in-125 c = let at = c.args in
+returns-in-125 c =
+    let at = c.args in
     let decodes = ap decode_of (c.requires.pc_value_2 ∙ c.in-125.is) ∙ opcode_7d in
     let words : SixteenBits at.sums.now =
     λ k. omega (arith, c.type_inv.sums k) in record {
@@ -131,7 +139,8 @@ returns-in-125 c = let at = c.args in
 
 pub returns-in-126 : goal.returns-in-126
 unfolding locate_of indexed_by
-returns-in-126 c = let at = c.args in
+returns-in-126 c =
+    let at = c.args in
     let decodes = ap decode_of
     (c.requires.pc_value_2 ∙ c.in-126.is)
     ∙ opcode_7e in record {
@@ -147,7 +156,8 @@ returns-in-126 c = let at = c.args in
 
 pub returns-in-127 : goal.returns-in-127
 unfolding locate_of
-returns-in-127 c = let at = c.args in
+returns-in-127 c =
+    let at = c.args in
     let decodes = ap decode_of (c.requires.pc_value_2 ∙ c.in-127.is) ∙ opcode_7f in
     let words : SixteenBits at.sums.now =
     λ k. omega (arith, c.type_inv.sums k) in record {
@@ -158,5 +168,9 @@ returns-in-127 c = let at = c.args in
     }
 
 pub returns-in_default : goal.returns-in_default
-returns-in_default c = let at = c.args in
-    let words : SixteenBits at.sums.now = λ k. omega (arith, c.type_inv.sums k) in record { tries = rw c.failed_attempt.ensures unchanged; sums_after = sums_kept 0 at.sums.now at.memory.now words }
+returns-in_default c =
+    let at = c.args in
+    let words : SixteenBits at.sums.now = λ k. omega (arith, c.type_inv.sums k) in record {
+      tries = rw c.failed_attempt.ensures unchanged;
+      sums_after = sums_kept 0 at.sums.now at.memory.now words;
+    }

@@ -23,7 +23,12 @@ returns-in-ZeroPageX c = rw (c.in-ZeroPageX.is, ← c.fetch-in-ZeroPageX.ensures
 
 pub returns-in-ZeroPageY : goal.returns-in-ZeroPageY
 unfolding locate_of
-returns-in-ZeroPageY c = rw (c.in-ZeroPageY.is, ← c.fetch-in-ZeroPageY.ensures, ← c.at_zero_page_indexed-in-ZeroPageY.ensures)
+returns-in-ZeroPageY c = rw (
+  c.in-ZeroPageY.is,
+  ← c.fetch-in-ZeroPageY.ensures,
+  ←
+      c.at_zero_page_indexed-in-ZeroPageY.ensures,
+)
 
 pub returns-in-Absolute : goal.returns-in-Absolute
 unfolding locate_of
@@ -35,15 +40,30 @@ returns-in-AbsoluteX c = rw (c.in-AbsoluteX.is, ← c.fetch_address-in-AbsoluteX
 
 pub returns-in-AbsoluteY : goal.returns-in-AbsoluteY
 unfolding locate_of
-returns-in-AbsoluteY c = rw (c.in-AbsoluteY.is, ← c.fetch_address-in-AbsoluteY.ensures, ← c.at_indexed-in-AbsoluteY.ensures)
+returns-in-AbsoluteY c = rw (
+  c.in-AbsoluteY.is,
+  ← c.fetch_address-in-AbsoluteY.ensures,
+  ←
+      c.at_indexed-in-AbsoluteY.ensures,
+)
 
 pub returns-in-IndexedIndirect : goal.returns-in-IndexedIndirect
 unfolding locate_of
-returns-in-IndexedIndirect c = rw (c.in-IndexedIndirect.is, ← c.fetch-in-IndexedIndirect.ensures, ← c.at_indexed_indirect.ensures)
+returns-in-IndexedIndirect c = rw (
+  c.in-IndexedIndirect.is,
+  ← c.fetch-in-IndexedIndirect.ensures,
+  ←
+      c.at_indexed_indirect.ensures,
+)
 
 pub returns-in-IndirectIndexed : goal.returns-in-IndirectIndexed
 unfolding locate_of
-returns-in-IndirectIndexed c = rw (c.in-IndirectIndexed.is, ← c.fetch-in-IndirectIndexed.ensures, ← c.at_indirect_indexed.ensures)
+returns-in-IndirectIndexed c = rw (
+  c.in-IndirectIndexed.is,
+  ← c.fetch-in-IndirectIndexed.ensures,
+  ←
+      c.at_indirect_indexed.ensures,
+)
 
 pub returns-in-Indirect : goal.returns-in-Indirect
 unfolding locate_of
@@ -55,4 +75,9 @@ returns-in-Relative c = rw (c.in-Relative.is, ← c.fetch-in-Relative.ensures, �
 
 pub returns-in-ZeroPageRelative : goal.returns-in-ZeroPageRelative
 unfolding locate_of
-returns-in-ZeroPageRelative c = rw (c.in-ZeroPageRelative.is, ← c.fetch-in-ZeroPageRelative.ensures, ← c.at_zero_page-in-ZeroPageRelative.ensures)
+returns-in-ZeroPageRelative c = rw (
+  c.in-ZeroPageRelative.is,
+  ← c.fetch-in-ZeroPageRelative.ensures,
+  ←
+      c.at_zero_page-in-ZeroPageRelative.ensures,
+)

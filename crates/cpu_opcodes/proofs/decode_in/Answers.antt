@@ -9,7 +9,8 @@ pub bounds-entries-opcode : goal.bounds-entries-opcode
 bounds-entries-opcode c = rw (c.requires, table_length) (search rules)
 
 pub returns-then-entry-eq-UND : goal.returns-then-entry-eq-UND
-returns-then-entry-eq-UND c = rw (← c.requires, eq-eqb _ _ c.if-entry-eq-UND.true) at (table_decodes c.args.opcode (search rules))
+returns-then-entry-eq-UND c = rw (← c.requires, eq-eqb _ _ c.if-entry-eq-UND.true) at (table_decodes c.args.opcode
+    (search rules))
 
 pub returns : goal.returns
 returns c = rw (c.mode_of-mode.ensures, c.operation_of-operation.ensures)

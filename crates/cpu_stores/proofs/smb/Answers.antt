@@ -8,14 +8,20 @@ use Rattle.cpu_stores.proofs.smb.Goals as goal
 
 pub returns-then-asks_for : goal.returns-then-asks_for
 unfolding change_tried change_memory changed_by
-returns-then-asks_for c = let at = c.args in
+returns-then-asks_for c =
+    let at = c.args in
     let words : SixteenBits at.sums.now = λ k. omega (arith, c.type_inv.sums k) in
     let same = sums_kept 0 at.sums.now at.memory.now words in
-    let asks = sym c.asks_for.ensures ∙ c.if-asks_for.true in record { value = rw asks c.failed_attempt.ensures; memory_after = rw asks refl; sums_after = same }
+    let asks = sym c.asks_for.ensures ∙ c.if-asks_for.true in record {
+      value = rw asks c.failed_attempt.ensures;
+      memory_after = rw asks refl;
+      sums_after = same;
+    }
 
 pub returns : goal.returns
 unfolding change_tried change_memory changed_by
-returns c = let asks = sym c.asks_for.ensures
+returns c =
+    let asks = sym c.asks_for.ensures
     ∙ c.if-asks_for.false in
     let read = c.memory_byte-value.ensures in
     let changed = c.set_bit-changed.ensures in record {

@@ -18,11 +18,20 @@ returns-then-at-memory c = record {
 
 pub returns-else-at-memory : goal.returns-else-at-memory
 unfolding put_write
-returns-else-at-memory c = let at = c.args in
+returns-else-at-memory c =
+    let at = c.args in
     let words : SixteenBits at.sums.now =
-    λ p. omega (arith, c.type_inv.sums p) in record { memory_after = rw (← c.is_register.ensures, c.if-here.true, set_out _ _ _ c.if-at-memory.false) refl; sums_after = sums_kept 0 at.sums.now at.memory.now words }
+    λ p. omega (arith, c.type_inv.sums p) in record {
+      memory_after = rw (← c.is_register.ensures, c.if-here.true, set_out _ _ _ c.if-at-memory.false) refl;
+      sums_after = sums_kept 0 at.sums.now at.memory.now words;
+    }
 
 pub returns-else-here : goal.returns-else-here
 unfolding put_write
-returns-else-here c = let at = c.args in
-    let words : SixteenBits at.sums.now = λ p. omega (arith, c.type_inv.sums p) in record { memory_after = rw (← c.is_register.ensures, c.if-here.false) refl; sums_after = sums_kept 0 at.sums.now at.memory.now words }
+returns-else-here c =
+    let at = c.args in
+    let words : SixteenBits at.sums.now = λ p. omega (arith, c.type_inv.sums p) in record {
+      memory_after = rw (← c.is_register.ensures, c.if-here.false) refl;
+      sums_after = sums_kept 0 at.sums.now
+          at.memory.now words;
+    }

@@ -15,7 +15,8 @@ pub overflow_add-sums-then-page-sums : goal.overflow_add-sums-then-page-sums
 overflow_add-sums-then-page-sums c = omega (arith, c.slice_known-1.given c.args.page)
 
 pub returns-then-page-sums : goal.returns-then-page-sums
-returns-then-page-sums c = let at = c.args in
+returns-then-page-sums c =
+    let at = c.args in
     ap (set at.sums.now at.page)
     (taken_off (get_or at.sums.now at.page 0) at.before at.after (omega arith))
 

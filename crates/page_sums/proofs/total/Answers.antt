@@ -33,7 +33,8 @@ pub loop-page-smaller : goal.loop-page-smaller
 loop-page-smaller c = omega arith
 
 pub loop-page-preserved : goal.loop-page-preserved
-loop-page-preserved c = let sums = c.args.sums.now in
+loop-page-preserved c =
+    let sums = c.args.sums.now in
     let page = c.loop-page.page in
     let word = c.type_inv.sums page in
     let inside : page < length sums = omega arith in
@@ -44,7 +45,8 @@ overflow_cast-result c = omega arith
 
 pub returns : goal.returns
 unfolding total_call
-returns c = let sums = c.args.sums.now in
+returns c =
+    let sums = c.args.sums.now in
     let whole : length sums ≡ 256 = omega arith in
     let all : c.loop-page.sum ≡ total_of sums =
     omega (arith, total_end sums c.loop-page.page (omega arith)) in

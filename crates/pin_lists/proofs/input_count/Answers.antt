@@ -9,7 +9,8 @@ pub bounds-clocks-i : goal.bounds-clocks-i
 bounds-clocks-i c = omega arith
 
 pub returns-then-clocks-i : goal.returns-then-clocks-i
-returns-then-clocks-i c = let e = input_count_other c.args.clock c.loop-i.i
+returns-then-clocks-i c =
+    let e = input_count_other c.args.clock c.loop-i.i
     c.args.clocks.now c.loop-i-test.true c.if-clocks-i.true in
     omega (arith, e, c.loop-i.invariant.1)
 
@@ -20,11 +21,13 @@ pub loop-i-smaller : goal.loop-i-smaller
 loop-i-smaller c = omega arith
 
 pub loop-i-preserved : goal.loop-i-preserved
-loop-i-preserved c = let e = input_count_more c.args.clock c.loop-i.i
+loop-i-preserved c =
+    let e = input_count_more c.args.clock c.loop-i.i
     c.args.clocks.now c.loop-i-test.true c.if-clocks-i.false in
     (omega arith, omega (arith, e, c.loop-i.invariant.1))
 
 pub returns : goal.returns
-returns c = let e = input_count_end c.args.clock c.loop-i.i c.args.clocks.now
+returns c =
+    let e = input_count_end c.args.clock c.loop-i.i c.args.clocks.now
     c.loop-i-test.false in
     omega (arith, e, c.loop-i.invariant.1)

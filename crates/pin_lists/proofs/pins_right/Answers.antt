@@ -20,7 +20,8 @@ pub bounds-codes-i : goal.bounds-codes-i
 bounds-codes-i c = omega arith
 
 pub returns-then-not-entry_right : goal.returns-then-not-entry_right
-returns-then-not-entry_right c = let ts = c.args.clocks.now in
+returns-then-not-entry_right c =
+    let ts = c.args.clocks.now in
     let cs = c.args.codes.now in
     let next = rest_next c.args.lastpin
     c.loop-i.last c.loop-i.pin
@@ -37,7 +38,8 @@ pub loop-i-smaller : goal.loop-i-smaller
 loop-i-smaller c = omega arith
 
 pub loop-i-preserved : goal.loop-i-preserved
-loop-i-preserved c = let ts = c.args.clocks.now in
+loop-i-preserved c =
+    let ts = c.args.clocks.now in
     let cs = c.args.codes.now in
     let next = rest_next c.args.lastpin
     c.loop-i.last c.loop-i.pin

@@ -1,4 +1,8 @@
 use Rattle.r6501q.proofs.r6501q_load_with_sums.Goals as goal
 
 pub returns : goal.returns
-returns c = record { memory_after = rw (← c.load_with_sums-result.ensures.memory_after, ← c.host_load_result.ensures); sums_after = c.load_with_sums-result.ensures.sums_after }
+returns c = record {
+  memory_after = rw (← c.load_with_sums-result.ensures.memory_after, ← c.host_load_result.ensures);
+  sums_after =
+      c.load_with_sums-result.ensures.sums_after;
+}

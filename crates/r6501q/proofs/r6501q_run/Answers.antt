@@ -22,7 +22,8 @@ returns-then-not-flags_fit c = record {
 }
 
 pub returns : goal.returns
-returns c = let at = c.args in
+returns c =
+    let at = c.args in
     let fits = sym c.flags_fit.ensures
     ∙ c.if-not-flags_fit.false in
     let state = c.state_from in

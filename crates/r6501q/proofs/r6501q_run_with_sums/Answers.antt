@@ -14,7 +14,8 @@ use Rattle.r6501q.specs.Calls.{HostWorld, host_call}
 use Rattle.r6501q.proofs.r6501q_run_with_sums.Goals as goal
 
 pub returns-then-page_list_refused : goal.returns-then-page_list_refused
-returns-then-page_list_refused c = let at = c.args in
+returns-then-page_list_refused c =
+    let at = c.args in
     let start : HostWorld = call_start at.state at.memory.now at.inputclocks.now at.inputcodes.now
     at.outputclocks.now at.outputwords.now in
     let words : SixteenBits at.sums.now =
@@ -28,11 +29,17 @@ returns-then-page_list_refused c = let at = c.args in
     list_refused at.sums.now (host_call (run_of (machine (halt_of at.halt)) at.n) at.n) start wrong in
     let plains =
     list_refused at.sums.now (host_call (plain_run_of (machine (halt_of at.halt)) at.n) at.n) start wrong in
-    let kept = sums_kept 0 at.sums.now at.memory.now words in record { outputwords_value = rw c.wrong_page_list.ensures (sym leaps); outputwords_value_2 = rw c.wrong_page_list.ensures (sym plains); sums_after = kept }
+    let kept = sums_kept 0 at.sums.now at.memory.now words in record {
+      outputwords_value = rw c.wrong_page_list.ensures (sym leaps);
+      outputwords_value_2 = rw
+          c.wrong_page_list.ensures (sym plains);
+      sums_after = kept;
+    }
 
 pub returns-then-not-flags_fit : goal.returns-then-not-flags_fit
 unfolding host_call
-returns-then-not-flags_fit c = let at = c.args in
+returns-then-not-flags_fit c =
+    let at = c.args in
     let start : HostWorld = call_start at.state at.memory.now at.inputclocks.now at.inputcodes.now
     at.outputclocks.now at.outputwords.now in
     let words : SixteenBits at.sums.now = λ p. omega
@@ -48,11 +55,21 @@ returns-then-not-flags_fit c = let at = c.args in
     list_accepted at.sums.now (host_call (plain_run_of (machine (halt_of at.halt)) at.n) at.n) start right in
     let high = c.if-not-flags_fit.true in
     let kept = sums_kept 0 at.sums.now at.memory.now words in
-    let fit = c.flags_fit.ensures in record { outputwords_value = rw (leaps, ← fit, c.flag_refused.ensures, high); outputwords_value_2 = rw (plains, ← fit, c.flag_refused.ensures, high); sums_after = kept }
+    let fit = c.flags_fit.ensures in record {
+      outputwords_value = rw (leaps, ← fit, c.flag_refused.ensures, high);
+      outputwords_value_2 = rw (
+        plains,
+        ← fit,
+        c.flag_refused.ensures,
+        high,
+      );
+      sums_after = kept;
+    }
 
 pub returns : goal.returns
 unfolding host_call
-returns c = let at = c.args in
+returns c =
+    let at = c.args in
     let start : HostWorld = call_start at.state at.memory.now at.inputclocks.now at.inputcodes.now
     at.outputclocks.now at.outputwords.now in
     let library : World = call_start c.state_from.result at.memory.now at.inputclocks.now

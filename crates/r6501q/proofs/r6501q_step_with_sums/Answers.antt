@@ -14,7 +14,8 @@ use Rattle.r6501q.specs.Calls.{HostWorld, host_call}
 use Rattle.r6501q.proofs.r6501q_step_with_sums.Goals as goal
 
 pub returns-then-page_list_refused : goal.returns-then-page_list_refused
-returns-then-page_list_refused c = let at = c.args in
+returns-then-page_list_refused c =
+    let at = c.args in
     let start : HostWorld = call_start at.state at.memory.now at.inputclocks.now at.inputcodes.now
     at.outputclocks.now at.outputwords.now in
     let words : SixteenBits at.sums.now =
@@ -31,7 +32,8 @@ returns-then-page_list_refused c = let at = c.args in
 
 pub returns-then-not-flags_fit : goal.returns-then-not-flags_fit
 unfolding host_call
-returns-then-not-flags_fit c = let at = c.args in
+returns-then-not-flags_fit c =
+    let at = c.args in
     let start : HostWorld = call_start at.state at.memory.now at.inputclocks.now at.inputcodes.now
     at.outputclocks.now at.outputwords.now in
     let words : SixteenBits at.sums.now = λ p. omega
@@ -42,11 +44,16 @@ returns-then-not-flags_fit c = let at = c.args in
     let right : page_list_refused (length at.memory.now) (length at.sums.now) ≡ false =
     sym told ∙ c.if-page_list_refused.false in
     let next = list_accepted at.sums.now (host_call (step_of (machine (halt_of at.halt))) 1) start right in
-    let high = c.if-not-flags_fit.true in record { outputwords_value = rw (next, ← c.flags_fit.ensures, c.flag_refused.ensures, high); sums_after = sums_kept 0 at.sums.now at.memory.now words }
+    let high = c.if-not-flags_fit.true in record {
+      outputwords_value = rw (next, ← c.flags_fit.ensures, c.flag_refused.ensures, high);
+      sums_after = sums_kept 0
+          at.sums.now at.memory.now words;
+    }
 
 pub returns : goal.returns
 unfolding host_call
-returns c = let at = c.args in
+returns c =
+    let at = c.args in
     let start : HostWorld = call_start at.state at.memory.now at.inputclocks.now at.inputcodes.now
     at.outputclocks.now at.outputwords.now in
     let library : World = call_start c.state_from.result at.memory.now at.inputclocks.now

@@ -9,7 +9,8 @@ use Rattle.r6501q_advance.proofs.Worlds.{plain_stops, plain_moves, input_count_f
 use Rattle.r6501q_advance.proofs.advance.Goals as goal
 
 pub outcome_from-clocked-requires : goal.outcome_from-clocked-requires
-outcome_from-clocked-requires c = let going = c.requires.going in
+outcome_from-clocked-requires c =
+    let going = c.requires.going in
     let clocks = c.args.inputclocks.now in
     let codes = c.args.inputcodes.now in record {
       clock_lt_last_clock = (
@@ -21,7 +22,8 @@ outcome_from-clocked-requires c = let going = c.requires.going in
     }
 
 pub complete-requires : goal.complete-requires
-complete-requires c = let going = c.requires.going in
+complete-requires c =
+    let going = c.requires.going in
     let clocks = c.args.inputclocks.now in
     let codes = c.args.inputcodes.now in
     let due = c.input_count_from-inputs in
@@ -30,7 +32,8 @@ complete-requires c = let going = c.requires.going in
     (omega (arith, fits), omega (arith, going.written))
 
 pub returns-in-Stopped : goal.returns-in-Stopped
-returns-in-Stopped c = let at = c.args in
+returns-in-Stopped c =
+    let at = c.args in
     let words : SixteenBits at.sums.now = λ p. omega (
       arith,
       c.type_inv.sums p,
@@ -43,13 +46,21 @@ returns-in-Stopped c = let at = c.args in
     }
 
 pub returns-in-Done : goal.returns-in-Done
-returns-in-Done c = let at = c.args in
+returns-in-Done c =
+    let at = c.args in
     let due = c.input_count_from-inputs in
     let outcome = sym c.outcome_from-clocked.ensures
     ∙ c.in-Done.is in
     let clocks = drop-drop due.result at.p.read at.inputclocks.now in
     let codes = drop-drop due.result at.p.read at.inputcodes.now in record {
-      outputwords_value = rw (c.complete.ensures.value, c.complete.ensures.memory_after, c.complete.ensures.outputclocks_after, c.complete.ensures.outputwords_after, ← clocks, ← codes)
+      outputwords_value = rw (
+        c.complete.ensures.value,
+        c.complete.ensures.memory_after,
+        c.complete.ensures.outputclocks_after,
+        c.complete.ensures.outputwords_after,
+        ← clocks,
+        ← codes,
+      )
           (plain_moves at.halt _ _ _ c.requires.going.stop due.ensures _ outcome refl);
       sums_after = c.complete.ensures.sums_after;
     }

@@ -20,6 +20,13 @@ pub shape_of-memory : goal.shape_of-memory
 shape_of-memory c = c.memory-1.given
 
 pub returns : goal.returns
-returns c = let at = c.args in
+returns c =
+    let at = c.args in
     let end = progress_done at.halt at.ended at.inputs at.p _ refl refl c.written_after.ensures
-    c.stop_after.ensures in record { value = end; memory_after = c.commit.ensures.memory_after; outputclocks_after = c.put_record.ensures; outputwords_after = c.put_record-2.ensures; sums_after = c.commit.ensures.sums_after }
+    c.stop_after.ensures in record {
+      value = end;
+      memory_after = c.commit.ensures.memory_after;
+      outputclocks_after = c.put_record.ensures;
+      outputwords_after = c.put_record-2.ensures;
+      sums_after = c.commit.ensures.sums_after;
+    }

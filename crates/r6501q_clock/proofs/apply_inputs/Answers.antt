@@ -18,7 +18,8 @@ pub loop-i-smaller : goal.loop-i-smaller
 loop-i-smaller c = omega arith
 
 pub loop-i-preserved : goal.loop-i-preserved
-loop-i-preserved c = let h : c.loop-i.i
+loop-i-preserved c =
+    let h : c.loop-i.i
     < length c.args.codes.now = omega arith in
     (omega arith, rw c.input-set.ensures (sym (inputs_more _ _ _ h) ∙ c.loop-i.invariant.1))
 

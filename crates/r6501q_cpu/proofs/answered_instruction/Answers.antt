@@ -19,7 +19,8 @@ pub slice_bounds-one_round-end : goal.slice_bounds-one_round-end
 slice_bounds-one_round-end c = sym (length-take-le _ _ (rw c.loop-count.invariant.1 c.loop-count.invariant.0))
 
 pub returns-in-Over : goal.returns-in-Over
-returns-in-Over c = let at = c.loop-count in
+returns-in-Over c =
+    let at = c.loop-count in
     let left : 0 < 6 - at.count = omega arith in
     let over = sym c.one_round-round.ensures ∙ c.in-Over.is in
     sym (round_over _ _ _ _ _ _ _ left over) ∙ at.invariant.2
@@ -34,7 +35,8 @@ pub loop-count-smaller : goal.loop-count-smaller
 loop-count-smaller c = omega arith
 
 pub loop-count-preserved : goal.loop-count-preserved
-loop-count-preserved c = let at = c.loop-count in
+loop-count-preserved c =
+    let at = c.loop-count in
     let left : 6 - at.count ≡ suc (6 - suc at.count) = omega arith in
     let room : at.count < length at.answers = rw at.invariant.1 (omega arith) in
     let asked = sym c.one_round-round.ensures ∙ c.in-Answered.is in (
@@ -46,4 +48,5 @@ loop-count-preserved c = let at = c.loop-count in
 
 pub returns : goal.returns
 unfolding instruction_from
-returns c = let none : 6 - c.loop-count.count ≡ 0 = omega arith in rw (none) at c.loop-count.invariant.2
+returns c =
+    let none : 6 - c.loop-count.count ≡ 0 = omega arith in rw (none) at c.loop-count.invariant.2

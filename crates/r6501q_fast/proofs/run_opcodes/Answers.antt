@@ -12,15 +12,23 @@ use Rattle.r6501q_fast.proofs.Instructions.{start_fits}
 use Rattle.r6501q_fast.proofs.Instructions.{two_fit}
 use Rattle.r6501q_fast.proofs.run_opcodes.Goals as goal
 use Rattle.r6501q_fast.proofs.run_opcodes.Goals.{Joined-opcode-div16}
-use Rattle.r6501q_fast.proofs.run_opcodes.Goals.{in-0, in-1, in-2, in-3, in-4, in-5, in-6, in-7, in-8, in-9, in-10, in-11}
+use Rattle.r6501q_fast.proofs.run_opcodes.Goals.{in-0, in-1, in-2, in-3, in-4, in-5, in-6, in-7, in-8, in-9, in-10}
+use Rattle.r6501q_fast.proofs.run_opcodes.Goals.{in-11}
 use Rattle.r6501q_fast.proofs.run_opcodes.Goals.{in-12, in-13, in-14, in_default}
 
 pub returns-then-memory-ne-MEMORY_LENGTH : goal.returns-then-memory-ne-MEMORY_LENGTH
-returns-then-memory-ne-MEMORY_LENGTH c = let at = c.args in
-    let words : SixteenBits at.sums.now = λ k. omega (arith, c.type_inv.sums k) in record { by_instructions = none; within_span_2 = c.requires.within_span; sums_after = sums_kept 0 at.sums.now at.memory.now words }
+returns-then-memory-ne-MEMORY_LENGTH c =
+    let at = c.args in
+    let words : SixteenBits at.sums.now = λ k. omega (arith, c.type_inv.sums k) in record {
+      by_instructions = none;
+      within_span_2 = c.requires.within_span;
+      sums_after = sums_kept 0 at.sums.now
+          at.memory.now words;
+    }
 
 pub loop-on-init : goal.loop-on-init
-loop-on-init c = let at = c.args in
+loop-on-init c =
+    let at = c.args in
     let words : SixteenBits at.sums.now = λ k. omega (arith, c.type_inv.sums k) in
     (rw c.same_work-w.ensures c.requires.within_span, none, sums_kept 0 at.sums.now at.memory.now words, refl)
 
@@ -28,150 +36,254 @@ pub shape_of-memory-then-is_register-pc : goal.shape_of-memory-then-is_register-
 shape_of-memory-then-is_register-pc c = c.loop-on.invariant.3
 
 pub shape_of-sums-then-is_register-pc : goal.shape_of-sums-then-is_register-pc
-shape_of-sums-then-is_register-pc c = let at = c.args in
+shape_of-sums-then-is_register-pc c =
+    let at = c.args in
     ap length c.loop-on.invariant.2
     ∙ sums_length 0 at.sums.now at.memory.now
     c.loop-on.memory
 
 pub returns-then-is_register-pc : goal.returns-then-is_register-pc
-returns-then-is_register-pc c = let inv = c.loop-on.invariant in record { by_instructions = rw c.same_work-w.ensures at inv.1; within_span_2 = inv.0; sums_after = inv.2 }
+returns-then-is_register-pc c =
+    let inv = c.loop-on.invariant in record {
+      by_instructions = rw c.same_work-w.ensures at inv.1;
+      within_span_2 = inv.0;
+      sums_after = inv.2;
+    }
 
 pub opcodes_00-tried-requires : goal.opcodes_00-tried-requires
-opcodes_00-tried-requires c = let loop = c.loop-on in
+opcodes_00-tried-requires c =
+    let loop = c.loop-on in
     let at = c.args in
     let within = starts_within loop.on loop.w at.span.0
     c.loop-on-test.true in
     let free = (either_false c.is_register.result _
-    c.if-is_register-pc.false).0 in record { wait_bound = (within, loop.invariant.0.leaps); pc_value = sym c.is_register.ensures ∙ free; pc_value_2 = sym c.memory_byte-opcode.ensures }
+    c.if-is_register-pc.false).0 in record {
+      wait_bound = (within, loop.invariant.0.leaps);
+      pc_value = sym c.is_register.ensures
+          ∙ free;
+      pc_value_2 = sym c.memory_byte-opcode.ensures;
+    }
 
 pub opcodes_10-tried-requires : goal.opcodes_10-tried-requires
-opcodes_10-tried-requires c = let loop = c.loop-on in
+opcodes_10-tried-requires c =
+    let loop = c.loop-on in
     let at = c.args in
     let within = starts_within loop.on loop.w at.span.0
     c.loop-on-test.true in
     let free = (either_false c.is_register.result _
-    c.if-is_register-pc.false).0 in record { wait_bound = (within, loop.invariant.0.leaps); pc_value = sym c.is_register.ensures ∙ free; pc_value_2 = sym c.memory_byte-opcode.ensures }
+    c.if-is_register-pc.false).0 in record {
+      wait_bound = (within, loop.invariant.0.leaps);
+      pc_value = sym c.is_register.ensures
+          ∙ free;
+      pc_value_2 = sym c.memory_byte-opcode.ensures;
+    }
 
 pub opcodes_20-tried-requires : goal.opcodes_20-tried-requires
-opcodes_20-tried-requires c = let loop = c.loop-on in
+opcodes_20-tried-requires c =
+    let loop = c.loop-on in
     let at = c.args in
     let within = starts_within loop.on loop.w at.span.0
     c.loop-on-test.true in
     let free = (either_false c.is_register.result _
-    c.if-is_register-pc.false).0 in record { wait_bound = (within, loop.invariant.0.leaps); pc_value = sym c.is_register.ensures ∙ free; pc_value_2 = sym c.memory_byte-opcode.ensures }
+    c.if-is_register-pc.false).0 in record {
+      wait_bound = (within, loop.invariant.0.leaps);
+      pc_value = sym c.is_register.ensures
+          ∙ free;
+      pc_value_2 = sym c.memory_byte-opcode.ensures;
+    }
 
 pub opcodes_30-tried-requires : goal.opcodes_30-tried-requires
-opcodes_30-tried-requires c = let loop = c.loop-on in
+opcodes_30-tried-requires c =
+    let loop = c.loop-on in
     let at = c.args in
     let within = starts_within loop.on loop.w at.span.0
     c.loop-on-test.true in
     let free = (either_false c.is_register.result _
-    c.if-is_register-pc.false).0 in record { wait_bound = (within, loop.invariant.0.leaps); pc_value = sym c.is_register.ensures ∙ free; pc_value_2 = sym c.memory_byte-opcode.ensures }
+    c.if-is_register-pc.false).0 in record {
+      wait_bound = (within, loop.invariant.0.leaps);
+      pc_value = sym c.is_register.ensures
+          ∙ free;
+      pc_value_2 = sym c.memory_byte-opcode.ensures;
+    }
 
 pub opcodes_40-tried-requires : goal.opcodes_40-tried-requires
-opcodes_40-tried-requires c = let loop = c.loop-on in
+opcodes_40-tried-requires c =
+    let loop = c.loop-on in
     let at = c.args in
     let within = starts_within loop.on loop.w at.span.0
     c.loop-on-test.true in
     let free = (either_false c.is_register.result _
-    c.if-is_register-pc.false).0 in record { wait_bound = (within, loop.invariant.0.leaps); pc_value = sym c.is_register.ensures ∙ free; pc_value_2 = sym c.memory_byte-opcode.ensures }
+    c.if-is_register-pc.false).0 in record {
+      wait_bound = (within, loop.invariant.0.leaps);
+      pc_value = sym c.is_register.ensures
+          ∙ free;
+      pc_value_2 = sym c.memory_byte-opcode.ensures;
+    }
 
 pub opcodes_50-tried-requires : goal.opcodes_50-tried-requires
-opcodes_50-tried-requires c = let loop = c.loop-on in
+opcodes_50-tried-requires c =
+    let loop = c.loop-on in
     let at = c.args in
     let within = starts_within loop.on loop.w at.span.0
     c.loop-on-test.true in
     let free = (either_false c.is_register.result _
-    c.if-is_register-pc.false).0 in record { wait_bound = (within, loop.invariant.0.leaps); pc_value = sym c.is_register.ensures ∙ free; pc_value_2 = sym c.memory_byte-opcode.ensures }
+    c.if-is_register-pc.false).0 in record {
+      wait_bound = (within, loop.invariant.0.leaps);
+      pc_value = sym c.is_register.ensures
+          ∙ free;
+      pc_value_2 = sym c.memory_byte-opcode.ensures;
+    }
 
 pub opcodes_60-tried-requires : goal.opcodes_60-tried-requires
-opcodes_60-tried-requires c = let loop = c.loop-on in
+opcodes_60-tried-requires c =
+    let loop = c.loop-on in
     let at = c.args in
     let within = starts_within loop.on loop.w at.span.0
     c.loop-on-test.true in
     let free = (either_false c.is_register.result _
-    c.if-is_register-pc.false).0 in record { wait_bound = (within, loop.invariant.0.leaps); pc_value = sym c.is_register.ensures ∙ free; pc_value_2 = sym c.memory_byte-opcode.ensures }
+    c.if-is_register-pc.false).0 in record {
+      wait_bound = (within, loop.invariant.0.leaps);
+      pc_value = sym c.is_register.ensures
+          ∙ free;
+      pc_value_2 = sym c.memory_byte-opcode.ensures;
+    }
 
 pub opcodes_70-tried-requires : goal.opcodes_70-tried-requires
-opcodes_70-tried-requires c = let loop = c.loop-on in
+opcodes_70-tried-requires c =
+    let loop = c.loop-on in
     let at = c.args in
     let within = starts_within loop.on loop.w at.span.0
     c.loop-on-test.true in
     let free = (either_false c.is_register.result _
-    c.if-is_register-pc.false).0 in record { wait_bound = (within, loop.invariant.0.leaps); pc_value = sym c.is_register.ensures ∙ free; pc_value_2 = sym c.memory_byte-opcode.ensures }
+    c.if-is_register-pc.false).0 in record {
+      wait_bound = (within, loop.invariant.0.leaps);
+      pc_value = sym c.is_register.ensures
+          ∙ free;
+      pc_value_2 = sym c.memory_byte-opcode.ensures;
+    }
 
 pub opcodes_80-tried-requires : goal.opcodes_80-tried-requires
-opcodes_80-tried-requires c = let loop = c.loop-on in
+opcodes_80-tried-requires c =
+    let loop = c.loop-on in
     let at = c.args in
     let within = starts_within loop.on loop.w at.span.0
     c.loop-on-test.true in
     let free = (either_false c.is_register.result _
-    c.if-is_register-pc.false).0 in record { wait_bound = (within, loop.invariant.0.leaps); pc_value = sym c.is_register.ensures ∙ free; pc_value_2 = sym c.memory_byte-opcode.ensures }
+    c.if-is_register-pc.false).0 in record {
+      wait_bound = (within, loop.invariant.0.leaps);
+      pc_value = sym c.is_register.ensures
+          ∙ free;
+      pc_value_2 = sym c.memory_byte-opcode.ensures;
+    }
 
 pub opcodes_90-tried-requires : goal.opcodes_90-tried-requires
-opcodes_90-tried-requires c = let loop = c.loop-on in
+opcodes_90-tried-requires c =
+    let loop = c.loop-on in
     let at = c.args in
     let within = starts_within loop.on loop.w at.span.0
     c.loop-on-test.true in
     let free = (either_false c.is_register.result _
-    c.if-is_register-pc.false).0 in record { wait_bound = (within, loop.invariant.0.leaps); pc_value = sym c.is_register.ensures ∙ free; pc_value_2 = sym c.memory_byte-opcode.ensures }
+    c.if-is_register-pc.false).0 in record {
+      wait_bound = (within, loop.invariant.0.leaps);
+      pc_value = sym c.is_register.ensures
+          ∙ free;
+      pc_value_2 = sym c.memory_byte-opcode.ensures;
+    }
 
 pub opcodes_a0-tried-requires : goal.opcodes_a0-tried-requires
-opcodes_a0-tried-requires c = let loop = c.loop-on in
+opcodes_a0-tried-requires c =
+    let loop = c.loop-on in
     let at = c.args in
     let within = starts_within loop.on loop.w at.span.0
     c.loop-on-test.true in
     let free = (either_false c.is_register.result _
-    c.if-is_register-pc.false).0 in record { wait_bound = (within, loop.invariant.0.leaps); pc_value = sym c.is_register.ensures ∙ free; pc_value_2 = sym c.memory_byte-opcode.ensures }
+    c.if-is_register-pc.false).0 in record {
+      wait_bound = (within, loop.invariant.0.leaps);
+      pc_value = sym c.is_register.ensures
+          ∙ free;
+      pc_value_2 = sym c.memory_byte-opcode.ensures;
+    }
 
 pub opcodes_b0-tried-requires : goal.opcodes_b0-tried-requires
-opcodes_b0-tried-requires c = let loop = c.loop-on in
+opcodes_b0-tried-requires c =
+    let loop = c.loop-on in
     let at = c.args in
     let within = starts_within loop.on loop.w at.span.0
     c.loop-on-test.true in
     let free = (either_false c.is_register.result _
-    c.if-is_register-pc.false).0 in record { wait_bound = (within, loop.invariant.0.leaps); pc_value = sym c.is_register.ensures ∙ free; pc_value_2 = sym c.memory_byte-opcode.ensures }
+    c.if-is_register-pc.false).0 in record {
+      wait_bound = (within, loop.invariant.0.leaps);
+      pc_value = sym c.is_register.ensures
+          ∙ free;
+      pc_value_2 = sym c.memory_byte-opcode.ensures;
+    }
 
 pub opcodes_c0-tried-requires : goal.opcodes_c0-tried-requires
-opcodes_c0-tried-requires c = let loop = c.loop-on in
+opcodes_c0-tried-requires c =
+    let loop = c.loop-on in
     let at = c.args in
     let within = starts_within loop.on loop.w at.span.0
     c.loop-on-test.true in
     let free = (either_false c.is_register.result _
-    c.if-is_register-pc.false).0 in record { wait_bound = (within, loop.invariant.0.leaps); pc_value = sym c.is_register.ensures ∙ free; pc_value_2 = sym c.memory_byte-opcode.ensures }
+    c.if-is_register-pc.false).0 in record {
+      wait_bound = (within, loop.invariant.0.leaps);
+      pc_value = sym c.is_register.ensures
+          ∙ free;
+      pc_value_2 = sym c.memory_byte-opcode.ensures;
+    }
 
 pub opcodes_d0-tried-requires : goal.opcodes_d0-tried-requires
-opcodes_d0-tried-requires c = let loop = c.loop-on in
+opcodes_d0-tried-requires c =
+    let loop = c.loop-on in
     let at = c.args in
     let within = starts_within loop.on loop.w at.span.0
     c.loop-on-test.true in
     let free = (either_false c.is_register.result _
-    c.if-is_register-pc.false).0 in record { wait_bound = (within, loop.invariant.0.leaps); pc_value = sym c.is_register.ensures ∙ free; pc_value_2 = sym c.memory_byte-opcode.ensures }
+    c.if-is_register-pc.false).0 in record {
+      wait_bound = (within, loop.invariant.0.leaps);
+      pc_value = sym c.is_register.ensures
+          ∙ free;
+      pc_value_2 = sym c.memory_byte-opcode.ensures;
+    }
 
 pub opcodes_e0-tried-requires : goal.opcodes_e0-tried-requires
-opcodes_e0-tried-requires c = let loop = c.loop-on in
+opcodes_e0-tried-requires c =
+    let loop = c.loop-on in
     let at = c.args in
     let within = starts_within loop.on loop.w at.span.0
     c.loop-on-test.true in
     let free = (either_false c.is_register.result _
-    c.if-is_register-pc.false).0 in record { wait_bound = (within, loop.invariant.0.leaps); pc_value = sym c.is_register.ensures ∙ free; pc_value_2 = sym c.memory_byte-opcode.ensures }
+    c.if-is_register-pc.false).0 in record {
+      wait_bound = (within, loop.invariant.0.leaps);
+      pc_value = sym c.is_register.ensures
+          ∙ free;
+      pc_value_2 = sym c.memory_byte-opcode.ensures;
+    }
 
 pub opcodes_f0-tried-requires : goal.opcodes_f0-tried-requires
-opcodes_f0-tried-requires c = let loop = c.loop-on in
+opcodes_f0-tried-requires c =
+    let loop = c.loop-on in
     let at = c.args in
     let within = starts_within loop.on loop.w at.span.0
     c.loop-on-test.true in
     let free = (either_false c.is_register.result _
-    c.if-is_register-pc.false).0 in record { wait_bound = (within, loop.invariant.0.leaps); pc_value = sym c.is_register.ensures ∙ free; pc_value_2 = sym c.memory_byte-opcode.ensures }
+    c.if-is_register-pc.false).0 in record {
+      wait_bound = (within, loop.invariant.0.leaps);
+      pc_value = sym c.is_register.ensures
+          ∙ free;
+      pc_value_2 = sym c.memory_byte-opcode.ensures;
+    }
 
 pub next_start-requires : goal.next_start-requires
-next_start-requires c = let loop = c.loop-on in
+next_start-requires c =
+    let loop = c.loop-on in
     start_fits loop.w c.args.span.0
     (starts_within loop.on loop.w c.args.span.0 c.loop-on-test.true)
     c.requires.span_bound.0
 
 pub with_shared-shared-requires : goal.with_shared-shared-requires
-with_shared-shared-requires c = let loop = c.loop-on in
+with_shared-shared-requires c =
+    let loop = c.loop-on in
     let at = c.args in
     let most = shared_most at.halt at.span.0 at.ticking
     c.same_work-w.result
@@ -297,9 +409,15 @@ pub shape_of-memory : goal.shape_of-memory
 shape_of-memory c = c.loop-on.invariant.3
 
 pub shape_of-sums : goal.shape_of-sums
-shape_of-sums c = let at = c.args in
+shape_of-sums c =
+    let at = c.args in
     ap length c.loop-on.invariant.2
     ∙ sums_length 0 at.sums.now at.memory.now c.loop-on.memory
 
 pub returns : goal.returns
-returns c = let inv = c.loop-on.invariant in record { by_instructions = rw c.same_work-w.ensures at inv.1; within_span_2 = inv.0; sums_after = inv.2 }
+returns c =
+    let inv = c.loop-on.invariant in record {
+      by_instructions = rw c.same_work-w.ensures at inv.1;
+      within_span_2 = inv.0;
+      sums_after = inv.2;
+    }

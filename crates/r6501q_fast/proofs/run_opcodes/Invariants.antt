@@ -8,7 +8,8 @@ use Rattle.r6501q_fast.specs.Instructions.{ByInstructions}
 use Rattle.r6501q_fast.proofs.run_opcodes.Given as goal
 
 abbrev pub invariant-loop-on : goal.invariant-loop-on
-invariant-loop-on l = WithinSpan l.w l.span.0 × ByInstructions l.halt l.span.0 l.ticking l.initial.w l.initial.memory l.w l.memory l.shared
+invariant-loop-on l = WithinSpan l.w l.span.0
+    × ByInstructions l.halt l.span.0 l.ticking l.initial.w l.initial.memory l.w l.memory l.shared
     × (l.sums ≡ sums_after l.initial.sums l.initial.memory l.memory) × (length l.memory ≡ length l.initial.memory)
 
 abbrev pub decreases-loop-on : goal.decreases-loop-on

@@ -6,11 +6,25 @@ use Rattle.r6501q_fast.proofs.Instructions.{shared_most}
 use Rattle.r6501q_fast.proofs.run_working.Goals as goal
 
 pub returns-in-Nothing : goal.returns-in-Nothing
-returns-in-Nothing c = let at = c.args in
+returns-in-Nothing c =
+    let at = c.args in
     let e = c.in-Nothing.is in
-    let most = shared_most at.halt at.span.0 at.ticking at.v.work at.memory.now c.run_opcodes-ran.ensures.by_instructions in record { runs_on = rw (e, c.none_waiting.ensures) (c.run_opcodes-ran.ensures.by_instructions, refl); within_span_2 = rw c.none_waiting.ensures (c.run_opcodes-ran.ensures.within_span_2, omega (arith, most)); sums_after = c.run_opcodes-ran.ensures.sums_after }
+    let most = shared_most at.halt at.span.0 at.ticking at.v.work at.memory.now
+    c.run_opcodes-ran.ensures.by_instructions in record {
+      runs_on = rw (e, c.none_waiting.ensures) (c.run_opcodes-ran.ensures.by_instructions, refl);
+      within_span_2 = rw
+          c.none_waiting.ensures (c.run_opcodes-ran.ensures.within_span_2, omega (arith, most));
+      sums_after =
+          c.run_opcodes-ran.ensures.sums_after;
+    }
 
 pub returns-in-Byte : goal.returns-in-Byte
-returns-in-Byte c = let at = c.args in
+returns-in-Byte c =
+    let at = c.args in
     let e = c.in-Byte.is in
-    let words : SixteenBits at.sums.now = λ k. omega (arith, c.type_inv.sums k) in record { runs_on = rw e (refl, refl); within_span_2 = (c.requires.within_span, omega arith); sums_after = sums_kept 0 at.sums.now at.memory.now words }
+    let words : SixteenBits at.sums.now = λ k. omega (arith, c.type_inv.sums k) in record {
+      runs_on = rw e (refl, refl);
+      within_span_2 = (c.requires.within_span, omega arith);
+      sums_after = sums_kept 0
+          at.sums.now at.memory.now words;
+    }

@@ -8,7 +8,12 @@ use Rattle.r6501q_fast.proofs.shared_by.Goals as goal
 
 pub returns-then-gone-start : goal.returns-then-gone-start
 unfolding shared_by
-returns-then-gone-start c = rw (eq-eqb _ _ c.if-gone-start.true, c.one_where-first.ensures, c.on_tick.ensures, add-zero) refl
+returns-then-gone-start c = rw (
+  eq-eqb _ _ c.if-gone-start.true,
+  c.one_where-first.ensures,
+  c.on_tick.ensures,
+  add-zero,
+) refl
 
 pub overflow_add-result : goal.overflow_add-result
 overflow_add-result c = omega (

@@ -4,7 +4,8 @@ use Rattle.r6501q_fast.proofs.Instructions.{shared_two}
 use Rattle.r6501q_fast.proofs.with_shared.Goals as goal
 
 pub overflow_add-result : goal.overflow_add-result
-overflow_add-result c = let at = c.args in
+overflow_add-result c =
+    let at = c.args in
     let two = shared_two at.ticking at.start at.gone in
     omega (arith, c.shared_by.ensures, two, c.requires.1)
 

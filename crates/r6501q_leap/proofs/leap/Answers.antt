@@ -11,11 +11,16 @@ pass_progress-passed-requires c = gap_fits _ _ _ _ _ _ _ c.requires.leaping
     c.requires.gap_value
 
 pub advance-requires : goal.advance-requires
-advance-requires c = let goes =
-    passed_goes _ _ _ _ _ _ _ c.requires.leaping c.requires.stop_value c.if-gap-left.true in record { going = rw c.pass_progress-passed.ensures goes; entries_value = c.requires.entries_value }
+advance-requires c =
+    let goes =
+    passed_goes _ _ _ _ _ _ _ c.requires.leaping c.requires.stop_value c.if-gap-left.true in record {
+      going = rw c.pass_progress-passed.ensures goes;
+      entries_value = c.requires.entries_value;
+    }
 
 pub returns-then-gap-left : goal.returns-then-gap-left
-returns-then-gap-left c = let at = c.args in
+returns-then-gap-left c =
+    let at = c.args in
     let start : World = world_of at.p at.memory.now at.inputclocks.now at.inputcodes.now
     at.outputclocks.now at.outputwords.now in record {
       outputwords_value = rw (
@@ -27,7 +32,8 @@ returns-then-gap-left c = let at = c.args in
     }
 
 pub returns : goal.returns
-returns c = let at = c.args in
+returns c =
+    let at = c.args in
     let words : SixteenBits at.sums.now = λ p. omega
     (arith, c.type_inv.sums p) in
     let start : World = world_of at.p at.memory.now at.inputclocks.now at.inputcodes.now

@@ -4,10 +4,16 @@ use native.Mathlib.Omega.{arith}
 use Rattle.r6501q_leap.proofs.leap_once.Goals as goal
 
 pub leap-q-requires : goal.leap-q-requires
-leap-q-requires c = record { leaping = c.requires.leaping; stop_value = c.requires.left_nonzero.1; gap_value = c.gap_from-gap.ensures; entries_value = c.requires.entries_value }
+leap-q-requires c = record {
+  leaping = c.requires.leaping;
+  stop_value = c.requires.left_nonzero.1;
+  gap_value = c.gap_from-gap.ensures;
+  entries_value = c.requires.entries_value;
+}
 
 pub overflow_add-result : goal.overflow_add-result
-overflow_add-result c = let most = one_where_le (ltb c.args.at.progress.state.clock c.leap-q.result.state.clock) in
+overflow_add-result c =
+    let most = one_where_le (ltb c.args.at.progress.state.clock c.leap-q.result.state.clock) in
     omega (arith, most, c.leaps_from-moved.ensures, c.requires.left_nonzero.0, c.requires.left_bound)
 
 pub returns : goal.returns

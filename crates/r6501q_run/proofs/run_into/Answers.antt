@@ -6,7 +6,8 @@ use Rattle.r6501q_leap.proofs.Runs.{leaping_begins, begins_bound, run_refused, r
 use Rattle.r6501q_run.proofs.run_into.Goals as goal
 
 pub returns-then-number-ne0 : goal.returns-then-number-ne0
-returns-then-number-ne0 c = let at = c.args in
+returns-then-number-ne0 c =
+    let at = c.args in
     let words : SixteenBits at.sums.now =
     λ p. omega (arith, c.type_inv.sums p) in
     let number = c.call_refusal-number in
@@ -14,10 +15,16 @@ returns-then-number-ne0 c = let at = c.args in
     at.inputcodes.now at.outputclocks.now at.outputwords.now number.result number.ensures
     c.if-number-ne0.true in
     let plainly = runs_plainly at.halt at.n at.state at.memory.now at.inputclocks.now
-    at.inputcodes.now at.outputclocks.now at.outputwords.now in record { outputwords_value = rw c.refused.ensures left; outputwords_value_2 = rw c.refused.ensures (left ∙ plainly); sums_after = sums_kept 0 at.sums.now at.memory.now words }
+    at.inputcodes.now at.outputclocks.now at.outputwords.now in record {
+      outputwords_value = rw c.refused.ensures left;
+      outputwords_value_2 = rw c.refused.ensures (left
+          ∙ plainly);
+      sums_after = sums_kept 0 at.sums.now at.memory.now words;
+    }
 
 pub leap_on-end-requires : goal.leap_on-end-requires
-leap_on-end-requires c = let at = c.args in
+leap_on-end-requires c =
+    let at = c.args in
     let good = sym c.call_refusal-number.ensures
     ∙ c.if-number-ne0.false in
     rw c.begin_run.ensures (record {
@@ -29,11 +36,17 @@ leap_on-end-requires c = let at = c.args in
     })
 
 pub returns : goal.returns
-returns c = let at = c.args in
+returns c =
+    let at = c.args in
     let good = sym c.call_refusal-number.ensures
     ∙ c.if-number-ne0.false in
     let went = rw c.begin_run.ensures at c.leap_on-end.ensures.outputwords_after in
     let left = runs at.state at.n at.memory.now at.inputclocks.now at.inputcodes.now
     at.outputclocks.now at.outputwords.now good at.halt c.leap_on-end.result _ _ _ went in
     let plainly = runs_plainly at.halt at.n at.state at.memory.now at.inputclocks.now
-    at.inputcodes.now at.outputclocks.now at.outputwords.now in record { outputwords_value = rw c.result_of.ensures left; outputwords_value_2 = rw c.result_of.ensures (left ∙ plainly); sums_after = c.leap_on-end.ensures.sums_after }
+    at.inputcodes.now at.outputclocks.now at.outputwords.now in record {
+      outputwords_value = rw c.result_of.ensures left;
+      outputwords_value_2 = rw c.result_of.ensures (left
+          ∙ plainly);
+      sums_after = c.leap_on-end.ensures.sums_after;
+    }

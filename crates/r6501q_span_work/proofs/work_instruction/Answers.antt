@@ -12,21 +12,29 @@ use Rattle.r6501q_span_work.proofs.work_instruction.Goals as goal
 
 pub returns-then-span-w : goal.returns-then-span-w
 unfolding work_after memory_after
-returns-then-span-w c = let at = c.args in
+returns-then-span-w c =
+    let at = c.args in
     let words : SixteenBits at.sums.now = λ p. omega (
       arith,
       c.type_inv.sums p,
     ) in
-    let e : leb (at.span.0 - at.w.gone.0) at.w.wait ≡ true = le-leb _ _ c.if-span-w.true in record { value = rw e c.none_waiting.ensures; memory_after = rw e refl; sums_after = sums_kept 0 at.sums.now at.memory.now words }
+    let e : leb (at.span.0 - at.w.gone.0) at.w.wait ≡ true = le-leb _ _ c.if-span-w.true in record {
+      value = rw e c.none_waiting.ensures;
+      memory_after = rw e refl;
+      sums_after = sums_kept 0 at.sums.now
+          at.memory.now words;
+    }
 
 pub begin_next-requires : goal.begin_next-requires
-begin_next-requires c = let room = c.requires.within_span in
+begin_next-requires c =
+    let room = c.requires.within_span in
     let inside = c.if-span-w.false in
     (omega (arith, room.gone, inside), omega (arith, room.gone, room.leaps, inside))
 
 pub returns-then-known : goal.returns-then-known
 unfolding work_after memory_after
-returns-then-known c = let at = c.args in
+returns-then-known c =
+    let at = c.args in
     let words : SixteenBits at.sums.now = λ p. omega (
       arith,
       c.type_inv.sums p,
@@ -34,12 +42,28 @@ returns-then-known c = let at = c.args in
     let e = lt-leb _ _ c.if-span-w.false in
     let known = c.known_outcome-known.ensures c.if-known.true in
     let same = nothing_pushed at.halt at.w at.memory.now c.known_outcome-known.result.worked
-    known.1 in record { value = rw (e, known.0, same.0) c.begin_next.ensures; memory_after = rw (e, known.0, same.1) refl; sums_after = sums_kept 0 at.sums.now at.memory.now words }
+    known.1 in record {
+      value = rw (e, known.0, same.0) c.begin_next.ensures;
+      memory_after = rw (e, known.0, same.1) refl;
+      sums_after =
+          sums_kept 0 at.sums.now at.memory.now words;
+    }
 
 pub work_outcome-requires : goal.work_outcome-requires
-work_outcome-requires c = let room = c.requires.within_span in
-    let inside = c.if-span-w.false in record { wait_bound = (omega (arith, room.gone, inside), omega (arith, room.gone, room.leaps, inside)); entries_value = c.requires.entries_value }
+work_outcome-requires c =
+    let room = c.requires.within_span in
+    let inside = c.if-span-w.false in record {
+      wait_bound = (omega (arith, room.gone, inside), omega (arith, room.gone, room.leaps, inside));
+      entries_value =
+          c.requires.entries_value;
+    }
 
 pub returns : goal.returns
 unfolding work_after memory_after
-returns c = let e = lt-leb _ _ c.if-span-w.false in record { value = rw e c.work_outcome.ensures.value; memory_after = rw e c.work_outcome.ensures.memory_after; sums_after = c.work_outcome.ensures.sums_after }
+returns c =
+    let e = lt-leb _ _ c.if-span-w.false in record {
+      value = rw e c.work_outcome.ensures.value;
+      memory_after = rw e c.work_outcome.ensures.memory_after;
+      sums_after
+          = c.work_outcome.ensures.sums_after;
+    }

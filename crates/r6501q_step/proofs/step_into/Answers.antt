@@ -6,7 +6,8 @@ use Rattle.r6501q_step.proofs.Calls.{begins, steps, refuses}
 use Rattle.r6501q_step.proofs.step_into.Goals as goal
 
 pub returns-then-number-ne0 : goal.returns-then-number-ne0
-returns-then-number-ne0 c = let at = c.args in
+returns-then-number-ne0 c =
+    let at = c.args in
     let words : SixteenBits at.sums.now =
     λ p. omega (arith, c.type_inv.sums p) in
     let number = c.call_refusal-number.ensures in record {
@@ -18,12 +19,17 @@ returns-then-number-ne0 c = let at = c.args in
     }
 
 pub advance-end-requires : goal.advance-end-requires
-advance-end-requires c = let good = sym c.call_refusal-number.ensures
+advance-end-requires c =
+    let good = sym c.call_refusal-number.ensures
     ∙ c.if-number-ne0.false in
-    let memory = c.args.memory.now in record { going = rw c.begin.ensures (begins _ memory _ _ _ _ good); entries_value = c.opcode_table-entries.ensures }
+    let memory = c.args.memory.now in record {
+      going = rw c.begin.ensures (begins _ memory _ _ _ _ good);
+      entries_value = c.opcode_table-entries.ensures;
+    }
 
 pub returns : goal.returns
-returns c = let at = c.args in
+returns c =
+    let at = c.args in
     let good = sym c.call_refusal-number.ensures
     ∙ c.if-number-ne0.false in
     let moved = rw c.begin.ensures at c.advance-end.ensures.outputwords_value in record {

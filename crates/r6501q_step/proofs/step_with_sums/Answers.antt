@@ -11,7 +11,8 @@ use Rattle.r6501q_chip.specs.R6501q.{World, machine}
 use Rattle.r6501q_step.proofs.step_with_sums.Goals as goal
 
 pub returns-then-page_list_refused : goal.returns-then-page_list_refused
-returns-then-page_list_refused c = let at = c.args in
+returns-then-page_list_refused c =
+    let at = c.args in
     let start : World = call_start at.state at.memory.now at.inputclocks.now at.inputcodes.now
     at.outputclocks.now at.outputwords.now in
     let words : SixteenBits at.sums.now =
@@ -20,10 +21,15 @@ returns-then-page_list_refused c = let at = c.args in
     ≡ page_list_refused (length at.memory.now) (length at.sums.now) =
     c.page_list_refused.ensures in
     let wrong : page_list_refused (length at.memory.now) (length at.sums.now) ≡ true =
-    sym told ∙ c.if-page_list_refused.true in record { outputwords_value = rw c.refused.ensures (sym (list_refused at.sums.now (step_of (machine at.halt)) start wrong)); sums_after = sums_kept 0 at.sums.now at.memory.now words }
+    sym told ∙ c.if-page_list_refused.true in record {
+      outputwords_value = rw c.refused.ensures (sym (list_refused at.sums.now (step_of (machine at.halt)) start
+          wrong));
+      sums_after = sums_kept 0 at.sums.now at.memory.now words;
+    }
 
 pub returns : goal.returns
-returns c = let at = c.args in
+returns c =
+    let at = c.args in
     let start : World = call_start at.state at.memory.now at.inputclocks.now at.inputcodes.now
     at.outputclocks.now at.outputwords.now in
     let told :
@@ -32,4 +38,9 @@ returns c = let at = c.args in
     c.page_list_refused.ensures in
     let right : page_list_refused (length at.memory.now) (length at.sums.now)
     ≡ false = sym told
-    ∙ c.if-page_list_refused.false in record { outputwords_value = c.step_into.ensures.outputwords_value ∙ sym (list_accepted at.sums.now (step_of (machine at.halt)) start right); sums_after = c.step_into.ensures.sums_after }
+    ∙ c.if-page_list_refused.false in record {
+      outputwords_value = c.step_into.ensures.outputwords_value
+          ∙ sym (list_accepted at.sums.now (step_of (machine at.halt)) start right);
+      sums_after =
+          c.step_into.ensures.sums_after;
+    }

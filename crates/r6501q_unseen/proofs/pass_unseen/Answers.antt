@@ -5,14 +5,16 @@ use native.Mathlib.Omega.{arith}
 use Rattle.r6501q_unseen.proofs.pass_unseen.Goals as goal
 
 pub sent_after-transmitter-requires : goal.sent_after-transmitter-requires
-sent_after-transmitter-requires c = let a = c.args in
+sent_after-transmitter-requires c =
+    let a = c.args in
     let h = hidden_in a.n.0 a.ports a.p c.requires in
     λ on. rw c.ticks_in-ticks.ensures
     (sends_within (ticks_in a.n.0 a.ports a.p) a.p.transmitter a.p.control.sccr a.p.control.scsr
     h.sends on)
 
 pub heard_after-receiver-requires : goal.heard_after-receiver-requires
-heard_after-receiver-requires c = let a = c.args in
+heard_after-receiver-requires c =
+    let a = c.args in
     let h = hidden_in a.n.0 a.ports a.p c.requires in
     let most = sends_most a.p.transmitter a.p.control.sccr a.p.control.scsr in
     let sends = h.sends in
@@ -20,7 +22,8 @@ heard_after-receiver-requires c = let a = c.args in
     (record { ticks_bound = h.listens; ticks_le_most_ticks = omega arith })
 
 pub returns : goal.returns
-returns c = let a = c.args in
+returns c =
+    let a = c.args in
     let closed = unseen_closed a.n.0 a.ports a.p
     c.requires in
     rw (

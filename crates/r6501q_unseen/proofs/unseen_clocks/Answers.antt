@@ -6,7 +6,8 @@ use native.Mathlib.Omega.{arith}
 use Rattle.r6501q_unseen.proofs.unseen_clocks.Goals as goal
 
 pub returns-then-not-counting_a : goal.returns-then-not-counting_a
-returns-then-not-counting_a c = let room = ap (λ (x : Clocks). x.0) c.nearer.ensures in
+returns-then-not-counting_a c =
+    let room = ap (λ (x : Clocks). x.0) c.nearer.ensures in
     let b = c.before_b-b.ensures in
     let a = c.args in (
       omega arith,
@@ -16,7 +17,8 @@ returns-then-not-counting_a c = let room = ap (λ (x : Clocks). x.0) c.nearer.en
     )
 
 pub returns : goal.returns
-returns c = let room = ap (λ (x : Clocks). x.0) c.nearer.ensures in
+returns c =
+    let room = ap (λ (x : Clocks). x.0) c.nearer.ensures in
     let b = c.before_b-b.ensures in
     let a = c.args in
     let n = ap (λ (x : Clocks). x.0) c.nearer-2.ensures in (

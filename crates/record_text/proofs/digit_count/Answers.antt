@@ -13,7 +13,10 @@ pub loop-rest-smaller : goal.loop-rest-smaller
 loop-rest-smaller c = omega arith
 
 pub loop-rest-preserved : goal.loop-rest-preserved
-loop-rest-preserved c = (omega (arith, count_on c.loop-rest.rest c.loop-rest-test.true c.loop-rest.invariant.1), omega arith)
+loop-rest-preserved c = (
+  omega (arith, count_on c.loop-rest.rest c.loop-rest-test.true c.loop-rest.invariant.1),
+  omega arith,
+)
 
 pub returns : goal.returns
 returns c = omega (arith, count_last c.loop-rest.rest c.loop-rest-test.false)

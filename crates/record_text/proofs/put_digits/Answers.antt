@@ -13,7 +13,8 @@ loop-left-init c = (
 )
 
 pub digit-requires : goal.digit-requires
-digit-requires c = let small = mod-lt c.loop-left.rest c.requires.base_nonzero.0 in omega arith
+digit-requires c =
+    let small = mod-lt c.loop-left.rest c.requires.base_nonzero.0 in omega arith
 
 pub overflow_add-text : goal.overflow_add-text
 overflow_add-text c = omega (arith, c.loop-left.invariant.0.within)

@@ -43,12 +43,14 @@ put_characters-requires c = omega (
 
 pub returns : goal.returns
 unfolding end_line
-returns c = let e = c.put_characters.ensures
+returns c =
+    let e = c.put_characters.ensures
     ∙ ap (put_of (10 ∷ [])) (c.put_decimal-after_number.ensures
     ∙ ap (put_of (decimal_of c.args.number)) (c.put_characters-after_space.ensures
     ∙ ap (put_of (32 ∷ [])) (c.put_decimal-after_done.ensures
     ∙ ap (put_of (decimal_of c.args.done)) c.put_characters-after_end.ensures)))
-    ∙ put_five (101 ∷ 110 ∷ 100 ∷ 32 ∷ []) (decimal_of c.args.done) (32 ∷ []) (decimal_of c.args.number) (10 ∷ []) (filled c.args.at c.args.text.now) in record {
+    ∙ put_five (101 ∷ 110 ∷ 100 ∷ 32 ∷ []) (decimal_of c.args.done) (32 ∷ []) (decimal_of c.args.number) (10 ∷ [])
+    (filled c.args.at c.args.text.now) in record {
       text_after = e;
       upper_bound = omega (
         arith,

@@ -18,7 +18,8 @@ returns-then-not-formed c = rw (c.if-not-formed.true, eq-eqb _ _ c.if-bytes-limi
 
 pub returns-then-unpaired : goal.returns-then-unpaired
 unfolding refusal_of
-returns-then-unpaired c = let at = c.args in
+returns-then-unpaired c =
+    let at = c.args in
     let unpaired =
     not (eqb (length at.clocks.now) (length at.codes.now)) || not (eqb at.times at.words) in
     rw (c.if-not-formed.false, eq-eqb _ _ c.if-bytes-limits.false)

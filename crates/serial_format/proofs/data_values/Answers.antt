@@ -13,4 +13,5 @@ pub returns-then-k-eq2 : goal.returns-then-k-eq2
 returns-then-k-eq2 c = rw c.if-k-eq2.true
 
 pub returns : goal.returns
-returns c = let k : c.args.sccr / 4 % 4 ≡ 3 = omega arith in rw k
+returns c =
+    let k : c.args.sccr / 4 % 4 ≡ 3 = omega arith in rw k

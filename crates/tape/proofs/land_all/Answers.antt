@@ -8,7 +8,8 @@ use Rattle.tape.proofs.land_all.Goals as goal
 use Rattle.tape.proofs.land_all.Goals.{then-tape-place-eq-MARK+else-count-eq0, else-tape-place-eq-MARK}
 
 pub loop-place-init : goal.loop-place-init
-loop-place-init c = let at = c.args in
+loop-place-init c =
+    let at = c.args in
     let words : SixteenBits at.sums.now = λ p. omega (arith, c.type_inv.sums p) in
     (refl, refl, sums_kept 0 at.sums.now at.memory.now words)
 
@@ -31,12 +32,14 @@ pub shape_of-memory-then-count-eq0 : goal.shape_of-memory-then-count-eq0
 shape_of-memory-then-count-eq0 c = c.loop-place.invariant.0
 
 pub shape_of-sums-then-count-eq0 : goal.shape_of-sums-then-count-eq0
-shape_of-sums-then-count-eq0 c = let at = c.args in
+shape_of-sums-then-count-eq0 c =
+    let at = c.args in
     let loop = c.loop-place in
     ap length loop.invariant.2 ∙ sums_length 0 at.sums.now at.memory.now loop.memory
 
 pub returns-then-count-eq0 : goal.returns-then-count-eq0
-returns-then-count-eq0 c = let at = c.args in
+returns-then-count-eq0 c =
+    let at = c.args in
     let loop = c.loop-place in
     let test = c.loop-place-test.true in
     let count = c.count in record {
@@ -46,7 +49,8 @@ returns-then-count-eq0 c = let at = c.args in
     }
 
 pub land-requires : goal.land-requires
-land-requires c = let loop = c.loop-place in
+land-requires c =
+    let loop = c.loop-place in
     let address = c.address-a in
     let f = data_fits c.args.tape.now loop.place address.result c.record_data.result.now
     address.ensures c.record_data.ensures in
@@ -87,11 +91,13 @@ pub shape_of-memory : goal.shape_of-memory
 shape_of-memory c = c.loop-place.invariant.0
 
 pub shape_of-sums : goal.shape_of-sums
-shape_of-sums c = let at = c.args in
+shape_of-sums c =
+    let at = c.args in
     ap length c.loop-place.invariant.2 ∙ sums_length 0 at.sums.now at.memory.now c.loop-place.memory
 
 pub returns : goal.returns
-returns c = let at = c.args in
+returns c =
+    let at = c.args in
     let loop = c.loop-place in record {
       memory_after = sym (landed_all_end at.tape.now loop.place loop.memory c.loop-place-test.false)
           ∙ loop.invariant.1;

@@ -6,7 +6,8 @@ use mathlib.Core.Path.{◌≡◌}
 use Rattle.tape.proofs.land_all.Given as goal
 
 abbrev pub invariant-loop-place : goal.invariant-loop-place
-invariant-loop-place l = (length l.memory ≡ length l.initial.memory) × (landed_all (drop l.place l.tape) l.memory ≡ landed_all l.tape l.initial.memory)
+invariant-loop-place l = (length l.memory ≡ length l.initial.memory)
+    × (landed_all (drop l.place l.tape) l.memory ≡ landed_all l.tape l.initial.memory)
     × (l.sums ≡ sums_after l.initial.sums l.initial.memory l.memory)
 
 abbrev pub decreases-loop-place : goal.decreases-loop-place

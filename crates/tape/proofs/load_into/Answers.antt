@@ -10,12 +10,18 @@ use Rattle.tape.proofs.load_into.Goals as goal
 
 pub returns-then-memory-ne-MEMORY_LENGTH : goal.returns-then-memory-ne-MEMORY_LENGTH
 unfolding load_of
-returns-then-memory-ne-MEMORY_LENGTH c = let at = c.args in
-    let words : SixteenBits at.sums.now = λ p. omega (arith, c.type_inv.sums p) in record { memory_after = rw (ne_eqb _ _ c.if-memory-ne-MEMORY_LENGTH.true); sums_after = sums_kept 0 at.sums.now at.memory.now words }
+returns-then-memory-ne-MEMORY_LENGTH c =
+    let at = c.args in
+    let words : SixteenBits at.sums.now = λ p. omega (arith, c.type_inv.sums p) in record {
+      memory_after = rw (ne_eqb _ _ c.if-memory-ne-MEMORY_LENGTH.true);
+      sums_after = sums_kept 0 at.sums.now
+          at.memory.now words;
+    }
 
 pub returns-then-checked-ne0 : goal.returns-then-checked-ne0
 unfolding load_of
-returns-then-checked-ne0 c = let at = c.args in
+returns-then-checked-ne0 c =
+    let at = c.args in
     let checked = c.check-checked.result in
     let refused : checked.number ≡ 0 → ⊥ = c.if-checked-ne0.true in
     let words : SixteenBits at.sums.now =

@@ -15,7 +15,8 @@ returns-then-tape-place c = rw (get_or-eq_default c.args.tape.now 0 c.if-tape-pl
 
 pub returns-then-tape-place-ne-MARK : goal.returns-then-tape-place-ne-MARK
 unfolding data_at
-returns-then-tape-place-ne-MARK c = let tape = c.args.tape.now in
+returns-then-tape-place-ne-MARK c =
+    let tape = c.args.tape.now in
     let place = c.args.place in
     sym (cond_no (eqb (get_or tape place 0) mark) (data_of (drop (place + 1) tape)) []
     (ne_eqb (get_or tape place 0) mark c.if-tape-place-ne-MARK.true))

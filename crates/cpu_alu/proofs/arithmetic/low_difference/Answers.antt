@@ -10,13 +10,19 @@ pub overflow_add-difference-2 : goal.overflow_add-difference-2
 overflow_add-difference-2 c = omega (arith, c.one_where.ensures, one_where_le c.args.c)
 
 pub returns-then-difference-lt16 : goal.returns-then-difference-lt16
-returns-then-difference-lt16 c = let at = c.args in
+returns-then-difference-lt16 c =
+    let at = c.args in
     let o = one_where_not at.c in (
       omega arith,
-      borrowed_neg (at.a % 16) (at.m % 16 + one_where (not at.c)) _ (omega arith) (omega arith) c.if-difference-lt16.true,
+      borrowed_neg (at.a % 16) (at.m % 16 + one_where (not at.c)) _ (omega arith) (omega arith)
+          c.if-difference-lt16.true,
     )
 
 pub returns-else-difference-lt16 : goal.returns-else-difference-lt16
-returns-else-difference-lt16 c = let at = c.args in
-    let o = one_where_not at.c in
-    (omega arith, borrowed_pos (at.a % 16) (at.m % 16 + one_where (not at.c)) _ (omega arith) c.if-difference-lt16.false)
+returns-else-difference-lt16 c =
+    let at = c.args in
+    let o = one_where_not at.c in (
+      omega arith,
+      borrowed_pos (at.a % 16) (at.m % 16 + one_where (not at.c)) _ (omega arith)
+          c.if-difference-lt16.false,
+    )

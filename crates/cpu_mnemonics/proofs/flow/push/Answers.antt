@@ -9,16 +9,22 @@ use Rattle.cpu_mnemonics.proofs.flow.push.Goals as goal
 
 pub returns-then-ends_span : goal.returns-then-ends_span
 unfolding push_tried push_memory
-returns-then-ends_span c = let at = c.args in
+returns-then-ends_span c =
+    let at = c.args in
     let words : SixteenBits at.sums.now =
     λ k. omega (arith, c.type_inv.sums k) in
     let same = sums_kept 0 at.sums.now at.memory.now words in
     let ends = rw (c.one_write.ensures, c.push-x.ensures)
-    at (sym c.ends_span.ensures ∙ c.if-ends_span.true) in record { value = rw ends c.failed_attempt.ensures; memory_after = rw ends refl; sums_after = same }
+    at (sym c.ends_span.ensures ∙ c.if-ends_span.true) in record {
+      value = rw ends c.failed_attempt.ensures;
+      memory_after = rw ends refl;
+      sums_after = same;
+    }
 
 pub returns : goal.returns
 unfolding push_tried push_memory
-returns c = let pushed = c.push-x.ensures in
+returns c =
+    let pushed = c.push-x.ensures in
     let on = rw (
       c.one_write.ensures,
       pushed,

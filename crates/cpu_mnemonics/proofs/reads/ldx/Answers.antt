@@ -18,7 +18,8 @@ overflow_add-length c = omega (
 
 pub returns : goal.returns
 unfolding read_tried with_read
-returns c = let asks = sym c.asks_for.ensures
+returns c =
+    let asks = sym c.asks_for.ensures
     ∙ c.if-asks_for.false in
     rw (
       asks,

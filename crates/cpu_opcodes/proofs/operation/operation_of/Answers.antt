@@ -8,7 +8,8 @@ use Rattle.cpu_opcodes.proofs.operation.operation_of.Goals as goal
 -- `operation_of` meets its contract: each kind by its own number, the last since no number below 14 is left. Assumes
 -- nothing.
 pub returns-in_default : goal.returns-in_default
-returns-in_default c = let at = c.args in
+returns-in_default c =
+    let at = c.args in
     sym (get_or-eq_default (operations_by at.number at.bit) Rts (apart_le 14 _ c.in_default.in_default-own.rest))
 
 pub returns-in-0 : goal.returns-in-0

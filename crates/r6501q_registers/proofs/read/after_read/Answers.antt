@@ -25,4 +25,9 @@ returns-then-address-eq-SERIAL_DATA c = rw (
 
 pub returns : goal.returns
 unfolding after_read
-returns c = rw (ne_eqb _ _ c.if-address-eq-SERIAL_DATA.false, ne_eqb _ _ c.if-address-eq-LOWER_A.false, ne_eqb _ _ c.if-address-eq-LOWER_B.false)
+returns c = rw (
+  ne_eqb _ _ c.if-address-eq-SERIAL_DATA.false,
+  ne_eqb _ _ c.if-address-eq-LOWER_A.false,
+  ne_eqb _ _
+      c.if-address-eq-LOWER_B.false,
+)

@@ -73,7 +73,8 @@ returns-in-0 c = rw (c.port_value-in-0.ensures, c.in-0.is) refl
 
 pub returns-in_default : goal.returns-in_default
 unfolding register_value
-returns-in_default c = let r = c.in_default.in_default-own.rest in
+returns-in_default c =
+    let r = c.in_default.in_default-own.rest in
     rw (
       ne_eqb _ _ r.0.0.0.0.0.0.0.0.0.0.0.0.0.0.0.0.1,
       ne_eqb _ _ r.0.0.0.0.0.0.0.0.0.0.0.0.0.0.0.1,

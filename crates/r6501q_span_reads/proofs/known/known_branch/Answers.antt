@@ -16,7 +16,8 @@ overflow_add-length c = omega (
 )
 
 pub overflow_add-length-then-bit_branch_taken : goal.overflow_add-length-then-bit_branch_taken
-overflow_add-length-then-bit_branch_taken c = let added = c.one_where.ensures in
+overflow_add-length-then-bit_branch_taken c =
+    let added = c.one_where.ensures in
     omega (
       arith,
       c.requires.0.0.short,
@@ -26,7 +27,8 @@ overflow_add-length-then-bit_branch_taken c = let added = c.one_where.ensures in
 
 pub returns-then-bit_branch_taken : goal.returns-then-bit_branch_taken
 unfolding pushes_of
-returns-then-bit_branch_taken c = let at = c.args in
+returns-then-bit_branch_taken c =
+    let at = c.args in
     let p = c.requires in
     let steady = sym c.steady_at.ensures ∙ c.if-not-steady_at.false in
     let taken = sym c.bit_branch_taken.ensures ∙ c.if-bit_branch_taken.true in
@@ -47,7 +49,8 @@ returns-then-bit_branch_taken c = let at = c.args in
 
 pub returns : goal.returns
 unfolding pushes_of
-returns c = let at = c.args in
+returns c =
+    let at = c.args in
     let p = c.requires in
     let steady = sym c.steady_at.ensures ∙ c.if-not-steady_at.false in
     let left = sym c.bit_branch_taken.ensures ∙ c.if-bit_branch_taken.false in

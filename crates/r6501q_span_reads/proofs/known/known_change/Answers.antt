@@ -9,7 +9,8 @@ returns-then-not-steady_at c = rw c.unknown_work.ensures (λ e. absurd (false≢
 
 pub returns : goal.returns
 unfolding pushes_of
-returns c = let at = c.args in
+returns c =
+    let at = c.args in
     let p = c.requires in
     let steady = sym c.steady_at.ensures ∙ c.if-not-steady_at.false in
     rw (

@@ -14,7 +14,8 @@ pub returns-in_default : goal.returns-in_default
 returns-in_default c = rw c.unknown_work-in_default.ensures (λ e. absurd (false≢true e))
 
 pub known_entry-requires : goal.known_entry-requires
-known_entry-requires c = let operand = c.memory_byte-address.ensures in
+known_entry-requires c =
+    let operand = c.memory_byte-address.ensures in
     let second = c.next_address-second.ensures in
     let third = c.next_address.ensures in
     let later = either_false (c.is_register.result || c.is_register-2.result) _ c.if-is_register.false in

@@ -5,7 +5,8 @@ use Rattle.r6501q_span_reads.proofs.known.known_store.Goals as goal
 
 pub returns : goal.returns
 unfolding pushes_of
-returns c = let at = c.args in
+returns c =
+    let at = c.args in
     let p = c.requires in
     rw (
       c.known_work.ensures,

@@ -17,7 +17,8 @@ returns-then-n-count c = rw (
 )
 
 pub overflow_sub-c-2 : goal.overflow_sub-c-2
-overflow_sub-c-2 c = let a = c.args in
+overflow_sub-c-2 c =
+    let a = c.args in
     omega (arith, mod-lt (a.n.0 - a.c.count - 1) {m = a.c.latch + 1} (omega arith))
 
 pub returns : goal.returns

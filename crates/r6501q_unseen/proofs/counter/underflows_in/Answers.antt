@@ -10,7 +10,8 @@ unfolding underflows_in
 returns-then-n-count c = rw (le-leb _ _ c.if-n-count.true)
 
 pub overflow_add-result : goal.overflow_add-result
-overflow_add-result c = let a = c.args in
+overflow_add-result c =
+    let a = c.args in
     omega (arith, div-le_self (a.n.0 - a.c.count - 1) (a.c.latch + 1))
 
 pub returns : goal.returns

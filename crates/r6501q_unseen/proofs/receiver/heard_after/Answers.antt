@@ -11,7 +11,8 @@ returns-then-not-listens c = rw (
 )
 
 pub waited_for-requires : goal.waited_for-requires
-waited_for-requires c = let a = c.args in
+waited_for-requires c =
+    let a = c.args in
     let on = rw c.receiver_asynchronous.ensures
     at
     (c.if-not-listens.false) in
@@ -20,7 +21,8 @@ waited_for-requires c = let a = c.args in
 
 pub returns-then-r-eq0 : goal.returns-then-r-eq0
 unfolding heard_after looked_for
-returns-then-r-eq0 c = let a = c.args in
+returns-then-r-eq0 c =
+    let a = c.args in
     let on = c.if-not-listens.false in
     rw (
       c.waited_for.ensures,
@@ -31,7 +33,8 @@ returns-then-r-eq0 c = let a = c.args in
     )
 
 pub taken_for-requires : goal.taken_for-requires
-taken_for-requires c = let a = c.args in
+taken_for-requires c =
+    let a = c.args in
     let on = rw c.receiver_asynchronous.ensures
     at
     (c.if-not-listens.false) in
@@ -40,7 +43,8 @@ taken_for-requires c = let a = c.args in
 
 pub returns : goal.returns
 unfolding heard_after looked_for
-returns c = let a = c.args in
+returns c =
+    let a = c.args in
     let on = c.if-not-listens.false in
     rw (
       c.taken_for.ensures,

@@ -4,10 +4,12 @@ use borrow.Author.Tests.{eq-eqb, ne_eqb}
 use Rattle.r6501q_unseen.proofs.receiver.waited_for.Goals as goal
 
 pub overflow_add-r : goal.overflow_add-r
-overflow_add-r c = let k = c.requires (c.if-not-high.true) in omega arith
+overflow_add-r c =
+    let k = c.requires (c.if-not-high.true) in omega arith
 
 pub overflow_cast-r-then-not-high : goal.overflow_cast-r-then-not-high
-overflow_cast-r-then-not-high c = let k = c.requires (c.if-not-high.true) in omega arith
+overflow_cast-r-then-not-high c =
+    let k = c.requires (c.if-not-high.true) in omega arith
 
 pub returns-then-not-high : goal.returns-then-not-high
 unfolding waited_looks

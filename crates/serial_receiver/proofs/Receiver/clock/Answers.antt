@@ -22,7 +22,8 @@ returns-then-asynchronous c = rw (← c.receiver_asynchronous.ensures, ← c.tic
 
 pub returns-then-shifting : goal.returns-then-shifting
 unfolding receiver_clock
-returns-then-shifting c = let a = c.args in
+returns-then-shifting c =
+    let a = c.args in
     rw c.rise.ensures
     (sym (at-rise a.self a.ticks a.rise a.sccr a.scsr a.received a.high
     (rw c.receiver_asynchronous.ensures at c.if-asynchronous.false)

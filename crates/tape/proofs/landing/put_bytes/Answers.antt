@@ -9,7 +9,8 @@ use native.Mathlib.Omega.{arith}
 use Rattle.tape.proofs.landing.put_bytes.Goals as goal
 
 pub loop-k-init : goal.loop-k-init
-loop-k-init c = let at = c.args in
+loop-k-init c =
+    let at = c.args in
     let low = c.dropped-k.ensures in
     let words : SixteenBits at.sums.now = λ p. omega (arith, c.type_inv.sums p) in (
       refl,
@@ -34,7 +35,8 @@ pub bounds-digits-k-in-loop-k : goal.bounds-digits-k-in-loop-k
 bounds-digits-k-in-loop-k c = omega arith
 
 pub commit_byte-requires : goal.commit_byte-requires
-commit_byte-requires c = let loop = c.loop-k in
+commit_byte-requires c =
+    let loop = c.loop-k in
     let test = c.loop-k-test.true in
     let inside : loop.k < length loop.part = omega (arith, loop.invariant.0, c.requires.0, test) in
     (inside, omega (arith, loop.invariant.0, c.requires.1, inside))
@@ -46,7 +48,8 @@ pub loop-k-smaller : goal.loop-k-smaller
 loop-k-smaller c = omega (arith, c.loop-k-test.true)
 
 pub loop-k-preserved : goal.loop-k-preserved
-loop-k-preserved c = let at = c.args in
+loop-k-preserved c =
+    let at = c.args in
     let loop = c.loop-k in
     let test = c.loop-k-test.true in
     let low = register_end - at.address in (
@@ -62,12 +65,14 @@ pub shape_of-part : goal.shape_of-part
 shape_of-part c = c.loop-k.invariant.0
 
 pub shape_of-sums : goal.shape_of-sums
-shape_of-sums c = let at = c.args in
+shape_of-sums c =
+    let at = c.args in
     ap length c.loop-k.invariant.3
     ∙ sums_length at.address at.sums.now at.part.now c.loop-k.part
 
 pub returns : goal.returns
-returns c = let at = c.args in
+returns c =
+    let at = c.args in
     let loop = c.loop-k in record {
       part_after = sym (put_end (register_end - at.address) at.digits.now loop.k loop.part c.loop-k-test.false)
           ∙ loop.invariant.2;

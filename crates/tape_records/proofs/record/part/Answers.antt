@@ -18,6 +18,7 @@ returns-then-text-from-2 c = take_all (length c.args.text.now - c.args.from)
     (omega (arith, length-drop c.args.from c.args.text.now)))
 
 pub returns : goal.returns
-returns c = let e : c.args.from + c.args.n
+returns c =
+    let e : c.args.from + c.args.n
     - c.args.from ≡ c.args.n = omega arith in
     rw e

@@ -4,7 +4,8 @@ use Rattle.test_states.proofs.Equal.Pair.{tested}
 use Rattle.test_states.proofs.same.same_peripherals.Goals as goal
 
 pub returns : goal.returns
-returns c e = let parts = all (tested c.same_ports.result
+returns c e =
+    let parts = all (tested c.same_ports.result
     ∷ tested c.same_counter_a.result
     ∷ tested c.same_counter_b.result
     ∷ tested c.same_control.result

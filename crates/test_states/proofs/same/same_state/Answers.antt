@@ -4,7 +4,8 @@ use Rattle.test_states.proofs.Equal.Pair.{numbers, tested}
 use Rattle.test_states.proofs.same.same_state.Goals as goal
 
 pub returns : goal.returns
-returns c e = let parts = all (tested c.same_cpu.result
+returns c e =
+    let parts = all (tested c.same_cpu.result
     ∷ tested c.same_due.result
     ∷ tested c.same_peripherals.result
     ∷ tested c.same_levels.result ∷ tested c.same_levels-2.result
