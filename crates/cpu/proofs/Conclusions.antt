@@ -118,7 +118,7 @@ module _ (mode : Mode) (n : ℕ) (r : CpuRegisters) where
       → (ws : List Write) (p : Located) (after : CpuRegisters)
       → after.status ≡ r.status → (taken : Bool)
       → EndsIn (Concludes o mode n r.status) ws (branch_on n p after taken)
-  unfolding branch_on byte_waits
+  unfolding branch_on
   branch_concludes o none ws p after e true =
       concludes o mode n r.status ws _ none refl (same_kept o r.status after.status e)
   branch_concludes o none ws p after e false =
@@ -126,7 +126,7 @@ module _ (mode : Mode) (n : ℕ) (r : CpuRegisters) where
 
   pub operation_concludes : (o : Operation) → EndsIn (Concludes o mode n r.status) [] (operation_accesses o mode n r)
   unfolding operation_accesses completion store_at modify_accesses branch_on bit_branch_accesses jump_to push_accesses
-      pull_accesses return_accesses interrupt_return_accesses entry_accesses break_accesses jsr_accesses byte_waits
+      pull_accesses return_accesses interrupt_return_accesses entry_accesses break_accesses jsr_accesses
   operation_concludes (operation.Read o) =
       placed (operation.Read o) _
       (λ ws p q v. concludes _ mode n r.status ws _ refl refl (read_keeps o (past_operand p r) v))

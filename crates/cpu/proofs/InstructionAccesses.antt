@@ -1,5 +1,6 @@
 -- An instruction worked with the answers so far is its accesses, asked: one lemma for each part of it, by the bus and
 -- by its accesses.
+use Rattle.std.specs.Prelude.{None, Option, Some}
 use mathlib.Core.Path.{◌≡◌, refl, sym, ap, ◌∙◌}
 use mathlib.Core.Bool.{Bool, true, false, cond}
 use mathlib.Core.List.{List, [], ◌∷◌}
@@ -27,8 +28,6 @@ use Rattle.cpu_access.specs.declared.CpuRegisters.{CpuRegisters}
 use Rattle.cpu_modes.specs.declared.Place.{Place}
 use Rattle.cpu_access.specs.declared.stack.Write.{Write}
 use Rattle.cpu_access.specs.declared.stack.Writes.{Writes}
-use Rattle.cpu_access.specs.declared.waiting.Waiting.{Waiting}
-use Rattle.cpu_access.specs.declared.waiting.Waiting.TheVariants as waiting
 use Rattle.cpu_access.specs.Bus.{memory_byte, next_address, vector_of, unasked, got, answered, asking, ask_of}
 use Rattle.cpu_access.specs.Bus.{read_of, fetch_of}
 use Rattle.cpu_access.specs.Stack.{no_writes, stack_address, down, up, push_high, push_low, push_at, push_address}
@@ -64,27 +63,27 @@ use Rattle.cpu.specs.InstructionAccesses.{instruction_accesses}
 
 -- What was asked, or how it ended, as the code has it. Of an instruction that pushes and stores the code has no words,
 -- and there is none: four pushes stand for it, and no instruction has so many (`done_fits`).
-abbrev pub writing_as : Waiting → List Write → Writing
-writing_as waiting.Nothing [] = writing.Nothing
-writing_as waiting.Nothing (w ∷ ws) = writing.Pushed (in_order (w ∷ ws))
-writing_as (waiting.Byte x) [] = writing.Stored x
-writing_as (waiting.Byte x) (w ∷ ws) = writing.Pushed (in_order (w ∷ w ∷ w ∷ w ∷ ws))
+abbrev pub writing_as : Option Write → List Write → Writing
+writing_as None [] = writing.Nothing
+writing_as None (w ∷ ws) = writing.Pushed (in_order (w ∷ ws))
+writing_as (Some x) [] = writing.Stored x
+writing_as (Some x) (w ∷ ws) = writing.Pushed (in_order (w ∷ w ∷ w ∷ w ∷ ws))
 
-pub pushes_as : (store : Waiting) (pushes : List Write) → (pushes_of (writing_as store pushes)).count ≤ 3
+pub pushes_as : (store : Option Write) (pushes : List Write) → (pushes_of (writing_as store pushes)).count ≤ 3
     → pushes_of (writing_as store pushes) ≡ in_order pushes
 unfolding pushes_of in_order
-pushes_as waiting.Nothing [] h = refl
-pushes_as waiting.Nothing (w ∷ ws) h = refl
-pushes_as (waiting.Byte x) [] h = refl
-pushes_as (waiting.Byte x) (w ∷ ws) h = absurd (omega (arith, h))
+pushes_as None [] h = refl
+pushes_as None (w ∷ ws) h = refl
+pushes_as (Some x) [] h = refl
+pushes_as (Some x) (w ∷ ws) h = absurd (omega (arith, h))
 
-pub waiting_as : (store : Waiting) (pushes : List Write) → (pushes_of (writing_as store pushes)).count ≤ 3
+pub waiting_as : (store : Option Write) (pushes : List Write) → (pushes_of (writing_as store pushes)).count ≤ 3
     → waiting_of (writing_as store pushes) ≡ store
 unfolding pushes_of waiting_of in_order
-waiting_as waiting.Nothing [] h = refl
-waiting_as waiting.Nothing (w ∷ ws) h = refl
-waiting_as (waiting.Byte x) [] h = refl
-waiting_as (waiting.Byte x) (w ∷ ws) h = absurd (omega (arith, h))
+waiting_as None [] h = refl
+waiting_as None (w ∷ ws) h = refl
+waiting_as (Some x) [] h = refl
+waiting_as (Some x) (w ∷ ws) h = absurd (omega (arith, h))
 
 abbrev pub worked_of : Conclusion → List Write → Worked
 worked_of l pushes = record { registers = l.registers; writing = writing_as l.waiting pushes; length = l.clocks }

@@ -1,6 +1,6 @@
 -- One whole instruction and the entries by their accesses, in the order of the Programming Manual's cycles, idle ones
 -- left out (01, One clock, 4).
-use Rattle.std.specs.Prelude.{Bool, true, false, cond, ℕ, ◌+◌}
+use Rattle.std.specs.Prelude.{Bool, true, false, cond, ℕ, ◌+◌, None, Option, Some}
 use Rattle.bits.specs.Bits.{one_where, low_byte, high_byte, word16}
 use Rattle.cpu_opcodes.specs.Decode.{decode_of}
 use Rattle.cpu_opcodes.specs.declared.Decoded.{Decoded}
@@ -12,9 +12,8 @@ use Rattle.cpu_opcodes.specs.declared.operation.ModifyOperation.{ModifyOperation
 use Rattle.cpu_opcodes.specs.declared.operation.PullOperation.{PullOperation}
 use Rattle.cpu_alu.specs.Status.{unpacked, pushed, with_i}
 use Rattle.cpu_alu.specs.declared.Computed.{Computed}
+use Rattle.cpu_access.specs.declared.stack.Write.{Write}
 use Rattle.cpu_access.specs.declared.CpuRegisters.{CpuRegisters}
-use Rattle.cpu_access.specs.declared.waiting.Waiting.{Waiting}
-use Rattle.cpu_access.specs.declared.waiting.Waiting.TheVariants.{Nothing, Byte}
 use Rattle.cpu_access.specs.Bus.{next_address, reset_vector, irq_vector}
 use Rattle.cpu_access.specs.Stack.{write_at, stack_address, down, up}
 use Rattle.cpu_access.specs.Accesses.{Accesses, ends, ◌>>=◌, ◌>>◌, byte_at, byte_to_modify, address_at, push}
@@ -27,7 +26,7 @@ use Rattle.cpu_kinds.specs.Kinds.{with_pulled, with_register, with_flag}
 -- the clocks that it takes
 pub record Conclusion : Type 0 where
   pub registers : CpuRegisters
-  pub waiting : Waiting
+  pub waiting : Option Write
   pub clocks : ℕ
 
 -- an opcode may be undefined
@@ -40,7 +39,7 @@ abbrev pub undefined_stop : ℕ
 undefined_stop = 6
 
 abbrev pub conclusion : CpuRegisters → ℕ → Conclusion
-conclusion r n = record { registers = r; waiting = Nothing; clocks = n }
+conclusion r n = record { registers = r; waiting = None; clocks = n }
 
 -- ---- by kind; n is the length in the opcode's row, p the operand's place
 
@@ -49,7 +48,7 @@ unfoldable pub completion : ℕ → Located → CpuRegisters → Accesses Conclu
 completion n p r = ends (conclusion r (n + one_where p.crossed))
 
 unfoldable pub store_at : ℕ → Located → CpuRegisters → ℕ → Accesses Conclusion
-store_at n p r v = ends (record { registers = r; waiting = Byte (write_at p.address v); clocks = n })
+store_at n p r v = ends (record { registers = r; waiting = Some (write_at p.address v); clocks = n })
 
 -- a byte that was read and changed goes back to where it came from
 abbrev pub store_back : ℕ → Located → CpuRegisters → Computed → Accesses Conclusion

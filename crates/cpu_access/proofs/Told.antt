@@ -1,10 +1,8 @@
 -- 02, U4: an instruction or entry "tells which addresses it wrote, at most three, in order". The writes as a list; what
 -- is done with each write in turn is done along that list; and a halt address is one of it.
-use Rattle.std.proofs.Common.{◌≡◌, ℕ, zero, suc, ◌≤◌, Bool, true, false, ◌&&◌, ◌||◌, eqb, List, [], ◌∷◌, length, take, sym, refl, ◌∙◌, arith, length-take, take_all, lt-ltb}
+use Rattle.std.proofs.Common.{◌≡◌, ℕ, zero, suc, ◌≤◌, Bool, true, false, ◌&&◌, ◌||◌, eqb, List, [], ◌∷◌, length, take, sym, refl, ◌∙◌, arith, length-take, take_all, lt-ltb, None, Option, Some}
 use Rattle.cpu_access.specs.declared.stack.Write.{Write}
 use Rattle.cpu_access.specs.declared.stack.Writes.{Writes}
-use Rattle.cpu_access.specs.declared.halt.Halt.{Halt}
-use Rattle.cpu_access.specs.declared.halt.Halt.TheVariants.{Nowhere, At}
 use Rattle.cpu_access.specs.Stack.{each_write}
 use Rattle.cpu_access.specs.Accesses.{in_order}
 use Rattle.cpu_access.specs.Halt.{is_written, halts}
@@ -73,12 +71,12 @@ module _ (address : ℕ) where
       grouped false q r = refl
 
   -- "the instruction that writes a chosen address": it is one of those told, by a push or not, a register's or not
-  pub halts_told : (w : Writes) → halts (At address) w ≡ told_at address (told w)
+  pub halts_told : (w : Writes) → halts (Some address) w ≡ told_at address (told w)
   unfolding halts is_written
   halts_told w = each_told found (λ x b. or_none b) w false ∙ found_once (told w) false
 
 -- what writes nothing writes no halt address
-pub unwritten : (halt : Halt) (w : Writes) → w.count ≡ 0 → halts halt w ≡ false
+pub unwritten : (halt : Option ℕ) (w : Writes) → w.count ≡ 0 → halts halt w ≡ false
 unfolding halts is_written
-unwritten Nowhere w e = refl
-unwritten (At address) w e = rw e
+unwritten None w e = refl
+unwritten (Some address) w e = rw e

@@ -5,13 +5,6 @@ ghost use Rattle.cpu_access.specs.Halt.{is_written, halts, writes_register, ends
 use crate::stack::Writes;
 use memory::is_register;
 
-// The address at whose write a run halts, or none.
-#[derive(Clone, Copy)]
-pub enum Halt {
-    Nowhere,
-    At(u16),
-}
-
 // Whether one of the writes is at an address.
 fn is_written(writes: Writes, address: u16) -> bool
     ensures { result ≡ is_written address writes }
@@ -22,14 +15,12 @@ fn is_written(writes: Writes, address: u16) -> bool
     first | second | third
 }
 
-// Whether one of the writes is at the halt address.
-pub fn halts(writes: Writes, halt: Halt) -> bool
+// Whether one of the writes is at the halt address, where there is one.
+#[tactic(auto, unfolding(crate::specs::Halt::halts))]
+pub fn halts(writes: Writes, halt: Option<u16>) -> bool
     ensures { result ≡ halts halt writes }
 {
-    match halt {
-        Halt::Nowhere => false,
-        Halt::At(address) => is_written(writes, address),
-    }
+    halt.is_some_and(|address| is_written(writes, address))
 }
 
 // Whether one of the writes is at a register's address.
@@ -43,7 +34,7 @@ fn writes_register(w: Writes) -> bool
 }
 
 // Whether a clock with these writes is left to the clock's own rules.
-pub fn ends_span(w: Writes, halt: Halt) -> bool
+pub fn ends_span(w: Writes, halt: Option<u16>) -> bool
     ensures { result ≡ ends_span halt w }
 {
     let register = writes_register(w);

@@ -24,7 +24,6 @@ pub const IRQ_VECTOR: u16 = 0xFFFE;
 
 pub mod stack; // stack.rt: the writes of an instruction, and the stack
 pub mod halt; // halt.rt: the halt address
-pub mod waiting; // waiting.rt: the byte that a store has still to put
 
 // What an instruction works on.
 #[derive(Clone, Copy)]

@@ -1,4 +1,5 @@
 -- What each kind of operation gives is one instruction whole, or leaves all as it was.
+use Rattle.std.specs.Prelude.{Option}
 use mathlib.Core.Path.{◌≡◌, refl, sym, ap, subst, ◌∙◌}
 use mathlib.Core.Bool.{Bool, true, false, ◌||◌, cond}
 use mathlib.Core.List.{List, []}
@@ -25,7 +26,6 @@ use Rattle.cpu_opcodes.specs.declared.operation.ReadOperation.{ReadOperation}
 use Rattle.cpu_opcodes.specs.declared.operation.RegisterOperation.{RegisterOperation}
 use Rattle.cpu_opcodes.specs.declared.operation.StoreOperation.{StoreOperation}
 use Rattle.cpu_access.specs.declared.CpuRegisters.{CpuRegisters}
-use Rattle.cpu_access.specs.declared.halt.Halt.{Halt}
 use Rattle.cpu_modes.specs.declared.Place.{Place}
 use Rattle.cpu_access.specs.declared.stack.Write.{Write}
 use Rattle.cpu_access.specs.declared.stack.Writes.{Writes}
@@ -72,7 +72,7 @@ unfolding instruction_of fetch_of read_of
 opcode_executes r memory e free d = rw (free, d) refl
 
 -- nothing is pushed: no span ends, and memory stays
-nothing_ends : (halt : Halt) → ends_span halt (pushes_of Nothing) ≡ false
+nothing_ends : (halt : Option ℕ) → ends_span halt (pushes_of Nothing) ≡ false
 unfolding pushes_of
 nothing_ends = no_writes_end
 
@@ -80,7 +80,7 @@ nothing_committed : (memory : List ℕ) → committed memory (pushes_of Nothing)
 unfolding committed put_write pushes_of
 nothing_committed memory = refl
 
-module _ (halt : Halt) (span : ℕ) (w : Work) (memory : List ℕ) (inside : w.gone.0 + w.wait < span)
+module _ (halt : Option ℕ) (span : ℕ) (w : Work) (memory : List ℕ) (inside : w.gone.0 + w.wait < span)
     (free : is_register w.registers.pc ≡ false) where
   abbrev behind : CpuRegisters
   behind = with_pc (next_address w.registers.pc) w.registers

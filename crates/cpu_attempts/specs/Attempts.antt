@@ -1,5 +1,5 @@
 -- One instruction of a span tried by its opcode: done whole, with the byte that it stores put, or not at all.
-use Rattle.std.specs.Prelude.{◌≡◌, Bool, true, false, ◌||◌, cond, List, [], ℕ, ◌+◌, ◌-◌, ◌≤◌, ◌<◌, ltb}
+use Rattle.std.specs.Prelude.{◌≡◌, Bool, true, false, ◌||◌, cond, List, [], ℕ, ◌+◌, ◌-◌, ◌≤◌, ◌<◌, ltb, None, Option}
 use Rattle.bits.specs.Bits.{one_where}
 use Rattle.memory.specs.Memory.{is_register}
 use Rattle.cpu_opcodes.specs.declared.operation.BitBranchOperation.{BitBranchOperation}
@@ -10,11 +10,9 @@ use Rattle.cpu_opcodes.specs.declared.operation.ReadOperation.{ReadOperation}
 use Rattle.cpu_opcodes.specs.declared.operation.RegisterOperation.{RegisterOperation}
 use Rattle.cpu_opcodes.specs.declared.operation.StoreOperation.{StoreOperation}
 use Rattle.cpu_access.specs.declared.CpuRegisters.{CpuRegisters}
-use Rattle.cpu_access.specs.declared.halt.Halt.{Halt}
 use Rattle.cpu_modes.specs.declared.Place.{Place}
 use Rattle.cpu_access.specs.declared.stack.Write.{Write}
 use Rattle.cpu_access.specs.declared.stack.Writes.{Writes}
-use Rattle.cpu_access.specs.declared.waiting.Waiting.TheVariants as waiting
 use Rattle.cpu_access.specs.declared.Fetched.{Fetched}
 use Rattle.cpu_access.specs.declared.Got.{Got}
 use Rattle.cpu_access.specs.declared.stack.Pulled.{Pulled}
@@ -43,9 +41,9 @@ use Rattle.cpu_attempts.specs.declared.Attempt.{Attempt}
 
 -- one instruction whole: one that leaves no byte waiting, its pushes in memory; or a store, on whose last clock, within
 -- the span too, its byte is put. Neither writes to a register or at the halt address.
-pub data Instructed (halt : Halt) (span : ℕ) (w : Work) (memory : List ℕ) : Work → List ℕ → Type 0 where
+pub data Instructed (halt : Option ℕ) (span : ℕ) (w : Work) (memory : List ℕ) : Work → List ℕ → Type 0 where
   pushing : (worked : Worked) → w.gone.0 + w.wait < span → instruction_of w.registers [] memory ≡ Done worked
-      → waiting_of worked.writing ≡ waiting.Nothing → ends_span halt (pushes_of worked.writing) ≡ false
+      → waiting_of worked.writing ≡ None → ends_span halt (pushes_of worked.writing) ≡ false
       → Instructed halt span w memory (next_work w worked) (committed memory (pushes_of worked.writing))
   storing : (worked : Worked) (x : Write) → w.gone.0 + w.wait + worked.length ≤ span → 1 < worked.length
       → instruction_of w.registers [] memory ≡ Done worked → worked.writing ≡ Stored x
@@ -53,7 +51,7 @@ pub data Instructed (halt : Halt) (span : ℕ) (w : Work) (memory : List ℕ) : 
       → Instructed halt span w memory (waited_out (next_work w worked)) (committed memory (one_write x))
 
 -- what is tried leaves all as it was, or is one instruction whole
-pub data Tries (halt : Halt) (span : ℕ) (w : Work) (memory : List ℕ) : Attempt → List ℕ → Type 0 where
+pub data Tries (halt : Option ℕ) (span : ℕ) (w : Work) (memory : List ℕ) : Attempt → List ℕ → Type 0 where
   unchanged : Tries halt span w memory (record { succeeded = false; work = w }) memory
   whole : {w' : Work} {memory' : List ℕ} → Instructed halt span w memory w' memory'
       → Tries halt span w memory (record { succeeded = true; work = w' }) memory'
@@ -79,7 +77,7 @@ abbrev pub asks_for : Place → Bool
 asks_for p = p.bus.missing || is_register p.address
 
 -- a store is left undone: at a register, at the halt address, or where its last clock lies behind the span
-abbrev pub store_deferred : Halt → ℕ → Work → Write → ℕ → Bool
+abbrev pub store_deferred : Option ℕ → ℕ → Work → Write → ℕ → Bool
 store_deferred halt span w x n = ends_span halt (one_write x) || ltb (span - w.gone.0) (w.wait + n)
 
 unfoldable pub read_tried : ReadOperation → Work → List ℕ → Place → ℕ → Attempt
@@ -89,19 +87,19 @@ read_tried o w memory p n =
     (n + one_where p.crossed))
 
 -- a byte is stored by an instruction that leaves the registers r
-unfoldable pub store_tried : Halt → ℕ → Work → CpuRegisters → Write → ℕ → Attempt
+unfoldable pub store_tried : Option ℕ → ℕ → Work → CpuRegisters → Write → ℕ → Attempt
 store_tried halt span w r x n = cond (store_deferred halt span w x n) (failed_attempt w) (stored_whole w r n)
 
-unfoldable pub store_memory : Halt → ℕ → Work → Write → ℕ → List ℕ → List ℕ
+unfoldable pub store_memory : Option ℕ → ℕ → Work → Write → ℕ → List ℕ → List ℕ
 store_memory halt span w x n memory = cond (store_deferred halt span w x n) memory (committed memory (one_write x))
 
 -- STA, STX and STY
-unfoldable pub save_tried : Halt → ℕ → StoreOperation → Work → Place → ℕ → Attempt
+unfoldable pub save_tried : Option ℕ → ℕ → StoreOperation → Work → Place → ℕ → Attempt
 save_tried halt span o w p n =
     cond (asks_for p) (failed_attempt w)
     (store_tried halt span w (with_pc p.pc w.registers) (write_at p.address (byte_to_store o w.registers)) n)
 
-unfoldable pub save_memory : Halt → ℕ → StoreOperation → Work → Place → ℕ → List ℕ → List ℕ
+unfoldable pub save_memory : Option ℕ → ℕ → StoreOperation → Work → Place → ℕ → List ℕ → List ℕ
 save_memory halt span o w p n memory =
     cond (asks_for p) memory (store_memory halt span w (write_at p.address (byte_to_store o w.registers)) n memory)
 
@@ -109,13 +107,13 @@ save_memory halt span o w p n memory =
 abbrev pub changed_at : ModifyOperation → Work → List ℕ → Place → Computed
 changed_at o w memory p = changed_by o (memory_byte memory p.address) w.registers.status
 
-unfoldable pub change_tried : Halt → ℕ → ModifyOperation → Work → List ℕ → Place → ℕ → Attempt
+unfoldable pub change_tried : Option ℕ → ℕ → ModifyOperation → Work → List ℕ → Place → ℕ → Attempt
 change_tried halt span o w memory p n =
     cond (asks_for p) (failed_attempt w)
     (store_tried halt span w (with_status (changed_at o w memory p).status (with_pc p.pc w.registers))
     (write_at p.address (changed_at o w memory p).value) n)
 
-unfoldable pub change_memory : Halt → ℕ → ModifyOperation → Work → List ℕ → Place → ℕ → List ℕ
+unfoldable pub change_memory : Option ℕ → ℕ → ModifyOperation → Work → List ℕ → Place → ℕ → List ℕ
 change_memory halt span o w memory p n =
     cond (asks_for p) memory (store_memory halt span w (write_at p.address (changed_at o w memory p).value) n memory)
 
@@ -140,12 +138,12 @@ unfoldable pub jump_tried : Work → Place → ℕ → Attempt
 jump_tried w p n = cond p.bus.missing (failed_attempt w) (started_next w (with_pc p.address w.registers) n)
 
 -- PHA and PHP
-unfoldable pub push_tried : Halt → Work → ℕ → ℕ → ℕ → Attempt
+unfoldable pub push_tried : Option ℕ → Work → ℕ → ℕ → ℕ → Attempt
 push_tried halt w v pc n =
     cond (ends_span halt (one_write (push_at w.registers.sp v))) (failed_attempt w)
     (started_next w (with_sp (down w.registers.sp) (with_pc pc w.registers)) n)
 
-unfoldable pub push_memory : Halt → Work → ℕ → List ℕ → List ℕ
+unfoldable pub push_memory : Option ℕ → Work → ℕ → List ℕ → List ℕ
 push_memory halt w v memory =
     cond (ends_span halt (one_write (push_at w.registers.sp v))) memory
     (committed memory (one_write (push_at w.registers.sp v)))
@@ -166,20 +164,20 @@ jsr_pushes w l = push_address w.registers.sp l.pc
 abbrev pub jsr_upper : List ℕ → Work → Fetched → Got
 jsr_upper memory w l = read_after [] memory (jsr_pushes w l) l.pc l.bus
 
-abbrev pub jsr_attempt : Halt → Work → ℕ → Fetched → Got → Attempt
+abbrev pub jsr_attempt : Option ℕ → Work → ℕ → Fetched → Got → Attempt
 jsr_attempt halt w n l u =
     cond (u.bus.missing || ends_span halt (jsr_pushes w l)) (failed_attempt w)
     (started_next w (with_pc (word16 u.value l.value) (with_sp (down (down w.registers.sp)) w.registers)) n)
 
-abbrev pub jsr_bytes : Halt → Work → List ℕ → Fetched → Got → List ℕ
+abbrev pub jsr_bytes : Option ℕ → Work → List ℕ → Fetched → Got → List ℕ
 jsr_bytes halt w memory l u =
     cond (u.bus.missing || ends_span halt (jsr_pushes w l)) memory (committed memory (jsr_pushes w l))
 
-unfoldable pub jsr_tried : Halt → Work → List ℕ → ℕ → ℕ → Attempt
+unfoldable pub jsr_tried : Option ℕ → Work → List ℕ → ℕ → ℕ → Attempt
 jsr_tried halt w memory pc n =
     jsr_attempt halt w n (fetch_of [] memory pc unasked) (jsr_upper memory w (fetch_of [] memory pc unasked))
 
-unfoldable pub jsr_memory : Halt → Work → List ℕ → ℕ → List ℕ
+unfoldable pub jsr_memory : Option ℕ → Work → List ℕ → ℕ → List ℕ
 jsr_memory halt w memory pc =
     jsr_bytes halt w memory (fetch_of [] memory pc unasked) (jsr_upper memory w (fetch_of [] memory pc unasked))
 

@@ -1,18 +1,17 @@
 -- What an instruction leaves, by kind: the registers, what it writes, and the clocks that it takes.
-use Rattle.std.specs.Prelude.{Bool, true, false, cond, List, ℕ, ◌+◌}
+use Rattle.std.specs.Prelude.{Bool, true, false, cond, List, ℕ, ◌+◌, None, Option, Some}
 use Rattle.bits.specs.Bits.{one_where}
 use Rattle.cpu_opcodes.specs.declared.operation.PullOperation.{PullOperation}
 use Rattle.cpu_alu.specs.Status.{unpacked, pushed, with_i}
 use Rattle.cpu_alu.specs.declared.Status.{Status}
 use Rattle.cpu_alu.specs.declared.Computed.{Computed}
+use Rattle.cpu_access.specs.declared.stack.Write.{Write}
 use Rattle.cpu_access.specs.declared.Bus.{Bus}
 use Rattle.cpu_access.specs.declared.CpuRegisters.{CpuRegisters}
 use Rattle.cpu_modes.specs.declared.Place.{Place}
 use Rattle.cpu_access.specs.declared.stack.Writes.{Writes}
 use Rattle.cpu_access.specs.declared.stack.Pulled.{Pulled}
 use Rattle.cpu_access.specs.declared.stack.PulledAddress.{PulledAddress}
-use Rattle.cpu_access.specs.declared.waiting.Waiting.{Waiting}
-use Rattle.cpu_access.specs.declared.waiting.Waiting.TheVariants as waiting
 use Rattle.cpu_access.specs.Bus.{irq_vector, next_address, vector_of, fetch_of}
 use Rattle.cpu_access.specs.Stack.{write_at, no_writes, one_write, down, push_at, push_interrupt, pull_of, pull_address}
 use Rattle.cpu_modes.specs.Modes.{relative_to}
@@ -32,10 +31,10 @@ pushes_of (Pushed w) = w
 pushes_of (Stored x) = no_writes
 
 -- what waits for the last clock: the store
-unfoldable pub waiting_of : Writing → Waiting
-waiting_of Nothing = waiting.Nothing
-waiting_of (Pushed w) = waiting.Nothing
-waiting_of (Stored x) = waiting.Byte x
+unfoldable pub waiting_of : Writing → Option Write
+waiting_of Nothing = None
+waiting_of (Pushed w) = None
+waiting_of (Stored x) = Some x
 
 abbrev pub executed : CpuRegisters → Writing → ℕ → Bus → Executed
 executed r w n b = record { worked = record { registers = r; writing = w; length = n }; bus = b }

@@ -5,7 +5,6 @@ ghost use Rattle.std.specs.Prelude.{◌≡◌};
 ghost use Rattle.cpu_effects.specs.Effects.{pushes_of, waiting_of};
 
 use cpu_access::stack::{Write, Writes, no_writes};
-use cpu_access::waiting::Waiting;
 use cpu_access::{Bus, CpuRegisters};
 
 pub mod effects; // effects.rt: what an instruction leaves, by kind
@@ -45,23 +44,23 @@ pub struct Executed {
 }
 
 // The pushes in their order.
+#[tactic(auto, unfolding(crate::specs::Effects::pushes_of))]
 pub fn pushes_of(writing: Writing) -> Writes
     ensures { result ≡ pushes_of writing }
 {
     match writing {
-        Writing::Nothing => no_writes(),
+        Writing::Nothing | Writing::Stored(_) => no_writes(),
         Writing::Pushed(pushes) => pushes,
-        Writing::Stored(_) => no_writes(),
     }
 }
 
 // The store, which waits for the last clock.
-pub fn waiting_of(writing: Writing) -> Waiting
+#[tactic(auto, unfolding(crate::specs::Effects::waiting_of))]
+pub fn waiting_of(writing: Writing) -> Option<Write>
     ensures { result ≡ waiting_of writing }
 {
     match writing {
-        Writing::Nothing => Waiting::Nothing,
-        Writing::Pushed(_) => Waiting::Nothing,
-        Writing::Stored(store) => Waiting::Byte(store),
+        Writing::Nothing | Writing::Pushed(_) => None,
+        Writing::Stored(store) => Some(store),
     }
 }

@@ -10,7 +10,6 @@ ghost use Rattle.cpu_attempts.specs.Attempts.{Tries};
 
 use counters::time::Clocks;
 use cpu::work::Work;
-use cpu_access::halt::Halt;
 use cpu_access::next_address;
 use cpu_attempts::{Attempt, failed_attempt};
 use cpu_mnemonics::{flow, places, reads, registers};
@@ -20,7 +19,7 @@ pub fn opcodes_80(
     span: Clocks,
     memory: &mut [u8],
     sums: &mut [u16],
-    halt: Halt,
+    halt: Option<u16>,
     opcode: u8,
 ) -> Attempt
     requires wait_bound { (w.gone.0 + w.wait < span.0) × (w.leaps ≤ w.gone.0) }
@@ -92,7 +91,7 @@ pub fn opcodes_90(
     span: Clocks,
     memory: &mut [u8],
     sums: &mut [u16],
-    halt: Halt,
+    halt: Option<u16>,
     opcode: u8,
 ) -> Attempt
     requires wait_bound { (w.gone.0 + w.wait < span.0) × (w.leaps ≤ w.gone.0) }
@@ -180,7 +179,7 @@ pub fn opcodes_a0(
     span: Clocks,
     memory: &mut [u8],
     sums: &mut [u16],
-    halt: Halt,
+    halt: Option<u16>,
     opcode: u8,
 ) -> Attempt
     requires wait_bound { (w.gone.0 + w.wait < span.0) × (w.leaps ≤ w.gone.0) }
@@ -228,7 +227,7 @@ pub fn opcodes_b0(
     span: Clocks,
     memory: &mut [u8],
     sums: &mut [u16],
-    halt: Halt,
+    halt: Option<u16>,
     opcode: u8,
 ) -> Attempt
     requires wait_bound { (w.gone.0 + w.wait < span.0) × (w.leaps ≤ w.gone.0) }
@@ -310,7 +309,7 @@ pub fn opcodes_c0(
     span: Clocks,
     memory: &mut [u8],
     sums: &mut [u16],
-    halt: Halt,
+    halt: Option<u16>,
     opcode: u8,
 ) -> Attempt
     requires wait_bound { (w.gone.0 + w.wait < span.0) × (w.leaps ≤ w.gone.0) }
@@ -365,7 +364,7 @@ pub fn opcodes_d0(
     span: Clocks,
     memory: &mut [u8],
     sums: &mut [u16],
-    halt: Halt,
+    halt: Option<u16>,
     opcode: u8,
 ) -> Attempt
     requires wait_bound { (w.gone.0 + w.wait < span.0) × (w.leaps ≤ w.gone.0) }
@@ -440,7 +439,7 @@ pub fn opcodes_e0(
     span: Clocks,
     memory: &mut [u8],
     sums: &mut [u16],
-    halt: Halt,
+    halt: Option<u16>,
     opcode: u8,
 ) -> Attempt
     requires wait_bound { (w.gone.0 + w.wait < span.0) × (w.leaps ≤ w.gone.0) }
@@ -495,7 +494,7 @@ pub fn opcodes_f0(
     span: Clocks,
     memory: &mut [u8],
     sums: &mut [u16],
-    halt: Halt,
+    halt: Option<u16>,
     opcode: u8,
 ) -> Attempt
     requires wait_bound { (w.gone.0 + w.wait < span.0) × (w.leaps ≤ w.gone.0) }

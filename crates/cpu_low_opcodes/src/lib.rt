@@ -10,7 +10,6 @@ ghost use Rattle.cpu_attempts.specs.Attempts.{Tries};
 
 use counters::time::Clocks;
 use cpu::work::Work;
-use cpu_access::halt::Halt;
 use cpu_access::next_address;
 use cpu_attempts::{Attempt, failed_attempt};
 use cpu_mnemonics::{flow, places, reads, registers};
@@ -20,7 +19,7 @@ pub fn opcodes_00(
     span: Clocks,
     memory: &mut [u8],
     sums: &mut [u16],
-    halt: Halt,
+    halt: Option<u16>,
     opcode: u8,
 ) -> Attempt
     requires wait_bound { (w.gone.0 + w.wait < span.0) × (w.leaps ≤ w.gone.0) }
@@ -72,7 +71,7 @@ pub fn opcodes_10(
     span: Clocks,
     memory: &mut [u8],
     sums: &mut [u16],
-    halt: Halt,
+    halt: Option<u16>,
     opcode: u8,
 ) -> Attempt
     requires wait_bound { (w.gone.0 + w.wait < span.0) × (w.leaps ≤ w.gone.0) }
@@ -147,7 +146,7 @@ pub fn opcodes_20(
     span: Clocks,
     memory: &mut [u8],
     sums: &mut [u16],
-    halt: Halt,
+    halt: Option<u16>,
     opcode: u8,
 ) -> Attempt
     requires wait_bound { (w.gone.0 + w.wait < span.0) × (w.leaps ≤ w.gone.0) }
@@ -202,7 +201,7 @@ pub fn opcodes_30(
     span: Clocks,
     memory: &mut [u8],
     sums: &mut [u16],
-    halt: Halt,
+    halt: Option<u16>,
     opcode: u8,
 ) -> Attempt
     requires wait_bound { (w.gone.0 + w.wait < span.0) × (w.leaps ≤ w.gone.0) }
@@ -277,7 +276,7 @@ pub fn opcodes_40(
     span: Clocks,
     memory: &mut [u8],
     sums: &mut [u16],
-    halt: Halt,
+    halt: Option<u16>,
     opcode: u8,
 ) -> Attempt
     requires wait_bound { (w.gone.0 + w.wait < span.0) × (w.leaps ≤ w.gone.0) }
@@ -331,7 +330,7 @@ pub fn opcodes_50(
     span: Clocks,
     memory: &mut [u8],
     sums: &mut [u16],
-    halt: Halt,
+    halt: Option<u16>,
     opcode: u8,
 ) -> Attempt
     requires wait_bound { (w.gone.0 + w.wait < span.0) × (w.leaps ≤ w.gone.0) }
@@ -406,7 +405,7 @@ pub fn opcodes_60(
     span: Clocks,
     memory: &mut [u8],
     sums: &mut [u16],
-    halt: Halt,
+    halt: Option<u16>,
     opcode: u8,
 ) -> Attempt
     requires wait_bound { (w.gone.0 + w.wait < span.0) × (w.leaps ≤ w.gone.0) }
@@ -460,7 +459,7 @@ pub fn opcodes_70(
     span: Clocks,
     memory: &mut [u8],
     sums: &mut [u16],
-    halt: Halt,
+    halt: Option<u16>,
     opcode: u8,
 ) -> Attempt
     requires wait_bound { (w.gone.0 + w.wait < span.0) × (w.leaps ≤ w.gone.0) }

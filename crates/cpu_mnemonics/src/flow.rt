@@ -14,7 +14,7 @@ ghost use Rattle.cpu_attempts.specs.Attempts.{interrupt_return_tried};
 
 use bits::{bit8, one_where, word16};
 use cpu::work::Work;
-use cpu_access::halt::{Halt, ends_span};
+use cpu_access::halt::ends_span;
 use cpu_access::stack::{Write, down, one_write, push_address, stack_address};
 use cpu_access::{Bus, memory_byte, next_address};
 use cpu_alu::Status;
@@ -81,7 +81,7 @@ pub fn push(
     w: Work,
     memory: &mut [u8],
     sums: &mut [u16],
-    halt: Halt,
+    halt: Option<u16>,
     value: u8,
     pc: u16,
     length: u8,
@@ -96,7 +96,7 @@ pub fn push(
     if ends_span(one_write(x.address, x.value), halt) {
         return failed_attempt(w);
     }
-    put_write(memory, sums, true, x);
+    put_write(memory, sums, x);
     let r = with_pc(w.registers, pc);
     started_next(w, with_sp(r, down(sp)), length)
 }
@@ -132,7 +132,14 @@ pub fn plp(w: Work, memory: &[u8], pc: u16, length: u8) -> Attempt
 }
 
 // JSR.
-pub fn jsr(w: Work, memory: &mut [u8], sums: &mut [u16], halt: Halt, pc: u16, length: u8) -> Attempt
+pub fn jsr(
+    w: Work,
+    memory: &mut [u8],
+    sums: &mut [u16],
+    halt: Option<u16>,
+    pc: u16,
+    length: u8,
+) -> Attempt
     requires { (w.gone.0 + w.wait + 1 ≤ 4294967295) × (w.leaps + 1 ≤ 4294967295) }
     ensures value { result ≡ jsr_tried halt w memory.old pc length }
     ensures memory_after { memory.new ≡ jsr_memory halt w memory.old pc }
@@ -249,7 +256,14 @@ pub fn bvs(w: Work, p: Place, length: u8) -> Attempt
     branch(w, status.v, p, length)
 }
 
-pub fn pha(w: Work, memory: &mut [u8], sums: &mut [u16], halt: Halt, pc: u16, length: u8) -> Attempt
+pub fn pha(
+    w: Work,
+    memory: &mut [u8],
+    sums: &mut [u16],
+    halt: Option<u16>,
+    pc: u16,
+    length: u8,
+) -> Attempt
     requires { (w.gone.0 + w.wait + 1 ≤ 4294967295) × (w.leaps + 1 ≤ 4294967295) }
     ensures value { result ≡ push_tried halt w (byte_to_push Pha w.registers) pc length }
     ensures memory_after { memory.new ≡ push_memory halt w (byte_to_push Pha w.registers) memory.old }
@@ -258,7 +272,14 @@ pub fn pha(w: Work, memory: &mut [u8], sums: &mut [u16], halt: Halt, pc: u16, le
     push(w, memory, sums, halt, w.registers.a, pc, length)
 }
 
-pub fn php(w: Work, memory: &mut [u8], sums: &mut [u16], halt: Halt, pc: u16, length: u8) -> Attempt
+pub fn php(
+    w: Work,
+    memory: &mut [u8],
+    sums: &mut [u16],
+    halt: Option<u16>,
+    pc: u16,
+    length: u8,
+) -> Attempt
     requires { (w.gone.0 + w.wait + 1 ≤ 4294967295) × (w.leaps + 1 ≤ 4294967295) }
     ensures value { result ≡ push_tried halt w (byte_to_push Php w.registers) pc length }
     ensures memory_after { memory.new ≡ push_memory halt w (byte_to_push Php w.registers) memory.old }

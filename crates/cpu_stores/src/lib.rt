@@ -13,7 +13,7 @@ ghost use Rattle.cpu_attempts.specs.Attempts.{save_memory, accumulator_tried};
 
 use counters::time::Clocks;
 use cpu::work::Work;
-use cpu_access::halt::{Halt, ends_span};
+use cpu_access::halt::ends_span;
 use cpu_access::stack::{Write, one_write};
 use cpu_access::{CpuRegisters, memory_byte};
 use cpu_alu::shift;
@@ -28,7 +28,7 @@ fn store(
     span: Clocks,
     memory: &mut [u8],
     sums: &mut [u16],
-    halt: Halt,
+    halt: Option<u16>,
     registers: CpuRegisters,
     address: u16,
     value: u8,
@@ -58,7 +58,7 @@ pub fn asl(
     span: Clocks,
     memory: &mut [u8],
     sums: &mut [u16],
-    halt: Halt,
+    halt: Option<u16>,
     p: Place,
     length: u8,
 ) -> Attempt
@@ -92,7 +92,7 @@ pub fn dec(
     span: Clocks,
     memory: &mut [u8],
     sums: &mut [u16],
-    halt: Halt,
+    halt: Option<u16>,
     p: Place,
     length: u8,
 ) -> Attempt
@@ -126,7 +126,7 @@ pub fn inc(
     span: Clocks,
     memory: &mut [u8],
     sums: &mut [u16],
-    halt: Halt,
+    halt: Option<u16>,
     p: Place,
     length: u8,
 ) -> Attempt
@@ -160,7 +160,7 @@ pub fn lsr(
     span: Clocks,
     memory: &mut [u8],
     sums: &mut [u16],
-    halt: Halt,
+    halt: Option<u16>,
     p: Place,
     length: u8,
 ) -> Attempt
@@ -194,7 +194,7 @@ pub fn rol(
     span: Clocks,
     memory: &mut [u8],
     sums: &mut [u16],
-    halt: Halt,
+    halt: Option<u16>,
     p: Place,
     length: u8,
 ) -> Attempt
@@ -228,7 +228,7 @@ pub fn ror(
     span: Clocks,
     memory: &mut [u8],
     sums: &mut [u16],
-    halt: Halt,
+    halt: Option<u16>,
     p: Place,
     length: u8,
 ) -> Attempt
@@ -262,7 +262,7 @@ pub fn rmb(
     span: Clocks,
     memory: &mut [u8],
     sums: &mut [u16],
-    halt: Halt,
+    halt: Option<u16>,
     p: Place,
     bit: u8,
     length: u8,
@@ -286,7 +286,7 @@ pub fn smb(
     span: Clocks,
     memory: &mut [u8],
     sums: &mut [u16],
-    halt: Halt,
+    halt: Option<u16>,
     p: Place,
     bit: u8,
     length: u8,
@@ -346,7 +346,7 @@ pub fn sta(
     span: Clocks,
     memory: &mut [u8],
     sums: &mut [u16],
-    halt: Halt,
+    halt: Option<u16>,
     p: Place,
     length: u8,
 ) -> Attempt
@@ -377,7 +377,7 @@ pub fn stx(
     span: Clocks,
     memory: &mut [u8],
     sums: &mut [u16],
-    halt: Halt,
+    halt: Option<u16>,
     p: Place,
     length: u8,
 ) -> Attempt
@@ -408,7 +408,7 @@ pub fn sty(
     span: Clocks,
     memory: &mut [u8],
     sums: &mut [u16],
-    halt: Halt,
+    halt: Option<u16>,
     p: Place,
     length: u8,
 ) -> Attempt

@@ -1,7 +1,7 @@
 // A clock's writes, put into memory and its page sums.
 #![tactic(auto)]
 
-ghost use Rattle.std.specs.Prelude.{◌≡◌};
+ghost use Rattle.std.specs.Prelude.{◌≡◌, true};
 ghost use Rattle.page_sums.specs.PageSums.{sums_after};
 ghost use Rattle.memory_writes.specs.Commit.{put_write, committed};
 
@@ -9,13 +9,13 @@ use cpu_access::stack::{Write, Writes};
 use memory::is_register;
 use page_sums::commit_byte;
 
-// A write to memory, where there is one; those at register addresses are not for memory.
-pub fn put_write(memory: &mut [u8], sums: &mut [u16], there: bool, w: Write)
-    ensures memory_after { memory.new ≡ put_write there w memory.old }
+// A write to memory; one at a register's address is not for memory.
+pub fn put_write(memory: &mut [u8], sums: &mut [u16], w: Write)
+    ensures memory_after { memory.new ≡ put_write true w memory.old }
     ensures sums_after { sums.new ≡ sums_after sums.old memory.old memory.new }
 {
     let at = w.address as usize;
-    let here = there & !is_register(w.address);
+    let here = !is_register(w.address);
     if here {
         if at < memory.len() {
             commit_byte(memory, 0, sums, at, w.value);
@@ -28,10 +28,16 @@ pub fn commit(memory: &mut [u8], sums: &mut [u16], w: Writes)
     ensures memory_after { memory.new ≡ committed memory.old w }
     ensures sums_after { sums.new ≡ sums_after sums.old memory.old memory.new }
 {
-    put_write(memory, sums, 0 < w.count, w.first);
-    if w.count < 2 {
+    if w.count == 0 {
         return;
     }
-    put_write(memory, sums, 1 < w.count, w.second);
-    put_write(memory, sums, 2 < w.count, w.third);
+    put_write(memory, sums, w.first);
+    if w.count == 1 {
+        return;
+    }
+    put_write(memory, sums, w.second);
+    if w.count == 2 {
+        return;
+    }
+    put_write(memory, sums, w.third);
 }

@@ -1,4 +1,6 @@
 -- What crosses comes back as it was, and a refused call hands back the host's own state.
+use Rattle.std.specs.Prelude.{None, Option, Some}
+use Rattle.cpu_access.specs.declared.stack.Write.{Write}
 use mathlib.Core.Path.{◌≡◌, refl, sym, ap, ◌∙◌}
 use mathlib.Core.Bool.{Bool, true, false, ◌&&◌, ◌||◌, cond}
 use mathlib.Core.List.{List}
@@ -10,15 +12,12 @@ use borrow.Author.Tests.{leb-true, eqb-true, eqb-false, eq-eqb}
 use Rattle.bits.specs.Bits.{one_where}
 use Rattle.bits.proofs.Cond.{and_left, and_right, and_both, cond_both}
 use Rattle.memory.specs.Memory.{memory_length}
-use Rattle.cpu_access.specs.declared.halt.Halt.{Halt}
 use Rattle.refusals.specs.Refusals.{refusal_of}
 use Rattle.leaps.specs.CallLists.{Call, single_clock, run_for, count_of, call_of, step_of, run_of}
 use Rattle.leaps.specs.Calls.{refused_handed, refusal_in}
 use Rattle.r6501q_state.specs.declared.state.State.{State}
 use Rattle.r6501q_state.specs.State.{well_formed}
 use Rattle.r6501q_chip.specs.R6501q.{World, Handed, r6501q, machine}
-use Rattle.cpu_access.specs.declared.waiting.Waiting.{Waiting}
-use Rattle.cpu_access.specs.declared.waiting.Waiting.TheVariants.{Nothing, Byte}
 use Rattle.cpu_access.specs.Stack.{write_at}
 use Rattle.r6501q_host.specs.declared.HostWaiting.{HostWaiting}
 use Rattle.r6501q_host.specs.declared.HostDue.{HostDue}
@@ -46,15 +45,15 @@ flag_back b e =
     (λ (h : eqb b 1 ≡ false). omega (arith, leb-true b 1 e, eqb-false b 1 h))
 
 -- a byte waiting, or none, to the host and back, and of the host, to the library and back
-pub waiting_kept : (w : Waiting) → waiting_from_host (host_waiting w) ≡ w
+pub waiting_kept : (w : Option Write) → waiting_from_host (host_waiting w) ≡ w
 unfolding waiting_from_host host_waiting
-waiting_kept Nothing = refl
-waiting_kept (Byte w) = refl
+waiting_kept None = refl
+waiting_kept (Some w) = refl
 
-pub waiting_fits_lem : (w : Waiting) → waiting_fits (host_waiting w) ≡ true
+pub waiting_fits_lem : (w : Option Write) → waiting_fits (host_waiting w) ≡ true
 unfolding waiting_fits host_waiting
-waiting_fits_lem Nothing = refl
-waiting_fits_lem (Byte w) = refl
+waiting_fits_lem None = refl
+waiting_fits_lem (Some w) = refl
 
 pub waiting_back : (h : HostWaiting) → waiting_fits h ≡ true → host_waiting (waiting_from_host h) ≡ h
 unfolding waiting_fits waiting_from_host host_waiting
@@ -70,7 +69,7 @@ waiting_back h e = by_test (eqb h.there 1) refl e
     value = eqb h.value 0
 
     by_test : (t : Bool) → eqb h.there 1 ≡ t → (t || (there && address && value)) ≡ true
-        → host_waiting (cond t (Byte (write_at h.address h.value)) Nothing) ≡ h
+        → host_waiting (cond t (Some (write_at h.address h.value)) None) ≡ h
     by_test true q z = sym (λ i. record { there = eqb-true h.there 1 q i; address = h.address; value = h.value })
     by_test false q z =
         let both = and_left (there && address) value z in
@@ -132,7 +131,7 @@ same_clock : (h : HostState) → (state_from_host h).clock ≡ h.clock
 unfolding state_from_host
 same_clock h = refl
 
-library_refused : (halt : Halt) (c : Call) (v : World) → eqb (refusal_in (r6501q halt) (count_of c) v) 0 ≡ false
+library_refused : (halt : Option ℕ) (c : Call) (v : World) → eqb (refusal_in (r6501q halt) (count_of c) v) 0 ≡ false
     → call_of (machine halt) c v ≡ refused_handed (refusal_in (r6501q halt) (count_of c) v) v
 unfolding call_of count_of step_of run_of
 library_refused halt single_clock v e = rw e

@@ -1,4 +1,5 @@
 -- One plain clock, by what it comes to.
+use Rattle.std.specs.Prelude.{Option}
 use mathlib.Core.Path.{◌≡◌}
 use mathlib.Core.Bool.{Bool}
 use mathlib.Core.List.{List}
@@ -11,7 +12,6 @@ use borrow.Author.Tests.{eq-eqb}
 use Rattle.bits.specs.Bits.{one_where}
 use Rattle.pin_lists.specs.PinLists.{input_count}
 use Rattle.pin_lists.proofs.PinLists.{input_count_within}
-use Rattle.cpu_access.specs.declared.halt.Halt.{Halt}
 use Rattle.leaps.specs.World.{stopped_at, moved_to, input_count_in, plain_of}
 use Rattle.r6501q_clock.specs.declared.Ended.{Ended}
 use Rattle.r6501q_clock.specs.declared.Clocked.TheVariants.{Stopped, Done}
@@ -20,7 +20,7 @@ use Rattle.r6501q_advance.specs.declared.Progress.{Progress}
 use Rattle.r6501q_chip.specs.R6501q.{World, stop_after, r6501q, end_of}
 use Rattle.r6501q_advance.specs.World.{progress_to}
 
-module _ (halt : Halt) (w : World) (inputs : ℕ) (free : Bool) (on : w.stop ≡ 0)
+module _ (halt : Option ℕ) (w : World) (inputs : ℕ) (free : Bool) (on : w.stop ≡ 0)
     (counted : inputs ≡ input_count_in (r6501q halt) w) where
   -- a clock that stops
   pub plain_stops : (number : ℕ) → clock_of w.state (take inputs w.input_codes) w.memory free ≡ Stopped number
@@ -36,7 +36,7 @@ module _ (halt : Halt) (w : World) (inputs : ℕ) (free : Bool) (on : w.stop ≡
   plain_moves ended e room = rw (eq-eqb w.stop 0 on, ← counted, ← room, e)
 
 -- what the code carries once a clock is done, field by field
-pub progress_done : (halt : Halt) (e : Ended) (inputs : ℕ) (p r : Progress) → r.state ≡ e.state
+pub progress_done : (halt : Option ℕ) (e : Ended) (inputs : ℕ) (p r : Progress) → r.state ≡ e.state
     → r.read ≡ p.read + inputs
     → r.written ≡ p.written + one_where e.differs → r.stop ≡ stop_after halt e.writes
     → r ≡ progress_to halt e inputs p

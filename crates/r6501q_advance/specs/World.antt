@@ -1,9 +1,8 @@
 -- What the code of a call carries, as a world.
-use Rattle.std.specs.Prelude.{◌≡◌, List, ℕ, ◌+◌, ◌≤◌, ◌<◌, length, drop}
+use Rattle.std.specs.Prelude.{◌≡◌, List, ℕ, ◌+◌, ◌≤◌, ◌<◌, length, drop, Option}
 use Rattle.bits.specs.Bits.{one_where}
 use Rattle.refusals.specs.Refusals.{last_clock}
 use Rattle.leaps.specs.Lent.{Lent, LentToRead}
-use Rattle.cpu_access.specs.declared.halt.Halt.{Halt}
 use Rattle.r6501q_clock.specs.declared.Ended.{Ended}
 use Rattle.r6501q_advance.specs.declared.Progress.{Progress}
 use Rattle.r6501q_chip.specs.R6501q.{World, stop_after}
@@ -38,7 +37,7 @@ world_at_exit p memory input_clocks input_codes output_clocks output_words =
 abbrev pub stopped_with : ℕ → Progress → Progress
 stopped_with number p = record { state = p.state; read = p.read; written = p.written; stop = number }
 
-abbrev pub progress_to : Halt → Ended → ℕ → Progress → Progress
+abbrev pub progress_to : Option ℕ → Ended → ℕ → Progress → Progress
 progress_to halt e inputs p = record {
   state = e.state;
   read = p.read + inputs;

@@ -13,7 +13,7 @@ ghost use Rattle.r6501q_clock.specs.Clock.{clock_of};
 ghost use Rattle.r6501q_chip.specs.R6501q.{stop_after, plain};
 ghost use Rattle.r6501q_advance.specs.World.{progress_to, stopped_with, Going, world_at_entry, world_at_exit};
 
-use cpu_access::halt::{Halt, halts};
+use cpu_access::halt::{halts};
 use cpu_access::stack::Writes;
 use memory_writes::commit;
 use pin_lists::input_count;
@@ -76,7 +76,7 @@ fn outcome_from(
 }
 
 // The stop that a clock with these writes ends in, or 0.
-fn stop_after(writes: Writes, halt: Halt) -> u8
+fn stop_after(writes: Writes, halt: Option<u16>) -> u8
     ensures { result ≡ stop_after halt writes }
 {
     if halts(writes, halt) {
@@ -94,7 +94,7 @@ fn complete(
     sums: &mut [u16],
     outputclocks: &mut [u32],
     outputwords: &mut [u32],
-    halt: Halt,
+    halt: Option<u16>,
 ) -> Progress
     requires { (p.read + inputs < 2 ^ 64) × (p.written + 1 < 2 ^ 64) }
     ensures value { result ≡ progress_to halt ended inputs p }
@@ -142,7 +142,7 @@ pub fn advance(
     outputclocks: &mut [u32],
     outputwords: &mut [u32],
     entries: &[u16],
-    halt: Halt,
+    halt: Option<u16>,
 ) -> Progress
     requires going { Going p inputclocks.now inputcodes.now outputclocks.old outputwords.old }
     requires entries_value { entries.now ≡ opcode_table }

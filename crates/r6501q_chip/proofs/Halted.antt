@@ -1,5 +1,6 @@
 -- Document 02, U4, "Stop where a byte is written", said of plain clocks: where 12 is the stop, what a halt address
 -- changes, and what the writes that a clock tells are to memory and to leaps.
+use Rattle.std.specs.Prelude.{None, Option}
 use mathlib.Core.Path.{◌≡◌, refl, sym, ap, ◌∙◌}
 use mathlib.Core.Bool.{Bool, true, false, ◌&&◌, not, cond, false≢true}
 use mathlib.Core.List.{List, [], ◌∷◌}
@@ -12,8 +13,6 @@ use Rattle.bits.proofs.Cond.{cond_no}
 use Rattle.pin_lists.specs.PinLists.{pins_right, input_count}
 use Rattle.cpu_access.specs.declared.stack.Write.{Write}
 use Rattle.cpu_access.specs.declared.stack.Writes.{Writes}
-use Rattle.cpu_access.specs.declared.halt.Halt.{Halt}
-use Rattle.cpu_access.specs.declared.halt.Halt.TheVariants.{Nowhere}
 use Rattle.cpu_access.specs.Stack.{no_writes}
 use Rattle.cpu_access.specs.Halt.{halts}
 use Rattle.cpu_access.proofs.Told.{told, in_turn, each_told, unwritten}
@@ -47,7 +46,7 @@ clock_in w =
     (ltb w.written (length w.output_clocks))
 
 -- the next clock is done and writes the halt address
-abbrev pub writes_halt : Halt → World → Bool
+abbrev pub writes_halt : Option ℕ → World → Bool
 writes_halt halt w = running_in w && halts halt (told_by (clock_in w))
 
 -- ---- the stop
@@ -58,7 +57,7 @@ twelve_itself false = refl
 
 -- A plain clock stops with 12 just where it is done and writes the halt address: 6 and 7 come first, and a clock not
 -- done writes nothing.
-pub stop_twelve : (halt : Halt) (w : World) → w.stop ≡ 0 → eqb (plain halt w).stop 12 ≡ writes_halt halt w
+pub stop_twelve : (halt : Option ℕ) (w : World) → w.stop ≡ 0 → eqb (plain halt w).stop 12 ≡ writes_halt halt w
 unfolding plain_of
 stop_twelve halt w on = rw (eq-eqb w.stop 0 on) (by_clock (clock_in w) refl)
   where
@@ -77,41 +76,41 @@ stop_chosen true w = refl
 stop_chosen false w = refl
 
 -- "a plain clock with such a write is done, then stops with 12"; every other one is what it is with no halt address
-pub plain_halts : (halt : Halt) (w : World)
-    → plain halt w ≡ cond (writes_halt halt w) (stopped_at halt_stop (plain Nowhere w)) (plain Nowhere w)
+pub plain_halts : (halt : Option ℕ) (w : World)
+    → plain halt w ≡ cond (writes_halt halt w) (stopped_at halt_stop (plain None w)) (plain None w)
 unfolding plain_of halts
 plain_halts halt w = by_running (running_in w) refl
   where
     none : World
-    none = plain Nowhere w
+    none = plain None w
 
     by_clock : (x : Clocked) → let inputs = input_count_in (r6501q halt) w in
         after (r6501q halt) w inputs (clock_outcome halt w.memory x)
         ≡ cond (halts halt (told_by x))
-        (stopped_at halt_stop (after (r6501q Nowhere) w inputs (clock_outcome Nowhere w.memory x)))
-        (after (r6501q Nowhere) w inputs (clock_outcome Nowhere w.memory x))
+        (stopped_at halt_stop (after (r6501q None) w inputs (clock_outcome None w.memory x)))
+        (after (r6501q None) w inputs (clock_outcome None w.memory x))
     by_clock (Stopped number) = sym (cond_no (halts halt no_writes) _ _ (unwritten halt no_writes refl))
     by_clock (Done e) =
         stop_chosen (halts halt e.writes)
-        (after (r6501q Nowhere) w (input_count_in (r6501q halt) w) (clock_outcome Nowhere w.memory (Done e)))
+        (after (r6501q None) w (input_count_in (r6501q halt) w) (clock_outcome None w.memory (Done e)))
 
     by_running : (t : Bool) → running_in w ≡ t
         → cond t (after (r6501q halt) w (input_count_in (r6501q halt) w) (clock_outcome halt w.memory (clock_in w))) w
         ≡ cond (t && halts halt (told_by (clock_in w)))
         (stopped_at halt_stop
-        (cond t (after (r6501q Nowhere) w (input_count_in (r6501q Nowhere) w)
-        (clock_outcome Nowhere w.memory (clock_in w))) w))
-        (cond t (after (r6501q Nowhere) w (input_count_in (r6501q Nowhere) w)
-        (clock_outcome Nowhere w.memory (clock_in w))) w)
+        (cond t (after (r6501q None) w (input_count_in (r6501q None) w)
+        (clock_outcome None w.memory (clock_in w))) w))
+        (cond t (after (r6501q None) w (input_count_in (r6501q None) w)
+        (clock_outcome None w.memory (clock_in w))) w)
     by_running true e = by_clock (clock_in w)
     by_running false e = refl
 
 -- after a stop nothing is done
-stopped_plain : (halt : Halt) (w : World) → running_in w ≡ false → plain halt w ≡ w
+stopped_plain : (halt : Option ℕ) (w : World) → running_in w ≡ false → plain halt w ≡ w
 unfolding plain_of
 stopped_plain halt w e = rw e
 
-stopped_plains : (halt : Halt) (n : ℕ) (w : World) → running_in w ≡ false → plains (system halt) n w ≡ w
+stopped_plains : (halt : Option ℕ) (n : ℕ) (w : World) → running_in w ≡ false → plains (system halt) n w ≡ w
 unfolding plains
 stopped_plains halt zero w e = refl
 stopped_plains halt (suc n) w e = rw (stopped_plain halt w e) (stopped_plains halt n w e)
@@ -124,72 +123,72 @@ ltb_suc k n = by_test (ltb k n) refl
     by_test false e = le-ltb (suc k) (suc n) (omega (arith, ltb-false k n e))
 
 -- the clocks, of n with no halt address, before the first that writes it; n where none does
-abbrev pub clocks_before : Halt → ℕ → World → ℕ
+abbrev pub clocks_before : Option ℕ → ℕ → World → ℕ
 clocks_before halt zero w = 0
-clocks_before halt (suc n) w = cond (writes_halt halt w) 0 (suc (clocks_before halt n (plain Nowhere w)))
+clocks_before halt (suc n) w = cond (writes_halt halt w) 0 (suc (clocks_before halt n (plain None w)))
 
 -- n plain clocks with a halt address: those with none up to the first that writes it, that one included, and the stop
 -- 12; where none of the n writes it, those with none
-pub plains_halt : (halt : Halt) (n : ℕ) (w : World)
+pub plains_halt : (halt : Option ℕ) (n : ℕ) (w : World)
     → plains (system halt) n w
     ≡ cond (ltb (clocks_before halt n w) n)
-    (stopped_at halt_stop (plains (system Nowhere) (suc (clocks_before halt n w)) w))
-    (plains (system Nowhere) n w)
+    (stopped_at halt_stop (plains (system None) (suc (clocks_before halt n w)) w))
+    (plains (system None) n w)
 unfolding plains
 plains_halt halt zero w = refl
-plains_halt halt (suc n) w = by_test (writes_halt halt w) refl (plains_halt halt n (plain Nowhere w))
+plains_halt halt (suc n) w = by_test (writes_halt halt w) refl (plains_halt halt n (plain None w))
   where
     v : World
-    v = plain Nowhere w
+    v = plain None w
 
     k : ℕ
     k = clocks_before halt n v
 
     by_test : (t : Bool) → writes_halt halt w ≡ t
         → plains (system halt) n v
-        ≡ cond (ltb k n) (stopped_at halt_stop (plains (system Nowhere) (suc k) v)) (plains (system Nowhere) n v)
+        ≡ cond (ltb k n) (stopped_at halt_stop (plains (system None) (suc k) v)) (plains (system None) n v)
         → plains (system halt) n (plain halt w)
         ≡ cond (ltb (cond (writes_halt halt w) 0 (suc k)) (suc n))
-        (stopped_at halt_stop (plains (system Nowhere) (cond (writes_halt halt w) 0 (suc k)) v))
-        (plains (system Nowhere) n v)
+        (stopped_at halt_stop (plains (system None) (cond (writes_halt halt w) 0 (suc k)) v))
+        (plains (system None) n v)
     by_test true e later =
         rw (plain_halts halt w, e, lt-ltb 0 (suc n) (omega arith)) (stopped_plains halt n (stopped_at halt_stop v) refl)
     by_test false e later = rw (plain_halts halt w, e, ltb_suc k n) later
 
 -- no clock before it writes it, and it does
-pub before_unwritten : (halt : Halt) (n : ℕ) (w : World) (j : ℕ) → j < clocks_before halt n w
-    → writes_halt halt (plains (system Nowhere) j w) ≡ false
+pub before_unwritten : (halt : Option ℕ) (n : ℕ) (w : World) (j : ℕ) → j < clocks_before halt n w
+    → writes_halt halt (plains (system None) j w) ≡ false
 unfolding plains
 before_unwritten halt zero w j h = absurd (omega arith)
-before_unwritten halt (suc n) w j h = by_test (writes_halt halt w) refl j h (before_unwritten halt n (plain Nowhere w))
+before_unwritten halt (suc n) w j h = by_test (writes_halt halt w) refl j h (before_unwritten halt n (plain None w))
   where
     v : World
-    v = plain Nowhere w
+    v = plain None w
 
     by_test : (t : Bool) → writes_halt halt w ≡ t → (j : ℕ) → j < cond t 0 (suc (clocks_before halt n v))
-        → ((i : ℕ) → i < clocks_before halt n v → writes_halt halt (plains (system Nowhere) i v) ≡ false)
-        → writes_halt halt (plains (system Nowhere) j w) ≡ false
+        → ((i : ℕ) → i < clocks_before halt n v → writes_halt halt (plains (system None) i v) ≡ false)
+        → writes_halt halt (plains (system None) j w) ≡ false
     by_test true e j h later = absurd (omega arith)
     by_test false e zero h later = e
     by_test false e (suc j) h later = later j (omega arith)
 
-pub first_written : (halt : Halt) (n : ℕ) (w : World) → clocks_before halt n w < n
-    → writes_halt halt (plains (system Nowhere) (clocks_before halt n w) w) ≡ true
+pub first_written : (halt : Option ℕ) (n : ℕ) (w : World) → clocks_before halt n w < n
+    → writes_halt halt (plains (system None) (clocks_before halt n w) w) ≡ true
 unfolding plains
 first_written halt zero w h = absurd (omega arith)
-first_written halt (suc n) w h = by_test (writes_halt halt w) refl h (first_written halt n (plain Nowhere w))
+first_written halt (suc n) w h = by_test (writes_halt halt w) refl h (first_written halt n (plain None w))
   where
     k : ℕ
-    k = clocks_before halt n (plain Nowhere w)
+    k = clocks_before halt n (plain None w)
 
     by_test : (t : Bool) → writes_halt halt w ≡ t → cond t 0 (suc k) < suc n
-        → (k < n → writes_halt halt (plains (system Nowhere) k (plain Nowhere w)) ≡ true)
-        → writes_halt halt (plains (system Nowhere) (cond t 0 (suc k)) w) ≡ true
+        → (k < n → writes_halt halt (plains (system None) k (plain None w)) ≡ true)
+        → writes_halt halt (plains (system None) (cond t 0 (suc k)) w) ≡ true
     by_test true e h later = e
     by_test false e h later = later (omega arith)
 
 -- with no halt address nothing stops with 12
-plain_none : (w : World) → eqb w.stop 12 ≡ false → eqb (plain Nowhere w).stop 12 ≡ false
+plain_none : (w : World) → eqb w.stop 12 ≡ false → eqb (plain None w).stop 12 ≡ false
 unfolding halts
 plain_none w other = by_running (running_in w) refl
   where
@@ -197,23 +196,23 @@ plain_none w other = by_running (running_in w) refl
     never true = refl
     never false = refl
 
-    by_running : (t : Bool) → running_in w ≡ t → eqb (plain Nowhere w).stop 12 ≡ false
-    by_running true e = stop_twelve Nowhere w (eqb-true w.stop 0 e) ∙ never (running_in w)
-    by_running false e = rw (stopped_plain Nowhere w e) other
+    by_running : (t : Bool) → running_in w ≡ t → eqb (plain None w).stop 12 ≡ false
+    by_running true e = stop_twelve None w (eqb-true w.stop 0 e) ∙ never (running_in w)
+    by_running false e = rw (stopped_plain None w e) other
 
-pub none_twelve : (n : ℕ) (w : World) → eqb w.stop 12 ≡ false → eqb (plains (system Nowhere) n w).stop 12 ≡ false
+pub none_twelve : (n : ℕ) (w : World) → eqb w.stop 12 ≡ false → eqb (plains (system None) n w).stop 12 ≡ false
 unfolding plains
 none_twelve zero w other = other
-none_twelve (suc n) w other = none_twelve n (plain Nowhere w) (plain_none w other)
+none_twelve (suc n) w other = none_twelve n (plain None w) (plain_none w other)
 
 -- n plain clocks stop with 12 just where one of them writes the halt address: the last that is done, and no earlier one
-pub plains_twelve : (halt : Halt) (n : ℕ) (w : World) → w.stop ≡ 0
+pub plains_twelve : (halt : Option ℕ) (n : ℕ) (w : World) → w.stop ≡ 0
     → eqb (plains (system halt) n w).stop 12 ≡ ltb (clocks_before halt n w) n
 plains_twelve halt n w on = rw (plains_halt halt n w) (by_test (ltb (clocks_before halt n w) n))
   where
     by_test : (t : Bool)
-        → eqb (cond t (stopped_at halt_stop (plains (system Nowhere) (suc (clocks_before halt n w)) w))
-        (plains (system Nowhere) n w)).stop 12 ≡ t
+        → eqb (cond t (stopped_at halt_stop (plains (system None) (suc (clocks_before halt n w)) w))
+        (plains (system None) n w)).stop 12 ≡ t
     by_test true = refl
     by_test false = none_twelve n w (rw on refl)
 
@@ -247,7 +246,7 @@ unfolding committed
 committed_told memory w = each_told put_write no_put w memory ∙ turns_same (told w) memory
 
 -- memory after a clock is memory before it with exactly the writes told, in order
-pub memory_told : (halt : Halt) (w : World) → running_in w ≡ true
+pub memory_told : (halt : Option ℕ) (w : World) → running_in w ≡ true
     → (plain halt w).memory ≡ in_turn stored_in (told (told_by (clock_in w))) w.memory
 unfolding plain_of
 memory_told halt w e = rw e (by_clock (clock_in w))

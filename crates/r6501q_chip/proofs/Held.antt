@@ -1,5 +1,6 @@
 -- 02, U8: "A fresh chip with no inputs stays without a CPU start for any n that fits the clock, its counters still
 -- counting, and leaping agrees there too.": plain clocks, and their event clocks.
+use Rattle.std.specs.Prelude.{Option}
 use mathlib.Core.Path.{◌≡◌, refl, sym, ap, ◌∙◌}
 use mathlib.Core.Bool.{Bool, true, false, ◌&&◌, ◌||◌, not, cond}
 use mathlib.Core.List.{List, [], ◌∷◌}
@@ -14,10 +15,8 @@ use Rattle.counters.specs.Counters.{counts_through_b}
 use Rattle.serial_format.specs.Format.{transmitter_asynchronous, receiver_asynchronous, receiver_shifting, holds_a}
 use Rattle.serial_receiver.specs.Receiver.{receiver_clock}
 use Rattle.serial_transmitter.specs.Transmitter.{transmitter_clock}
-use Rattle.cpu_access.specs.declared.halt.Halt.{Halt}
 use Rattle.cpu_access.specs.Stack.{no_writes}
 use Rattle.cpu_access.proofs.Told.{unwritten}
-use Rattle.cpu_access.specs.Waiting.{byte_waits}
 use Rattle.r6501q_state.specs.declared.state.State.{State}
 use Rattle.r6501q_state.specs.State.{fresh_cpu, fresh_due, fresh_peripherals, fresh_levels, fresh}
 use Rattle.r6501q_state.specs.Copies.{flagged, with_counter_a, with_counter_b}
@@ -94,7 +93,7 @@ pub held_fresh : held_state 0 ≡ fresh
 unfolding fresh
 held_fresh = refl
 
-module _ (halt : Halt) (memory times words : List ℕ) where
+module _ (halt : Option ℕ) (memory times words : List ℕ) where
   abbrev pub held_in : State → World
   held_in s = call_start s memory [] [] times words
 
@@ -106,7 +105,6 @@ module _ (halt : Halt) (memory times words : List ℕ) where
       transmitter_asynchronous receiver_asynchronous receiver_shifting holds_a receiver_clock transmitter_clock mode_a mode_b
       drive_a drive_d driven_word levels_of rose fell edges with_edges reset_of sensed_at sensed with_inputs count_a count_b
       sent_by heard_by peripherals_clock before_cpu finished clock_of put_write committed processor_of plain_of put_record
-      byte_waits
   at_underflow ifr clock = rw (unwritten halt no_writes refl)
 
   counted_down : (count ifr clock : ℕ) → eqb count 0 ≡ false
@@ -115,7 +113,6 @@ module _ (halt : Halt) (memory times words : List ℕ) where
       transmitter_asynchronous receiver_asynchronous receiver_shifting holds_a receiver_clock transmitter_clock mode_a mode_b
       drive_a drive_d driven_word levels_of rose fell edges with_edges reset_of sensed_at sensed with_inputs count_a count_b
       sent_by heard_by peripherals_clock before_cpu finished clock_of put_write committed processor_of plain_of put_record
-      byte_waits
   counted_down count ifr clock some = rw (some, unwritten halt no_writes refl)
 
   -- the next clock
@@ -161,7 +158,7 @@ module _ (halt : Halt) (memory times words : List ℕ) where
 
   -- "stays without a CPU start"
   pub held_no_start : (n : ℕ) → cpu_starts (sensed (inputs_set (plains (system halt) n (held_in fresh)).state [])) ≡ false
-  unfolding cpu_starts puts_byte sensed sensed_at levels_of reset_of with_edges with_inputs byte_waits
+  unfolding cpu_starts puts_byte sensed sensed_at levels_of reset_of with_edges with_inputs
   held_no_start n = rw (held_clocks n)
 
   -- ---- event clocks
@@ -172,7 +169,7 @@ module _ (halt : Halt) (memory times words : List ℕ) where
       down_a counts_a clock_a reload_b down_b clock_b transmitter_asynchronous receiver_asynchronous receiver_shifting holds_a
       receiver_clock transmitter_clock mode_a mode_b drive_a drive_d driven_word levels_of rose fell edges with_edges reset_of
       sensed_at sensed with_inputs count_a count_b sent_by heard_by peripherals_clock before_cpu finished clock_of put_write
-      committed processor_of plain_of put_record byte_waits
+      committed processor_of plain_of put_record
   event_at ifr clock = refl
 
   event_after : (clock : ℕ) → event_in (r6501q halt) (held_in (held_with 0xFFFF 0x30 clock)) ≡ true
@@ -181,7 +178,7 @@ module _ (halt : Halt) (memory times words : List ℕ) where
       down_a counts_a clock_a reload_b down_b clock_b transmitter_asynchronous receiver_asynchronous receiver_shifting holds_a
       receiver_clock transmitter_clock mode_a mode_b drive_a drive_d driven_word levels_of rose fell edges with_edges reset_of
       sensed_at sensed with_inputs count_a count_b sent_by heard_by peripherals_clock before_cpu finished clock_of put_write
-      committed processor_of plain_of put_record byte_waits
+      committed processor_of plain_of put_record
   event_after clock = refl
 
   in_gap : (count clock : ℕ) → 0 < count → 0 < (gap_of 1 (held_with count 0 clock) []).0
@@ -193,7 +190,7 @@ module _ (halt : Halt) (memory times words : List ℕ) where
       clock_a reload_b down_b clock_b transmitter_asynchronous receiver_asynchronous receiver_shifting holds_a receiver_clock
       transmitter_clock mode_a mode_b drive_a drive_d driven_word levels_of rose fell edges with_edges reset_of sensed_at sensed
       with_inputs count_a count_b sent_by heard_by peripherals_clock before_cpu finished clock_of put_write committed processor_of
-      plain_of put_record byte_waits
+      plain_of put_record
   in_gap count clock some = omega (arith, some)
 
   no_event : (count clock : ℕ) → 0 < count → event_in (r6501q halt) (held_in (held_with count 0 clock)) ≡ false
@@ -205,7 +202,6 @@ module _ (halt : Halt) (memory times words : List ℕ) where
       transmitter_asynchronous receiver_asynchronous receiver_shifting holds_a receiver_clock transmitter_clock mode_a mode_b
       drive_a drive_d driven_word levels_of rose fell edges with_edges reset_of sensed_at sensed with_inputs count_a count_b
       sent_by heard_by peripherals_clock before_cpu finished clock_of put_write committed processor_of plain_of put_record
-      byte_waits
   done_at count ifr clock = by_test (eqb count 0) refl
     where
       by_test : (t : Bool) → eqb count 0 ≡ t → done_in (r6501q halt) (held_in (held_with count ifr clock)) ≡ true

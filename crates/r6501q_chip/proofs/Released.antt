@@ -1,5 +1,6 @@
 -- 02, U8: "every test that relied on the old start now give RES high on clock 1": the first clock of a fresh chip with
 -- that input is the first clock of the old start, in all but the one input more that is read.
+use Rattle.std.specs.Prelude.{Option}
 use mathlib.Core.Path.{◌≡◌, refl, sym, ap, ◌∙◌}
 use mathlib.Core.Bool.{Bool, true, false, false≢true}
 use mathlib.Core.List.{List, [], ◌∷◌, ◌++◌}
@@ -13,7 +14,6 @@ use Rattle.bits.proofs.Cond.{and_left, and_right}
 use Rattle.pin_lists.specs.PinLists.{pin_of, high_of, input_count}
 use Rattle.pin_lists.proofs.PinLists.{input_count_within}
 use Rattle.refusals.specs.Refusals.{refusal_of}
-use Rattle.cpu_access.specs.Waiting.{byte_waits}
 use Rattle.r6501q_state.specs.declared.state.Levels.{Levels}
 use Rattle.r6501q_state.specs.declared.state.State.{State}
 use Rattle.r6501q_state.specs.State.{fresh_cpu, fresh_due, fresh_peripherals, fresh_levels, high_levels, fresh, well_formed}
@@ -22,7 +22,6 @@ use Rattle.counters.specs.Counters.{ticks_of, in_force, down_a, counts_a, clock_
 use Rattle.serial_format.specs.Format.{transmitter_asynchronous, receiver_asynchronous, receiver_shifting, holds_a}
 use Rattle.serial_receiver.specs.Receiver.{receiver_clock}
 use Rattle.serial_transmitter.specs.Transmitter.{transmitter_clock}
-use Rattle.cpu_access.specs.declared.halt.Halt.{Halt}
 use Rattle.cpu_access.specs.Accesses.{peripherals_read, performed}
 use Rattle.cpu.specs.InstructionAccesses.{reset_accesses}
 use Rattle.r6501q_cpu.specs.Processor.{reset_start, start_of, processor_of}
@@ -124,7 +123,7 @@ first_clock l memory free =
 
 first_fresh : (codes memory : List ℕ) (free : Bool)
     → clock_of fresh codes memory free ≡ first_clock (with_inputs fresh_levels codes) memory free
-unfolding clock_of before_cpu fresh sensed sensed_at with_edges reset_of levels_of byte_waits
+unfolding clock_of before_cpu fresh sensed sensed_at with_edges reset_of levels_of
 first_fresh codes memory free = refl
 
 first_old : (codes memory : List ℕ) (free : Bool)
@@ -138,16 +137,16 @@ clock_same codes codes' memory free e =
     first_fresh codes memory free ∙ ap (λ (l : Levels). first_clock l memory free) e ∙ sym (first_old codes' memory free)
 
 -- it is done: the reset entry starts, or RES is low again, and no drive changes
-done_at : (halt : Halt) (ports : ℕ) (nmi res : Bool) (memory : List ℕ) (free : Bool)
+done_at : (halt : Option ℕ) (ports : ℕ) (nmi res : Bool) (memory : List ℕ) (free : Bool)
     → is_done (clock_outcome halt memory (first_clock (levels_at ports nmi res) memory free)) ≡ true
 unfolding sensed sensed_at levels_of with_edges reset_of peripherals_clock count_a count_b sent_by heard_by processor_of start_of
     reset_start reset_accesses performed peripherals_read driven_word drive_a drive_d finished clock_a counts_a down_a clock_b
     down_b set_where flip_where mode_a mode_b in_force holds_a transmitter_clock receiver_clock ticks_of transmitter_asynchronous
-    receiver_asynchronous receiver_shifting byte_waits
+    receiver_asynchronous receiver_shifting
 done_at halt ports nmi true memory free = refl
 done_at halt ports nmi false memory free = refl
 
-first_done : (halt : Halt) (codes memory : List ℕ) (free : Bool)
+first_done : (halt : Option ℕ) (codes memory : List ℕ) (free : Bool)
     → is_done (clock_outcome halt memory (clock_of released codes memory free)) ≡ true
 first_done halt codes memory free =
     let l = with_inputs high_levels codes in
@@ -158,7 +157,7 @@ first_done halt codes memory free =
 event_old : (codes : List ℕ) → event_of released codes ≡ true
 unfolding event_of has_input with_inputs levels_change same_levels levels_of driven_word drive_a drive_d sensed sensed_at
     with_edges edges set_where rose fell underflows_a underflows_b reset_changes cpu_starts puts_byte clock_a counts_a down_a
-    clock_b down_b mode_a mode_b in_force holds_a receiver_asynchronous byte_waits
+    clock_b down_b mode_a mode_b in_force holds_a receiver_asynchronous
 event_old [] = refl
 event_old (code ∷ codes) = refl
 
@@ -191,13 +190,13 @@ released_start memory clocks codes times words =
 abbrev pub old_start : List ℕ → List ℕ → List ℕ → List ℕ → List ℕ → World
 old_start memory clocks codes times words = call_start released memory clocks codes times words
 
-pub old_done : (halt : Halt) (memory clocks codes times words : List ℕ)
+pub old_done : (halt : Option ℕ) (memory clocks codes times words : List ℕ)
     → done_in (r6501q halt) (old_start memory clocks codes times words) ≡ true
 unfolding done_in
 old_done halt memory clocks codes times words =
     first_done halt (take (input_count 1 clocks) codes) memory (ltb 0 (length times))
 
-module _ (halt : Halt) (memory clocks codes times words : List ℕ)
+module _ (halt : Option ℕ) (memory clocks codes times words : List ℕ)
     (below : below_res (take (input_count 1 clocks) codes) ≡ true)
     (within : input_count 1 clocks ≤ length codes) where
   abbrev start : World
@@ -248,7 +247,7 @@ module _ (halt : Halt) (memory clocks codes times words : List ℕ)
 
 -- A list that sets RES on clock 1 itself, the last of that clock's pins, needs no other input: the first clock is the
 -- old start's in all
-module _ (halt : Halt) (memory clocks codes times words front : List ℕ) (code : ℕ)
+module _ (halt : Option ℕ) (memory clocks codes times words front : List ℕ) (code : ℕ)
     (given : take (input_count 1 clocks) codes ≡ front ++ (code ∷ []))
     (below : below_res front ≡ true) (res : pin_of code ≡ last_pin) where
   given_outcome : outcome_in (r6501q halt) (call_start fresh memory clocks codes times words) (input_count 1 clocks)
@@ -284,7 +283,7 @@ module _ (halt : Halt) (memory clocks codes times words front : List ℕ) (code 
   given_done = rw given_outcome (first_done halt (take (input_count 1 clocks) codes) memory (ltb 0 (length times)))
 
 -- a call for any number of clocks is refused just where it was, with the same number
-pub refusal_same : (halt : Halt) (n : ℕ) (memory clocks codes times words : List ℕ)
+pub refusal_same : (halt : Option ℕ) (n : ℕ) (memory clocks codes times words : List ℕ)
     → below_res (take (input_count 1 clocks) codes) ≡ true
     → refusal_in (r6501q halt) n (released_start memory clocks codes times words)
     ≡ refusal_in (r6501q halt) n (old_start memory clocks codes times words)

@@ -1,4 +1,5 @@
 -- The shifted clock of the R6501Q: no rule of the chip looks at the clock's value.
+use Rattle.std.specs.Prelude.{None, Option, Some}
 use mathlib.Core.Path.{◌≡◌, refl, sym, ap, ◌∙◌}
 use mathlib.Core.Bool.{Bool, true, false, not, cond, ◌&&◌}
 use mathlib.Core.List.{List, [], ◌∷◌}
@@ -8,11 +9,7 @@ use lib.Dec.{ltb, eqb}
 use lib.ListN.{length}
 use borrow.Author.Tests.{eq-eqb}
 use Rattle.bits.proofs.Cond.{cond_map, cond_along}
-use Rattle.cpu_access.specs.declared.halt.Halt.{Halt}
-use Rattle.cpu_access.specs.declared.waiting.Waiting.{Waiting}
-use Rattle.cpu_access.specs.declared.waiting.Waiting.TheVariants.{Nothing, Byte}
 use Rattle.cpu_access.specs.declared.stack.Write.{Write}
-use Rattle.cpu_access.specs.Waiting.{byte_waits}
 use Rattle.cpu.specs.InstructionAccesses.{Ending, undefined, leaves, instruction_accesses}
 use Rattle.memory.specs.Memory.{memory_length}
 use Rattle.pin_lists.specs.PinLists.{pins_right}
@@ -87,10 +84,10 @@ module _ (k : ℕ) where
       (cond_along shifted_processed (irq_due s) (processed.Done (irq_start s memory)) (whole_instruction s memory) refl
       (sym (instruction_shifted s memory)))))
 
-  waited_shifted : (s : State) (w : Waiting) → waited_by (shifted_state k s) w ≡ shifted_processed (waited_by s w)
+  waited_shifted : (s : State) (w : Option Write) → waited_by (shifted_state k s) w ≡ shifted_processed (waited_by s w)
   unfolding byte_put
-  waited_shifted s Nothing = refl
-  waited_shifted s (Byte w) = sym (cond_map shifted_processed (eqb s.cpu.wait 1) _ _)
+  waited_shifted s None = refl
+  waited_shifted s (Some w) = sym (cond_map shifted_processed (eqb s.cpu.wait 1) _ _)
 
   processor_shifted : (s : State) (memory : List ℕ)
       → processor_of (shifted_state k s) memory ≡ shifted_processed (processor_of s memory)
@@ -102,7 +99,7 @@ module _ (k : ℕ) where
 
   -- ---- the clock, its event and its gap
 
-  recorded_shifted : (halt : Halt) (memory : List ℕ) (before : ℕ) (free : Bool) (x : Processed)
+  recorded_shifted : (halt : Option ℕ) (memory : List ℕ) (before : ℕ) (free : Bool) (x : Processed)
       → clock_outcome halt memory (recorded before free (shifted_processed x))
       ≡ shifted_outcome shifted_state k (clock_outcome halt memory (recorded before free x))
   unfolding finished
@@ -118,7 +115,7 @@ module _ (k : ℕ) where
       by_test word differs true = refl
       by_test word differs false = refl
 
-  outcome_shifted : (halt : Halt) (s : State) (codes memory : List ℕ) (free : Bool)
+  outcome_shifted : (halt : Option ℕ) (s : State) (codes memory : List ℕ) (free : Bool)
       → clock_outcome halt memory (clock_of (shifted_state k s) codes memory free)
       ≡ shifted_outcome shifted_state k (clock_outcome halt memory (clock_of s codes memory free))
   unfolding clock_of
@@ -129,7 +126,7 @@ module _ (k : ℕ) where
       (before_cpu s codes) memory)
       ∙ recorded_shifted halt memory word free (processor_of (before_cpu s codes) memory)
 
-  event_shifted : (halt : Halt) (s : State) (codes : List ℕ)
+  event_shifted : (halt : Option ℕ) (s : State) (codes : List ℕ)
       → (r6501q halt).event (shifted_state k s) codes ≡ (r6501q halt).event s codes
   unfolding event_of levels_change underflows_a underflows_b reset_changes is_reset cpu_starts puts_byte levels_of with_edges
   event_shifted halt s codes = rw (inputs_shifted s codes, sensed_shifted (inputs_set s codes)) refl
@@ -140,18 +137,18 @@ module _ (k : ℕ) where
   input_shifted n clock [] = refl
   input_shifted n clock (t ∷ ts) = omega arith
 
-  gap_shifted : (halt : Halt) (n : ℕ) (s : State) (clocks : List ℕ)
+  gap_shifted : (halt : Option ℕ) (n : ℕ) (s : State) (clocks : List ℕ)
       → (r6501q halt).gap n (shifted_state k s) (shifted_clocks k clocks) ≡ (r6501q halt).gap n s clocks
   unfolding gap_of to_change to_underflow_a to_underflow_b to_reset to_cpu levels_change levels_of reset_changes is_reset
   gap_shifted halt n s clocks = rw (input_shifted n s.clock clocks) refl
 
-  pass_shifted : (halt : Halt) (g : ℕ) (s : State)
+  pass_shifted : (halt : Option ℕ) (g : ℕ) (s : State)
       → (r6501q halt).pass g (shifted_state k s) ≡ shifted_state k ((r6501q halt).pass g s)
   unfolding pass_of
   pass_shifted halt g s = let e : s.clock + k + g ≡ s.clock + g + k = omega arith in rw e refl
 
 -- with any halt address or none
-pub shift_laws : (halt : Halt) → ShiftLaws (r6501q halt) shifted_state
+pub shift_laws : (halt : Option ℕ) → ShiftLaws (r6501q halt) shifted_state
 unfolding well_formed
 shift_laws halt = record {
   clock = λ k s. refl;
@@ -164,7 +161,7 @@ shift_laws halt = record {
 
 -- ---- The theorem of the shifted clock. From two worlds that are alike but for their clocks, the second k later:
 
-module _ (halt : Halt) (k : ℕ) (w v : World) (r : ShiftedWorld shifted_state k w v) where
+module _ (halt : Option ℕ) (k : ℕ) (w v : World) (r : ShiftedWorld shifted_state k w v) where
   -- any number of plain clocks leaves two such worlds, in as many leaps by document 01's count;
   pub plains_shifted : (n : ℕ) → ShiftedWorld shifted_state k (plains (system halt) n w) (plains (system halt) n v)
   plains_shifted n = theory.plains_shifted (r6501q halt) shifted_state (shift_laws halt) k n w v r
@@ -187,7 +184,7 @@ module _ (halt : Halt) (k : ℕ) (w v : World) (r : ShiftedWorld shifted_state k
   fit_alike n fits = calls.fit_alike (r6501q halt) shifted_state (shift_laws halt) k n w v fits
 
 -- The same of calls, by what they are given: any state, memory and inputs, any output lists of the same lengths.
-module _ (halt : Halt) (k : ℕ) (s : State) (memory clocks codes times words times' words' : List ℕ)
+module _ (halt : Option ℕ) (k : ℕ) (s : State) (memory clocks codes times words times' words' : List ℕ)
     (clock_space : length times' ≡ length times) (word_space : length words' ≡ length words) where
   abbrev earlier_start : World
   earlier_start = call_start s memory clocks codes times words
@@ -213,9 +210,9 @@ module _ (halt : Halt) (k : ℕ) (s : State) (memory clocks codes times words ti
       (fit_alike halt k earlier_start later_start start_alike n fits)
 
 -- 4 does differ: a fresh chip may do a clock, and at the last clock none
-pub four_differs : (halt : Halt) (memory : List ℕ) → length memory ≡ memory_length
+pub four_differs : (halt : Option ℕ) (memory : List ℕ) → length memory ≡ memory_length
     → (refusal_in (r6501q halt) 1 (call_start fresh memory [] [] [] []) ≡ 0)
     × (refusal_in (r6501q halt) 1 (call_start (shifted_state last_clock fresh) memory [] [] [] []) ≡ clock_refusal)
-unfolding refusal_of well_formed fresh pins_right byte_waits
+unfolding refusal_of well_formed fresh pins_right
 four_differs halt memory whole =
     (rw (eq-eqb (length memory) memory_length whole), rw (eq-eqb (length memory) memory_length whole))

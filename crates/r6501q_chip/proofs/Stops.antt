@@ -1,4 +1,6 @@
 -- 01, What is handed back: "6 | the next clock would start an undefined opcode", said of a plain clock.
+use Rattle.std.specs.Prelude.{None, Option, Some}
+use Rattle.cpu_access.specs.declared.stack.Write.{Write}
 use mathlib.Core.Path.{◌≡◌, refl, ap, ◌∙◌}
 use mathlib.Core.Bool.{Bool, true, false, ◌&&◌, not, cond}
 use mathlib.Core.List.{List}
@@ -7,7 +9,6 @@ use lib.Dec.{ltb, eqb}
 use lib.ListN.{length, take}
 use borrow.Author.Tests.{eq-eqb}
 use Rattle.bits.proofs.Cond.{cond_yes, cond_both}
-use Rattle.cpu_access.specs.declared.halt.Halt.{Halt}
 use Rattle.cpu_access.specs.Halt.{halts}
 use Rattle.cpu_opcodes.specs.declared.Decoded.{Decoded}
 use Rattle.cpu_opcodes.specs.declared.Decoded.TheVariants as decoded
@@ -19,8 +20,6 @@ use Rattle.r6501q_state.specs.Pins.{driven_word}
 use Rattle.r6501q_cpu.specs.declared.Next.{Next}
 use Rattle.r6501q_cpu.specs.declared.Processed.{Processed}
 use Rattle.r6501q_cpu.specs.declared.Processed.TheVariants as processed
-use Rattle.cpu_access.specs.declared.waiting.Waiting.{Waiting}
-use Rattle.cpu_access.specs.declared.waiting.Waiting.TheVariants.{Nothing, Byte}
 use Rattle.r6501q_cpu.specs.Processor.{waited_by, whole_instruction, opcode_at, irq_due, start_of, processor_of}
 use Rattle.r6501q_cpu.proofs.Undefined.{undefined_opcode, defined_opcode}
 use Rattle.r6501q_clock.specs.Clock.{halt_stop, before_cpu, finished, recorded, clock_of}
@@ -56,9 +55,9 @@ instruction_undefined s memory = by_opcode (decode_of (opcode_at s memory)) refl
     by_opcode (decoded.Defined e) d = done e d (whole_instruction s memory) refl
 
 -- a clock after the first is done
-waited_done : (s : State) (v : Waiting) → stops_with_six (waited_by s v) ≡ false
-waited_done s Nothing = refl
-waited_done s (Byte w) =
+waited_done : (s : State) (v : Option Write) → stops_with_six (waited_by s v) ≡ false
+waited_done s None = refl
+waited_done s (Some w) =
     cond_both (λ (p : Processed). stops_with_six p ≡ false) (eqb s.cpu.wait 1) _ _ (λ _. refl) (λ _. refl)
 
 processor_undefined : (s : State) (memory : List ℕ) → stops_with_six (processor_of s memory) ≡ starts_undefined s memory
@@ -85,21 +84,21 @@ halt_not_six : (t : Bool) → eqb (cond t halt_stop 0) 6 ≡ false
 halt_not_six true = refl
 halt_not_six false = refl
 
-by_record : (halt : Halt) (w : World) (inputs : ℕ) (n : Next) (word : ℕ) (differs free : Bool)
+by_record : (halt : Option ℕ) (w : World) (inputs : ℕ) (n : Next) (word : ℕ) (differs free : Bool)
     → eqb (after (r6501q halt) w inputs (clock_outcome halt w.memory (finished n word differs free))).stop 6 ≡ false
 unfolding finished
 by_record halt w inputs n word true true = halt_not_six (halts halt n.writes)
 by_record halt w inputs n word true false = refl
 by_record halt w inputs n word false free = halt_not_six (halts halt n.writes)
 
-by_end : (halt : Halt) (w : World) (inputs : ℕ) (free : Bool) (p : Processed)
+by_end : (halt : Option ℕ) (w : World) (inputs : ℕ) (free : Bool) (p : Processed)
     → eqb (after (r6501q halt) w inputs
     (clock_outcome halt w.memory (recorded (driven_word w.state.peripherals) free p))).stop 6 ≡ stops_with_six p
 by_end halt w inputs free (processed.Stopped number) = refl
 by_end halt w inputs free (processed.Done n) = by_record halt w inputs n _ _ free
 
 -- A plain clock stops with 6 just where its steps 1 to 3 leave such a state.
-pub stop_six : (halt : Halt) (w : World) → w.stop ≡ 0
+pub stop_six : (halt : Option ℕ) (w : World) → w.stop ≡ 0
     → eqb (plain halt w).stop 6
     ≡ starts_undefined (before_cpu w.state (take (input_count_in (r6501q halt) w) w.input_codes)) w.memory
 unfolding plain_of clock_of

@@ -1,5 +1,6 @@
 -- 01, Machine state: memory's "bytes at 0 to 3Fh, the registers, are never touched". What a clock comes to is the same
 -- whatever stands there.
+use Rattle.std.specs.Prelude.{Option}
 use mathlib.Core.Path.{◌≡◌, refl, sym, ap, ◌∙◌}
 use mathlib.Core.Bool.{Bool, true, false, ◌&&◌, not, cond}
 use mathlib.Core.List.{List, []}
@@ -25,7 +26,6 @@ use Rattle.r6501q_clock.specs.Clock.{before_cpu, recorded, clock_of}
 use Rattle.memory_writes.specs.Commit.{put_write, committed}
 use Rattle.leaps.specs.World.{after, input_count_in, running_in, plain_of}
 use Rattle.leaps.proofs.Along.{Unaffected}
-use Rattle.cpu_access.specs.declared.halt.Halt.{Halt}
 use Rattle.r6501q_chip.specs.R6501q.{World, clock_outcome, r6501q, plain, system}
 
 module _ (m m' : List ℕ) (same : SameAbove m m') where
@@ -97,7 +97,7 @@ module _ (first : List ℕ) (whole : length first ≡ register_end) where
         put_untouched (ltb 2 w.count) w.third,
       )
 
-  after_untouched : (halt : Halt) (w : World) (inputs : ℕ) (c : Clocked)
+  after_untouched : (halt : Option ℕ) (w : World) (inputs : ℕ) (c : Clocked)
       → after (r6501q halt) (world_with_untouched first w) inputs (clock_outcome halt (with_untouched first w.memory) c)
       ≡ world_with_untouched first (after (r6501q halt) w inputs (clock_outcome halt w.memory c))
   after_untouched halt w inputs (Stopped number) = refl
@@ -105,7 +105,7 @@ module _ (first : List ℕ) (whole : length first ≡ register_end) where
 
   -- Memory at 0 to 3Fh is neither read nor written by a plain clock: with other bytes there, all that it comes to is
   -- the same, and these bytes come back as they were.
-  pub plain_untouched : (halt : Halt) (w : World)
+  pub plain_untouched : (halt : Option ℕ) (w : World)
       → plain halt (world_with_untouched first w) ≡ world_with_untouched first (plain halt w)
   unfolding plain_of
   plain_untouched halt w =
@@ -123,7 +123,7 @@ module _ (first : List ℕ) (whole : length first ≡ register_end) where
       w (sym (after_untouched halt w inputs clocked)) refl)
 
   -- nor by gaps
-  pub unaffected : (halt : Halt) → Unaffected (system halt) (world_with_untouched first)
+  pub unaffected : (halt : Option ℕ) → Unaffected (system halt) (world_with_untouched first)
   unaffected halt = record {
     plain = plain_untouched halt;
     pass = λ g w. refl;

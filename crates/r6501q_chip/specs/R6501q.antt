@@ -1,10 +1,9 @@
 -- The R6501Q as an instance of the theory of leaps: the definitions of its parts, under the theory's names.
-use Rattle.std.specs.Prelude.{Bool, cond, List, ℕ}
+use Rattle.std.specs.Prelude.{Bool, cond, List, ℕ, Option}
 use Rattle.memory.specs.Memory.{memory_length}
 use Rattle.refusals.specs.declared.Limits.{Limits}
 use Rattle.leaps.specs.Leaps.{System}
 use Rattle.cpu_access.specs.declared.stack.Writes.{Writes}
-use Rattle.cpu_access.specs.declared.halt.Halt.{Halt}
 use Rattle.cpu_access.specs.Halt.{halts}
 use Rattle.leaps.specs.Chip.{ChipRules, ClockEnd, ClockOutcome, stopped, ended}
 use Rattle.leaps.specs.World as leaps
@@ -26,11 +25,11 @@ abbrev pub r6501q_limits : Limits
 r6501q_limits = record { memory = memory_length; pin = last_pin }
 
 -- 02, U4: "a plain clock with such a write is done, then stops with 12"
-abbrev pub stop_after : Halt → Writes → ℕ
+abbrev pub stop_after : Option ℕ → Writes → ℕ
 stop_after halt writes = cond (halts halt writes) halt_stop 0
 
 -- a clock that is done: its writes are put into memory, and one at the halt address stops it
-abbrev pub end_of : Halt → List ℕ → Ended → ClockEnd State
+abbrev pub end_of : Option ℕ → List ℕ → Ended → ClockEnd State
 end_of halt memory e = record {
   state = e.state;
   memory = committed memory e.writes;
@@ -40,12 +39,12 @@ end_of halt memory e = record {
 }
 
 -- "6 and 7 for that same clock come first"
-abbrev pub clock_outcome : Halt → List ℕ → Clocked → ClockOutcome State
+abbrev pub clock_outcome : Option ℕ → List ℕ → Clocked → ClockOutcome State
 clock_outcome halt memory (Stopped number) = stopped number
 clock_outcome halt memory (Done e) = ended (end_of halt memory e)
 
 -- by the halt address, or none, that "all calls of a list are given"
-abbrev pub r6501q : Halt → ChipRules State
+abbrev pub r6501q : Option ℕ → ChipRules State
 r6501q halt = record {
   limits = r6501q_limits;
   well_formed = well_formed;
@@ -67,12 +66,12 @@ abbrev pub Result : Type 0
 Result = calls.ResultOf State
 
 -- one plain clock
-abbrev pub plain : Halt → World → World
+abbrev pub plain : Option ℕ → World → World
 plain halt = leaps.plain_of (r6501q halt)
 
 -- as a machine that leaps, and as one that calls move
-abbrev pub system : Halt → System World
+abbrev pub system : Option ℕ → System World
 system halt = leaps.system_of (r6501q halt)
 
-abbrev pub machine : Halt → Machine World Handed Result
+abbrev pub machine : Option ℕ → Machine World Handed Result
 machine halt = calls.machine_of (r6501q halt)

@@ -1,4 +1,5 @@
 -- The CPU's part of a clock keeps every field in its range, and leaves the clock alone.
+use Rattle.std.specs.Prelude.{None, Option, Some}
 use mathlib.Core.Path.{◌≡◌, refl}
 use mathlib.Core.Bool.{Bool, true, false, ◌&&◌, false≢true}
 use mathlib.Core.List.{List, [], ◌∷◌, ◌++◌}
@@ -24,8 +25,6 @@ use Rattle.cpu_access.specs.declared.stack.Write.{Write}
 use Rattle.cpu_access.specs.declared.stack.Writes.{Writes}
 use Rattle.memory.specs.Memory.{is_register}
 use Rattle.cpu_access.specs.Stack.{push_interrupt}
-use Rattle.cpu_access.specs.declared.waiting.Waiting.{Waiting}
-use Rattle.cpu_access.specs.declared.waiting.Waiting.TheVariants.{Nothing, Byte}
 use Rattle.cpu_access.specs.Waiting.{byte_waits}
 use Rattle.cpu_access.specs.Accesses.{peripherals_written}
 use Rattle.cpu_effects.specs.declared.Worked.{Worked}
@@ -86,7 +85,7 @@ after_fits p w e =
 
 -- so does a byte that is put
 put_byte_fits : (s : State) (w : Write) → well_formed s ≡ true → well_formed (byte_put s w).state ≡ true
-unfolding byte_put byte_waits peripherals_written put_register
+unfolding byte_put peripherals_written put_register
 put_byte_fits s w e =
     let c = in_cpu s.cpu (formed_cpu s e) in
     formed _ (rw c.status refl) (put_fits true w s.peripherals (formed_peripherals s e))
@@ -147,10 +146,9 @@ module _ (s : State) (memory : List ℕ) (Q : Peripherals → Type 0) (P : Next 
   abbrev Less : Type 0
   Less = byte_waits s.cpu.waiting && eqb s.cpu.wait 1 ≡ false → Ends P (wait_less s)
 
-  waited_ends : Less → ((w : Write) → P (byte_put s w)) → (v : Waiting) → s.cpu.waiting ≡ v → Ends P (waited_by s v)
-  unfolding byte_waits
-  waited_ends less puts Nothing e = less (rw e refl)
-  waited_ends less puts (Byte w) e =
+  waited_ends : Less → ((w : Write) → P (byte_put s w)) → (v : Option Write) → s.cpu.waiting ≡ v → Ends P (waited_by s v)
+  waited_ends less puts None e = less (rw e refl)
+  waited_ends less puts (Some w) e =
       cond_both (Ends P) (eqb s.cpu.wait 1) _ _ (λ _. puts w) (λ f. less (rw (e, f) refl))
 
   pub processor_ends : Less → ((w : Write) → P (byte_put s w)) → Ends P (without_writes s) → Ends P (processor_of s memory)

@@ -1,5 +1,6 @@
 -- 02, U6: a store begins on its first clock and writes nothing; its byte waits, and is put on its last clock alone.
 -- What an instruction begins with, of its direct definition.
+use Rattle.std.specs.Prelude.{None, Option, Some}
 use mathlib.Core.Path.{◌≡◌, refl, ap, ◌∙◌}
 use mathlib.Core.Bool.{Bool, true, false, ◌&&◌, cond}
 use mathlib.Core.List.{List, []}
@@ -15,8 +16,6 @@ use Rattle.cpu_opcodes.specs.declared.Entry.{Entry}
 use Rattle.cpu_alu.specs.Status.{unpacked}
 use Rattle.cpu_alu.specs.declared.Status.{Status}
 use Rattle.cpu_access.specs.declared.stack.Write.{Write}
-use Rattle.cpu_access.specs.declared.waiting.Waiting.{Waiting}
-use Rattle.cpu_access.specs.declared.waiting.Waiting.TheVariants.{Nothing, Byte}
 use Rattle.cpu_access.specs.Stack.{no_writes}
 use Rattle.cpu_access.specs.Waiting.{byte_waits}
 use Rattle.cpu_access.specs.Accesses.{ends, byte_after, peripherals_read, value_read, Performed, performed, in_order}
@@ -129,16 +128,15 @@ module _ (s : State) (memory : List ℕ) (high : s.last.res ≡ true) (some : 0 
 -- where no byte is put, it is one less to wait, and nothing is written
 pub waited_less : (s : State) → (byte_waits s.cpu.waiting && eqb s.cpu.wait 1) ≡ false
     → waited_by s s.cpu.waiting ≡ wait_less s
-unfolding byte_waits
 waited_less s h = by_waiting s.cpu.waiting h
   where
-    by_waiting : (v : Waiting) → (byte_waits v && eqb s.cpu.wait 1) ≡ false → waited_by s v ≡ wait_less s
-    by_waiting Nothing e = refl
-    by_waiting (Byte w) e = cond_no (eqb s.cpu.wait 1) _ _ e
+    by_waiting : (v : Option Write) → (byte_waits v && eqb s.cpu.wait 1) ≡ false → waited_by s v ≡ wait_less s
+    by_waiting None e = refl
+    by_waiting (Some w) e = cond_no (eqb s.cpu.wait 1) _ _ e
 
 -- the last clock: the byte is put, on the state that steps 1 to 3 leave, and it is all that is written
 pub byte_put_lem : (s : State) (memory : List ℕ) (w : Write) → s.last.res ≡ true → s.cpu.wait ≡ 1
-    → s.cpu.waiting ≡ Byte w
+    → s.cpu.waiting ≡ Some w
     → processor_of s memory ≡ Done (byte_put s w)
 byte_put_lem s memory w high last waits =
     clock_waits s memory high (omega arith) ∙ ap (waited_by s) waits

@@ -1,5 +1,6 @@
 -- 01, stop 6, "the next clock would start an undefined opcode": an instruction is undefined just where the opcode at PC
 -- is, and the CPU's part of a clock has no other stop.
+use Rattle.std.specs.Prelude.{None, Option, Some}
 use mathlib.Core.Path.{◌≡◌, refl, sym, ap, subst, ◌∙◌}
 use mathlib.Core.List.{List, []}
 use Prim.Native.Nat.{ℕ}
@@ -12,8 +13,6 @@ use Rattle.cpu_opcodes.specs.declared.Entry.{Entry}
 use Rattle.r6501q_state.specs.declared.state.Peripherals.{Peripherals}
 use Rattle.r6501q_state.specs.declared.state.State.{State}
 use Rattle.cpu_access.specs.declared.stack.Write.{Write}
-use Rattle.cpu_access.specs.declared.waiting.Waiting.{Waiting}
-use Rattle.cpu_access.specs.declared.waiting.Waiting.TheVariants.{Nothing, Byte}
 use Rattle.cpu_access.specs.Accesses.{Accesses, ends, reads, writes, ◌>>=◌, RegisterFile, byte_after, peripherals_read}
 use Rattle.cpu_access.specs.Accesses.{value_read, performed}
 use Rattle.cpu_access.specs.Bus.{next_address}
@@ -95,9 +94,9 @@ start_stop s memory =
     (λ _. cond_both StopsUndefined (irq_due s) _ _ (λ _. tt)
     (λ _. instruction_stop s x.peripherals x.writes x.end)))
 
-waited_stop : (s : State) (w : Waiting) → StopsUndefined (waited_by s w)
-waited_stop s Nothing = tt
-waited_stop s (Byte w) = cond_both StopsUndefined (eqb s.cpu.wait 1) _ _ (λ _. tt) (λ _. tt)
+waited_stop : (s : State) (w : Option Write) → StopsUndefined (waited_by s w)
+waited_stop s None = tt
+waited_stop s (Some w) = cond_both StopsUndefined (eqb s.cpu.wait 1) _ _ (λ _. tt) (λ _. tt)
 
 pub processor_stop : (s : State) (memory : List ℕ) (number : ℕ) → processor_of s memory ≡ Stopped number
     → number ≡ undefined_stop

@@ -1,5 +1,5 @@
 -- Document 01, "One clock", 4: the CPU, on the state that steps 1 to 3 leave.
-use Rattle.std.specs.Prelude.{Bool, false, ◌&&◌, not, cond, List, [], ℕ, ◌-◌, ltb, eqb}
+use Rattle.std.specs.Prelude.{Bool, false, ◌&&◌, not, cond, List, [], ℕ, ◌-◌, ltb, eqb, None, Option, Some}
 use Rattle.bits.specs.Bits.{bit}
 use Rattle.cpu_alu.specs.Status.{packed, unpacked}
 use Rattle.r6501q_state.specs.declared.state.Cpu.{Cpu}
@@ -15,8 +15,6 @@ use Rattle.cpu_access.specs.declared.stack.Write.{Write}
 use Rattle.cpu_access.specs.Bus.{memory_byte, nmi_vector, irq_vector}
 use Rattle.memory.specs.Memory.{is_register}
 use Rattle.cpu_access.specs.Stack.{no_writes, one_write}
-use Rattle.cpu_access.specs.declared.waiting.Waiting.{Waiting}
-use Rattle.cpu_access.specs.declared.waiting.Waiting.TheVariants.{Nothing, Byte}
 use Rattle.cpu_access.specs.Accesses.{Accesses, RegisterFile, Performed, peripherals_written, performed, in_order}
 use Rattle.cpu.specs.InstructionAccesses.{Conclusion, Ending, undefined, leaves, undefined_stop, instruction_accesses}
 use Rattle.cpu.specs.InstructionAccesses.{reset_accesses}
@@ -30,7 +28,7 @@ abbrev pub registers_of : Cpu → CpuRegisters
 registers_of c = record { a = c.a; x = c.x; y = c.y; sp = c.sp; pc = c.pc; status = unpacked c.p }
 
 -- and back, with the clocks still to wait, and the byte that waits
-abbrev pub cpu_of : CpuRegisters → ℕ → Waiting → Cpu
+abbrev pub cpu_of : CpuRegisters → ℕ → Option Write → Cpu
 cpu_of r wait waiting =
     record {
       a = r.a;
@@ -130,7 +128,7 @@ wait_less s = without_writes (with_wait s (s.cpu.wait - 1))
 unfoldable pub byte_put : State → Write → Next
 byte_put s w = record {
   state = record {
-    cpu = waiting_at s.cpu 0 Nothing;
+    cpu = waiting_at s.cpu 0 None;
     due = s.due;
     peripherals = peripherals_written (register_file s.last.ports) s.peripherals w.address w.value;
     external = s.external;
@@ -141,9 +139,9 @@ byte_put s w = record {
 }
 
 -- the last clock is that with wait 1
-abbrev pub waited_by : State → Waiting → Processed
-waited_by s Nothing = wait_less s
-waited_by s (Byte w) = cond (eqb s.cpu.wait 1) (Done (byte_put s w)) (wait_less s)
+abbrev pub waited_by : State → Option Write → Processed
+waited_by s None = wait_less s
+waited_by s (Some w) = cond (eqb s.cpu.wait 1) (Done (byte_put s w)) (wait_less s)
 
 -- ---- step 4
 

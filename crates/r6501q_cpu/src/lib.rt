@@ -2,7 +2,7 @@
 // written to memory here.
 #![tactic(auto)]
 
-ghost use Rattle.std.specs.Prelude.{◌≡◌, []};
+ghost use Rattle.std.specs.Prelude.{◌≡◌, true, []};
 ghost use Rattle.cpu_opcodes.specs.TableInCode.{opcode_table};
 ghost use Rattle.r6501q_cpu.specs.Processor.{registers_of, cpu_of};
 ghost use Rattle.r6501q_cpu.specs.Asking.{put_register, registers_after, answer_of, next_of, round_of};
@@ -12,7 +12,6 @@ ghost use Rattle.r6501q_cpu.specs.Asking.{answered_instruction};
 use cpu::{Ask, Outcome, UNDEFINED, instruction};
 use cpu_access::CpuRegisters;
 use cpu_access::stack::{Write, Writes};
-use cpu_access::waiting::Waiting;
 use cpu_alu::Status;
 use cpu_effects::{Worked, pushes_of, waiting_of};
 use memory::is_register;
@@ -59,7 +58,7 @@ pub fn registers_of(c: Cpu) -> CpuRegisters
 }
 
 // The registers kept, the clocks still to wait, and the byte that waits.
-pub fn cpu_of(r: CpuRegisters, wait: u8, waiting: Waiting) -> Cpu
+pub fn cpu_of(r: CpuRegisters, wait: u8, waiting: Option<Write>) -> Cpu
     ensures { result ≡ cpu_of r wait waiting }
 {
     Cpu {
@@ -74,12 +73,11 @@ pub fn cpu_of(r: CpuRegisters, wait: u8, waiting: Waiting) -> Cpu
     }
 }
 
-// A write at a register's address, where there is one.
-pub fn put_register(there: bool, w: Write, p: Peripherals) -> Peripherals
-    ensures { result ≡ put_register there w p }
+// A write; one that is not at a register's address changes nothing here.
+pub fn put_register(w: Write, p: Peripherals) -> Peripherals
+    ensures { result ≡ put_register true w p }
 {
-    let here = there & is_register(w.address);
-    if here {
+    if is_register(w.address) {
         return r6501q_registers::write::write(p, w.address, w.value);
     }
     p
@@ -92,12 +90,15 @@ fn registers_after(p: Peripherals, w: Writes) -> Peripherals
     if w.count == 0 {
         return p;
     }
-    let first = put_register(0 < w.count, w.first, p);
+    let first = put_register(w.first, p);
     if w.count == 1 {
         return first;
     }
-    let second = put_register(1 < w.count, w.second, first);
-    put_register(2 < w.count, w.third, second)
+    let second = put_register(w.second, first);
+    if w.count == 2 {
+        return second;
+    }
+    put_register(w.third, second)
 }
 
 // The answer to what an instruction asks.

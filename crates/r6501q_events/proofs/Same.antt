@@ -1,11 +1,11 @@
 -- Levels that are found the same are the same, and RES low changes no field of a state just where the tests say so.
+use Rattle.std.specs.Prelude.{None, Option, Some}
+use Rattle.cpu_access.specs.declared.stack.Write.{Write}
 use mathlib.Core.Path.{◌≡◌, refl, sym, ap}
 use mathlib.Core.Bool.{Bool, true, false, ◌&&◌, not, beq, false≢true}
 use lib.Dec.{eqb}
 use borrow.Author.Tests.{eqb-true, eq-eqb, not-true}
 use Rattle.bits.proofs.Cond.{and_left, and_right}
-use Rattle.cpu_access.specs.declared.waiting.Waiting.{Waiting}
-use Rattle.cpu_access.specs.declared.waiting.Waiting.TheVariants.{Nothing, Byte}
 use Rattle.cpu_access.specs.Waiting.{byte_waits}
 use Rattle.serial_transmitter.specs.declared.Transmitter.{Transmitter}
 use Rattle.serial_receiver.specs.declared.Receiver.{Receiver}
@@ -112,10 +112,9 @@ receiver_idle_lem r e =
       register = eqb-true r.register 0 (and_right (sub && half && left) register e) i;
     }
 
-none_waits : (v : Waiting) → byte_waits v ≡ false → v ≡ Nothing
-unfolding byte_waits
-none_waits Nothing e = refl
-none_waits (Byte w) e = absurd (false≢true (sym e))
+none_waits : (v : Option Write) → byte_waits v ≡ false → v ≡ None
+none_waits None e = refl
+none_waits (Some w) e = absurd (false≢true (sym e))
 
 -- where the tests pass, RES low changes no field
 pub reset_same : (s : State) → is_reset s ≡ true → reset_of s ≡ s
@@ -171,5 +170,5 @@ reset_same s e =
 
 -- and where RES low changes no field, they pass
 pub same_reset : (s : State) → reset_of s ≡ s → is_reset s ≡ true
-unfolding is_reset ports_fresh control_fresh transmitter_idle receiver_idle reset_of byte_waits
+unfolding is_reset ports_fresh control_fresh transmitter_idle receiver_idle reset_of
 same_reset s e = ap is_reset (sym e)

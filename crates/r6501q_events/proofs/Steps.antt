@@ -1,5 +1,6 @@
 -- The tests of an event clock say what the clock does: the underflows are those of step 2, and in step 4 the CPU
 -- starts, or puts a byte, just where it is said to.
+use Rattle.std.specs.Prelude.{Some}
 use mathlib.Core.Path.{◌≡◌, refl, ◌∙◌}
 use mathlib.Core.Bool.{Bool, true, false, ◌&&◌}
 use mathlib.Core.List.{List}
@@ -11,7 +12,6 @@ use Rattle.bits.specs.Bits.{set_where}
 use Rattle.counters.specs.Counters.{ticks_of}
 use Rattle.bits.proofs.Cond.{and_left, and_right}
 use Rattle.cpu_access.specs.declared.stack.Write.{Write}
-use Rattle.cpu_access.specs.declared.waiting.Waiting.TheVariants.{Byte}
 use Rattle.cpu_access.specs.Waiting.{byte_waits}
 use Rattle.r6501q_state.specs.declared.state.State.{State}
 use Rattle.r6501q_state.specs.Copies.{with_wait}
@@ -50,9 +50,9 @@ module _ (before : ℕ) (s : State) where
       let over = eqb-true s.cpu.wait 0 (and_right s.last.res _ e) in
       rw (res, le-ltb 0 s.cpu.wait (omega arith))
 
-  pub step_put : (memory : List ℕ) (w : Write) → s.cpu.waiting ≡ Byte w → puts_byte s ≡ true
+  pub step_put : (memory : List ℕ) (w : Write) → s.cpu.waiting ≡ Some w → puts_byte s ≡ true
       → processor_of (with_peripherals_clock before s) memory ≡ Done (byte_put (with_peripherals_clock before s) w)
-  unfolding processor_of puts_byte byte_waits
+  unfolding processor_of puts_byte
   step_put memory w waits e =
       let last = and_right (s.last.res && byte_waits s.cpu.waiting) _ e in
       let res = and_left s.last.res _ (and_left (s.last.res && byte_waits s.cpu.waiting) _ e) in

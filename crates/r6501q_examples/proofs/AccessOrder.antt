@@ -1,4 +1,5 @@
 -- The order of an instruction's accesses (01, One clock, 4; the Programming Manual's cycles), of whole clocks.
+use Rattle.std.specs.Prelude.{None}
 use mathlib.Core.Path.{◌≡◌, refl}
 use mathlib.Core.Bool.{Bool, true, false}
 use mathlib.Core.List.{List, [], ◌∷◌, ◌++◌}
@@ -19,13 +20,10 @@ use Rattle.serial_transmitter.specs.Transmitter.{framed, taken, idle_tick, frame
 use Rattle.serial_transmitter.specs.Transmitter.{transmitter_clock, line, shift_clock, transmitter_with_sccr}
 use Rattle.cpu_opcodes.specs.Decode.{decode_of}
 use Rattle.cpu_alu.specs.Status.{packed, unpacked, pushed}
-use Rattle.cpu_access.specs.declared.halt.Halt.TheVariants.{Nowhere, At}
 use Rattle.cpu_access.specs.Halt.{is_written, halts}
 use Rattle.cpu_access.proofs.Told.{told}
 use Rattle.cpu_access.specs.Stack.{write_at}
 use Rattle.cpu_access.specs.Bus.{memory_byte}
-use Rattle.cpu_access.specs.declared.waiting.Waiting.TheVariants.{Nothing, Byte}
-use Rattle.cpu_access.specs.Waiting.{byte_waits}
 use Rattle.cpu_access.specs.Accesses.{byte_after, peripherals_read, peripherals_written, value_read, performed, in_order}
 use Rattle.cpu_modes.specs.ModeAccesses.{located}
 use Rattle.cpu_modes.specs.Modes.{displacement}
@@ -70,7 +68,7 @@ use Rattle.r6501q_examples.proofs.Examples.{start_with}
 -- SP, P, the interrupt flags and enables, and the external levels of the ports; PC 0040h, nothing due, no wait
 abbrev pub ready_at : ℕ → ℕ → ℕ → ℕ → ℕ → State
 ready_at sp p ifr ier ports = record {
-  cpu = record { a = 0; x = 0; y = 0; sp = sp; p = p; pc = 0x40; wait = 0; waiting = Nothing };
+  cpu = record { a = 0; x = 0; y = 0; sp = sp; p = p; pc = 0x40; wait = 0; waiting = None };
   due = record { reset = false; nmi = false };
   peripherals = record {
     ports = fresh_ports;
@@ -108,25 +106,25 @@ over_underflow = start_with (pulsing 2) (replicate 0x40 0 ++ (0x87 ∷ 0x00 ∷ 
 pub record AccessOrder : Type 0 where
   -- 02, U6, SMB0 00h: on clock 3 counter A inverts bit 4 of port A's latch; the put on clock 5 writes the byte that was
   -- worked out on clock 1, bit 4 as it was then
-  pub underflow_between : (plains (system Nowhere) 3 over_underflow).state.peripherals.ports.a ≡ 0xEF
-  pub byte_of_first_clock : (plains (system Nowhere) 5 over_underflow).state.peripherals.ports.a ≡ 0xFF
+  pub underflow_between : (plains (system None) 3 over_underflow).state.peripherals.ports.a ≡ 0xEF
+  pub byte_of_first_clock : (plains (system None) 5 over_underflow).state.peripherals.ports.a ≡ 0xFF
   -- JSR with SP at its own last byte: the high byte of the target is the one that was just pushed
   pub call_over_itself : (l h : ℕ)
-      → (plains (system Nowhere) 1 (start_at (ready_at 0x42 0 0 0 0xFFFFFFFF) (0x20 ∷ l ∷ h ∷ []))).state.cpu.pc
+      → (plains (system None) 1 (start_at (ready_at 0x42 0 0 0 0xFFFFFFFF) (0x20 ∷ l ∷ h ∷ []))).state.cpu.pc
       ≡ word16 0x00 l
   -- INC 00h with PA0 held low from outside: the latch FFh is read, not the levels FEh; its byte is put on clock 5
-  pub modify_by_latch : (plains (system Nowhere) 5
+  pub modify_by_latch : (plains (system None) 5
       (start_at (ready_at 0xFF 0 0 0 0xFFFFFFFE) (0xE6 ∷ 0x00 ∷ []))).state.peripherals.ports.a ≡ 0x00
   -- LDA 00h there: step 1's levels
-  pub read_by_levels : (plains (system Nowhere) 1
+  pub read_by_levels : (plains (system None) 1
       (start_at (ready_at 0xFF 0 0 0 0xFFFFFFFE) (0xA5 ∷ 0x00 ∷ []))).state.cpu.a ≡ 0xFE
   -- an IRQ entry pushes PC high, PC low, P with bit 5 and not bit 4
   pub entry_pushes_lem : told (told_by (clock_in (start_at (ready_at 0xFF 0x01 0x01 0x01 0xFFFFFFFF) [])))
       ≡ write_at 0x00FF 0x00 ∷ write_at 0x00FE 0x40 ∷ write_at 0x00FD 0x21 ∷ []
   -- RTI pulls P, then PC, low byte first
-  pub return_pulls : (plains (system Nowhere) 1
+  pub return_pulls : (plains (system None) 1
       (start_at (ready_at 0x42 0 0 0 0xFFFFFFFF) (0x40 ∷ 0 ∷ 0 ∷ 0xC3 ∷ 0x34 ∷ 0x12 ∷ []))).state.cpu
-      ≡ record { a = 0; x = 0; y = 0; sp = 0x45; p = 0xC3; pc = 0x1234; wait = 5; waiting = Nothing }
+      ≡ record { a = 0; x = 0; y = 0; sp = 0x45; p = 0xC3; pc = 0x1234; wait = 5; waiting = None }
 
 pub access_order : AccessOrder
 unfolding with_bit set_where flip_where input_count ticks_of in_force down_a counts_a clock_a lower_a upper_a load_counter_a reload_b

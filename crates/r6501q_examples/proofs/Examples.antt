@@ -1,5 +1,6 @@
 -- P1, P2, P5 and P6 of document 01, of whole clocks as the chip makes them: steps 1 to 5, and where a register is
 -- written, by an instruction.
+use Rattle.std.specs.Prelude.{None, Some}
 use mathlib.Core.Path.{◌≡◌, refl}
 use mathlib.Core.Bool.{Bool, true, false}
 use mathlib.Core.List.{List, [], ◌∷◌, ◌++◌}
@@ -22,13 +23,10 @@ use Rattle.serial_transmitter.specs.Transmitter.{framed, taken, idle_tick, frame
 use Rattle.serial_transmitter.specs.Transmitter.{transmitter_clock, line, shift_clock, transmitter_with_sccr}
 use Rattle.cpu_opcodes.specs.Decode.{decode_of}
 use Rattle.cpu_alu.specs.Status.{packed, unpacked, pushed}
-use Rattle.cpu_access.specs.declared.halt.Halt.TheVariants.{Nowhere, At}
 use Rattle.cpu_access.specs.Halt.{is_written, halts}
 use Rattle.cpu_access.proofs.Told.{told}
 use Rattle.cpu_access.specs.Stack.{write_at}
 use Rattle.cpu_access.specs.Bus.{memory_byte}
-use Rattle.cpu_access.specs.declared.waiting.Waiting.TheVariants.{Nothing, Byte}
-use Rattle.cpu_access.specs.Waiting.{byte_waits}
 use Rattle.cpu_access.specs.Accesses.{byte_after, peripherals_read, peripherals_written, value_read, performed, in_order}
 use Rattle.cpu_modes.specs.ModeAccesses.{located}
 use Rattle.cpu_modes.specs.Modes.{displacement}
@@ -108,7 +106,7 @@ unfolding with_bit set_where flip_where input_count ticks_of in_force down_a cou
 p1_cleared clock = refl
 
 pub p1_clock : (clock : ℕ) (memory times words : List ℕ)
-    → plain Nowhere (start_with (held_low 0x30 clock) memory [] [] times words)
+    → plain None (start_with (held_low 0x30 clock) memory [] [] times words)
     ≡ start_with (held_low 0x30 (clock + 1)) memory [] [] times words
 unfolding with_bit set_where flip_where input_count ticks_of in_force down_a counts_a clock_a lower_a upper_a load_counter_a reload_b
     down_b clock_b lower_b upper_b copy_b load_counter_b turn_to_c transmitter_asynchronous receiver_asynchronous receiver_shifting
@@ -121,7 +119,7 @@ unfolding with_bit set_where flip_where input_count ticks_of in_force down_a cou
 p1_clock clock memory times words = refl
 
 pub p1_clocks : (n clock : ℕ) (memory times words : List ℕ)
-    → plains (system Nowhere) n (start_with (held_low 0x30 clock) memory [] [] times words)
+    → plains (system None) n (start_with (held_low 0x30 clock) memory [] [] times words)
     ≡ start_with (held_low 0x30 (clock + n)) memory [] [] times words
 unfolding plains
 p1_clocks zero clock memory times words = let e : clock + 0 ≡ clock = omega arith in rw e
@@ -134,7 +132,7 @@ p1_clocks (suc n) clock memory times words =
 
 abbrev pub after_reset : ℕ → State
 after_reset wait = record {
-  cpu = record { a = 0; x = 0; y = 0; sp = 0xFF; p = 0x04; pc = 0x40; wait = wait; waiting = Nothing };
+  cpu = record { a = 0; x = 0; y = 0; sp = 0xFF; p = 0x04; pc = 0x40; wait = wait; waiting = None };
   due = record { reset = false; nmi = false };
   peripherals = fresh_peripherals;
   external = high_levels;
@@ -150,7 +148,7 @@ timer_program lower start =
 abbrev pub timer_start : ℕ → ℕ → World
 timer_start lower start = start_with (after_reset 0) (timer_program lower start) [] [] [] []
 
-pub p2_loaded : (plains (system Nowhere) 10 (timer_start 0x18 0x1A)).state.peripherals.countera
+pub p2_loaded : (plains (system None) 10 (timer_start 0x18 0x1A)).state.peripherals.countera
     ≡ record { count = 5; latch = 5 }
 unfolding with_bit set_where flip_where input_count ticks_of in_force down_a counts_a clock_a lower_a upper_a load_counter_a reload_b
     down_b clock_b lower_b upper_b copy_b load_counter_b turn_to_c transmitter_asynchronous receiver_asynchronous receiver_shifting
@@ -169,7 +167,7 @@ unfolding with_bit set_where flip_where input_count ticks_of in_force down_a cou
 p2_loaded = refl
 
 pub p2_clocks : tabulate
-    (λ k. bit 4 (plains (system Nowhere) k (timer_start 0x18 0x1A)).state.peripherals.control.ifr)
+    (λ k. bit 4 (plains (system None) k (timer_start 0x18 0x1A)).state.peripherals.control.ifr)
     7 10
     ≡ false ∷ false ∷ false ∷ false ∷ false ∷ false ∷ true ∷ []
 unfolding with_bit set_where flip_where input_count ticks_of in_force down_a counts_a clock_a lower_a upper_a load_counter_a reload_b
@@ -189,7 +187,7 @@ unfolding with_bit set_where flip_where input_count ticks_of in_force down_a cou
 p2_clocks = refl
 
 pub p2_clocks_b : tabulate
-    (λ k. bit 5 (plains (system Nowhere) k (timer_start 0x1C 0x1E)).state.peripherals.control.ifr) 7 10
+    (λ k. bit 5 (plains (system None) k (timer_start 0x1C 0x1E)).state.peripherals.control.ifr) 7 10
     ≡ false ∷ false ∷ false ∷ false ∷ false ∷ false ∷ true ∷ []
 unfolding with_bit set_where flip_where input_count ticks_of in_force down_a counts_a clock_a lower_a upper_a load_counter_a reload_b
     down_b clock_b lower_b upper_b copy_b load_counter_b turn_to_c transmitter_asynchronous receiver_asynchronous receiver_shifting
@@ -225,7 +223,7 @@ abbrev pub line_start : ℕ → ℕ → List ℕ → World
 line_start register received memory = start_with (listening register received) memory (1 ∷ 3 ∷ []) (7 ∷ 71 ∷ []) [] []
 
 pub p6_low : (register received : ℕ) (memory : List ℕ)
-    → (plains (system Nowhere) 2 (line_start register received memory)).state.peripherals.receiver
+    → (plains (system None) 2 (line_start register received memory)).state.peripherals.receiver
     ≡ record { subinterval = 1; half = false; left = 0; register = register }
 unfolding with_bit set_where flip_where input_count ticks_of in_force down_a counts_a clock_a lower_a upper_a load_counter_a reload_b
     down_b clock_b lower_b upper_b copy_b load_counter_b turn_to_c transmitter_asynchronous receiver_asynchronous receiver_shifting
@@ -238,7 +236,7 @@ unfolding with_bit set_where flip_where input_count ticks_of in_force down_a cou
 p6_low register received memory = refl
 
 pub p6_none : (register received : ℕ) (memory : List ℕ)
-    → (plains (system Nowhere) 4 (line_start register received memory)).state.peripherals.receiver
+    → (plains (system None) 4 (line_start register received memory)).state.peripherals.receiver
     ≡ record { subinterval = 0; half = false; left = 0; register = register }
 unfolding with_bit set_where flip_where input_count ticks_of in_force down_a counts_a clock_a lower_a upper_a load_counter_a reload_b
     down_b clock_b lower_b upper_b copy_b load_counter_b turn_to_c transmitter_asynchronous receiver_asynchronous receiver_shifting
@@ -251,7 +249,7 @@ unfolding with_bit set_where flip_where input_count ticks_of in_force down_a cou
 p6_none register received memory = refl
 
 pub p6_status : (register received : ℕ) (memory : List ℕ)
-    → (plains (system Nowhere) 4 (line_start register received memory)).state.peripherals.control.scsr ≡ 0x40
+    → (plains (system None) 4 (line_start register received memory)).state.peripherals.control.scsr ≡ 0x40
 unfolding with_bit set_where flip_where input_count ticks_of in_force down_a counts_a clock_a lower_a upper_a load_counter_a reload_b
     down_b clock_b lower_b upper_b copy_b load_counter_b turn_to_c transmitter_asynchronous receiver_asynchronous receiver_shifting
     holds_a keeps_transmitter keeps_receiver parity_bit frame_bits sent_bits pace start_detected with_level received_byte
@@ -276,7 +274,7 @@ abbrev pub sender_start : World
 sender_start = start_with (after_reset 0) sender_program [] [] (replicate 6 0) (replicate 6 0)
 
 -- the start bit is on the line after clock 19
-pub p5_start : (plains (system Nowhere) 19 sender_start).state.peripherals.transmitter
+pub p5_start : (plains (system None) 19 sender_start).state.peripherals.transmitter
     ≡ record { left = 11; phase = 0; register = 0x682 }
 unfolding with_bit set_where flip_where input_count ticks_of in_force down_a counts_a clock_a lower_a upper_a load_counter_a reload_b
     down_b clock_b lower_b upper_b copy_b load_counter_b turn_to_c transmitter_asynchronous receiver_asynchronous receiver_shifting
@@ -296,7 +294,7 @@ p5_start = refl
 
 -- after clock 194 one bit is left, and after clock 195 it is idle, with an under-run; the line's six edges are its
 -- records
-pub p5_last_bit : (plains (system Nowhere) 194 sender_start).state.peripherals.transmitter.left ≡ 1
+pub p5_last_bit : (plains (system None) 194 sender_start).state.peripherals.transmitter.left ≡ 1
 unfolding with_bit set_where flip_where input_count ticks_of in_force down_a counts_a clock_a lower_a upper_a load_counter_a reload_b
     down_b clock_b lower_b upper_b copy_b load_counter_b turn_to_c transmitter_asynchronous receiver_asynchronous receiver_shifting
     holds_a keeps_transmitter keeps_receiver parity_bit frame_bits sent_bits pace start_detected with_level received_byte
@@ -313,7 +311,7 @@ unfolding with_bit set_where flip_where input_count ticks_of in_force down_a cou
     with_flag instruction_accesses reset_accesses interrupt_accesses
 p5_last_bit = refl
 
-pub p5_idle : (plains (system Nowhere) 195 sender_start).state.peripherals.transmitter ≡ idle_transmitter
+pub p5_idle : (plains (system None) 195 sender_start).state.peripherals.transmitter ≡ idle_transmitter
 unfolding with_bit set_where flip_where input_count ticks_of in_force down_a counts_a clock_a lower_a upper_a load_counter_a reload_b
     down_b clock_b lower_b upper_b copy_b load_counter_b turn_to_c transmitter_asynchronous receiver_asynchronous receiver_shifting
     holds_a keeps_transmitter keeps_receiver parity_bit frame_bits sent_bits pace start_detected with_level received_byte
@@ -330,7 +328,7 @@ unfolding with_bit set_where flip_where input_count ticks_of in_force down_a cou
     with_flag instruction_accesses reset_accesses interrupt_accesses
 p5_idle = refl
 
-pub p5_edges : (plains (system Nowhere) 195 sender_start).output_clocks ≡ 19 ∷ 35 ∷ 51 ∷ 131 ∷ 147 ∷ 163 ∷ []
+pub p5_edges : (plains (system None) 195 sender_start).output_clocks ≡ 19 ∷ 35 ∷ 51 ∷ 131 ∷ 147 ∷ 163 ∷ []
 unfolding with_bit set_where flip_where input_count ticks_of in_force down_a counts_a clock_a lower_a upper_a load_counter_a reload_b
     down_b clock_b lower_b upper_b copy_b load_counter_b turn_to_c transmitter_asynchronous receiver_asynchronous receiver_shifting
     holds_a keeps_transmitter keeps_receiver parity_bit frame_bits sent_bits pace start_detected with_level received_byte
@@ -363,7 +361,7 @@ tape_start free = start_with fresh tape_memory (1 ∷ []) (res_high ∷ []) (rep
 abbrev pub reached : World → List ℕ
 reached w = w.stop ∷ w.state.clock ∷ w.state.cpu.wait ∷ w.written ∷ []
 
-pub halt_reached : reached (plains (system (At 0)) 100 (tape_start 1)) ≡ 12 ∷ 12 ∷ 0 ∷ 1 ∷ []
+pub halt_reached : reached (plains (system (Some 0)) 100 (tape_start 1)) ≡ 12 ∷ 12 ∷ 0 ∷ 1 ∷ []
 unfolding with_bit set_where flip_where input_count ticks_of in_force down_a counts_a clock_a lower_a upper_a load_counter_a reload_b
     down_b clock_b lower_b upper_b copy_b load_counter_b turn_to_c transmitter_asynchronous receiver_asynchronous receiver_shifting
     holds_a keeps_transmitter keeps_receiver parity_bit frame_bits sent_bits pace start_detected with_level received_byte
@@ -381,7 +379,7 @@ unfolding with_bit set_where flip_where input_count ticks_of in_force down_a cou
 halt_reached = refl
 
 -- the halted leap is done and counted: event clocks 1, 8, 10 and 12
-pub halt_leaps : leap_count (system (At 0)) 100 (tape_start 1) ≡ 4
+pub halt_leaps : leap_count (system (Some 0)) 100 (tape_start 1) ≡ 4
 unfolding with_bit set_where flip_where input_count ticks_of in_force down_a counts_a clock_a lower_a upper_a load_counter_a reload_b
     down_b clock_b lower_b upper_b copy_b load_counter_b turn_to_c transmitter_asynchronous receiver_asynchronous receiver_shifting
     holds_a keeps_transmitter keeps_receiver parity_bit frame_bits sent_bits pace start_detected with_level received_byte
@@ -393,7 +391,7 @@ unfolding with_bit set_where flip_where input_count ticks_of in_force down_a cou
     nmi_start irq_start start_of byte_put processor_of with_inputs count_a count_b sent_by heard_by peripherals_clock before_cpu
     finished clock_of is_written halts put_write committed plain_of plains put_record events_in quiet_end trace leap_count
     done_in event_in has_input same_levels levels_change underflows_a underflows_b ports_fresh control_fresh transmitter_idle
-    receiver_idle is_reset reset_changes cpu_starts puts_byte byte_waits event_of located byte_after peripherals_read
+    receiver_idle is_reset reset_changes cpu_starts puts_byte event_of located byte_after peripherals_read
     peripherals_written value_read performed in_order completion store_at modify_accesses branch_on bit_branch_accesses jump_to
     push_accesses pull_accesses return_accesses interrupt_return_accesses entry_accesses break_accesses jsr_accesses
     operation_accesses with_read changed_by byte_to_store branch_taken bit_branch_taken byte_to_push with_pulled with_register
@@ -401,7 +399,7 @@ unfolding with_bit set_where flip_where input_count ticks_of in_force down_a cou
 halt_leaps = refl
 
 -- 12 "also where that clock is the run's last", 0 where the run ends before it
-pub halt_last : reached (plains (system (At 0)) 12 (tape_start 1)) ≡ 12 ∷ 12 ∷ 0 ∷ 1 ∷ []
+pub halt_last : reached (plains (system (Some 0)) 12 (tape_start 1)) ≡ 12 ∷ 12 ∷ 0 ∷ 1 ∷ []
 unfolding with_bit set_where flip_where input_count ticks_of in_force down_a counts_a clock_a lower_a upper_a load_counter_a reload_b
     down_b clock_b lower_b upper_b copy_b load_counter_b turn_to_c transmitter_asynchronous receiver_asynchronous receiver_shifting
     holds_a keeps_transmitter keeps_receiver parity_bit frame_bits sent_bits pace start_detected with_level received_byte
@@ -418,7 +416,7 @@ unfolding with_bit set_where flip_where input_count ticks_of in_force down_a cou
     with_flag instruction_accesses reset_accesses interrupt_accesses
 halt_last = refl
 
-pub halt_before : reached (plains (system (At 0)) 11 (tape_start 1)) ≡ 0 ∷ 11 ∷ 1 ∷ 0 ∷ []
+pub halt_before : reached (plains (system (Some 0)) 11 (tape_start 1)) ≡ 0 ∷ 11 ∷ 1 ∷ 0 ∷ []
 unfolding with_bit set_where flip_where input_count ticks_of in_force down_a counts_a clock_a lower_a upper_a load_counter_a reload_b
     down_b clock_b lower_b upper_b copy_b load_counter_b turn_to_c transmitter_asynchronous receiver_asynchronous receiver_shifting
     holds_a keeps_transmitter keeps_receiver parity_bit frame_bits sent_bits pace start_detected with_level received_byte
@@ -436,7 +434,7 @@ unfolding with_bit set_where flip_where input_count ticks_of in_force down_a cou
 halt_before = refl
 
 -- "6 and 7 for that same clock come first"
-pub halt_full : reached (plains (system (At 0)) 100 (tape_start 0)) ≡ 7 ∷ 11 ∷ 1 ∷ 0 ∷ []
+pub halt_full : reached (plains (system (Some 0)) 100 (tape_start 0)) ≡ 7 ∷ 11 ∷ 1 ∷ 0 ∷ []
 unfolding with_bit set_where flip_where input_count ticks_of in_force down_a counts_a clock_a lower_a upper_a load_counter_a reload_b
     down_b clock_b lower_b upper_b copy_b load_counter_b turn_to_c transmitter_asynchronous receiver_asynchronous receiver_shifting
     holds_a keeps_transmitter keeps_receiver parity_bit frame_bits sent_bits pace start_detected with_level received_byte
@@ -454,7 +452,7 @@ unfolding with_bit set_where flip_where input_count ticks_of in_force down_a cou
 halt_full = refl
 
 -- 02, U6: "The `replay` example's first line becomes `12 FFFFFF55`": its one record with no halt address
-pub tape_record : (plains (system Nowhere) 100 (tape_start 2)).output_clocks ≡ 12 ∷ 0 ∷ []
+pub tape_record : (plains (system None) 100 (tape_start 2)).output_clocks ≡ 12 ∷ 0 ∷ []
 unfolding with_bit set_where flip_where input_count ticks_of in_force down_a counts_a clock_a lower_a upper_a load_counter_a reload_b
     down_b clock_b lower_b upper_b copy_b load_counter_b turn_to_c transmitter_asynchronous receiver_asynchronous receiver_shifting
     holds_a keeps_transmitter keeps_receiver parity_bit frame_bits sent_bits pace start_detected with_level received_byte
@@ -471,7 +469,7 @@ unfolding with_bit set_where flip_where input_count ticks_of in_force down_a cou
     with_flag instruction_accesses reset_accesses interrupt_accesses
 tape_record = refl
 
-pub tape_word : (plains (system Nowhere) 100 (tape_start 2)).output_words ≡ 0xFFFFFF55 ∷ 0 ∷ []
+pub tape_word : (plains (system None) 100 (tape_start 2)).output_words ≡ 0xFFFFFF55 ∷ 0 ∷ []
 unfolding with_bit set_where flip_where input_count ticks_of in_force down_a counts_a clock_a lower_a upper_a load_counter_a reload_b
     down_b clock_b lower_b upper_b copy_b load_counter_b turn_to_c transmitter_asynchronous receiver_asynchronous receiver_shifting
     holds_a keeps_transmitter keeps_receiver parity_bit frame_bits sent_bits pace start_detected with_level received_byte
@@ -489,8 +487,8 @@ unfolding with_bit set_where flip_where input_count ticks_of in_force down_a cou
 tape_word = refl
 
 -- 02, U6: on clocks 10 and 11 the byte of STA 00h waits; on clock 12, where no record is free, it still does
-pub halt_waiting : tabulate (λ k. (plains (system (At 0)) k (tape_start 1)).state.cpu.waiting) 4 9
-    ≡ Nothing ∷ Byte (write_at 0x0000 0x55) ∷ Byte (write_at 0x0000 0x55) ∷ Nothing ∷ []
+pub halt_waiting : tabulate (λ k. (plains (system (Some 0)) k (tape_start 1)).state.cpu.waiting) 4 9
+    ≡ None ∷ Some (write_at 0x0000 0x55) ∷ Some (write_at 0x0000 0x55) ∷ None ∷ []
 unfolding with_bit set_where flip_where input_count ticks_of in_force down_a counts_a clock_a lower_a upper_a load_counter_a reload_b
     down_b clock_b lower_b upper_b copy_b load_counter_b turn_to_c transmitter_asynchronous receiver_asynchronous receiver_shifting
     holds_a keeps_transmitter keeps_receiver parity_bit frame_bits sent_bits pace start_detected with_level received_byte
@@ -507,7 +505,7 @@ unfolding with_bit set_where flip_where input_count ticks_of in_force down_a cou
     with_flag instruction_accesses reset_accesses interrupt_accesses
 halt_waiting = refl
 
-pub full_waiting : (plains (system (At 0)) 100 (tape_start 0)).state.cpu.waiting ≡ Byte (write_at 0x0000 0x55)
+pub full_waiting : (plains (system (Some 0)) 100 (tape_start 0)).state.cpu.waiting ≡ Some (write_at 0x0000 0x55)
 unfolding with_bit set_where flip_where input_count ticks_of in_force down_a counts_a clock_a lower_a upper_a load_counter_a reload_b
     down_b clock_b lower_b upper_b copy_b load_counter_b turn_to_c transmitter_asynchronous receiver_asynchronous receiver_shifting
     holds_a keeps_transmitter keeps_receiver parity_bit frame_bits sent_bits pace start_detected with_level received_byte
@@ -528,7 +526,7 @@ full_waiting = refl
 abbrev pub undefined_next : World
 undefined_next = start_with (after_reset 0) (replicate 0x40 0 ++ (0x85 ∷ 0x00 ∷ 0x02 ∷ [])) [] [] (0 ∷ []) (0 ∷ [])
 
-pub halt_before_six : reached (plains (system (At 0)) 10 undefined_next) ≡ 12 ∷ 3 ∷ 0 ∷ 1 ∷ []
+pub halt_before_six : reached (plains (system (Some 0)) 10 undefined_next) ≡ 12 ∷ 3 ∷ 0 ∷ 1 ∷ []
 unfolding with_bit set_where flip_where input_count ticks_of in_force down_a counts_a clock_a lower_a upper_a load_counter_a reload_b
     down_b clock_b lower_b upper_b copy_b load_counter_b turn_to_c transmitter_asynchronous receiver_asynchronous receiver_shifting
     holds_a keeps_transmitter keeps_receiver parity_bit frame_bits sent_bits pace start_detected with_level received_byte
@@ -548,7 +546,7 @@ halt_before_six = refl
 -- JSR 0200h at 0040h with SP 00h: it tells port A and 00FFh, in order
 abbrev pub at_call : State
 at_call = record {
-  cpu = record { a = 0; x = 0; y = 0; sp = 0x00; p = 0x04; pc = 0x40; wait = 0; waiting = Nothing };
+  cpu = record { a = 0; x = 0; y = 0; sp = 0x00; p = 0x04; pc = 0x40; wait = 0; waiting = None };
   due = record { reset = false; nmi = false };
   peripherals = fresh_peripherals;
   external = high_levels;

@@ -1,5 +1,6 @@
 -- Document 02, U5, of a whole clock: JMP (02FFh) takes the low byte of its target from 02FFh and the high byte from
 -- 0200h.
+use Rattle.std.specs.Prelude.{None}
 use mathlib.Core.Path.{◌≡◌, refl}
 use mathlib.Core.Bool.{Bool, true, false}
 use mathlib.Core.List.{List, [], ◌∷◌, ◌++◌}
@@ -20,13 +21,10 @@ use Rattle.serial_transmitter.specs.Transmitter.{framed, taken, idle_tick, frame
 use Rattle.serial_transmitter.specs.Transmitter.{transmitter_clock, line, shift_clock, transmitter_with_sccr}
 use Rattle.cpu_opcodes.specs.Decode.{decode_of}
 use Rattle.cpu_alu.specs.Status.{packed, unpacked, pushed}
-use Rattle.cpu_access.specs.declared.halt.Halt.TheVariants.{Nowhere, At}
 use Rattle.cpu_access.specs.Halt.{is_written, halts}
 use Rattle.cpu_access.proofs.Told.{told}
 use Rattle.cpu_access.specs.Stack.{write_at}
 use Rattle.cpu_access.specs.Bus.{memory_byte}
-use Rattle.cpu_access.specs.declared.waiting.Waiting.TheVariants.{Nothing, Byte}
-use Rattle.cpu_access.specs.Waiting.{byte_waits}
 use Rattle.cpu_access.specs.Accesses.{byte_after, peripherals_read, peripherals_written, value_read, performed, in_order}
 use Rattle.cpu_modes.specs.ModeAccesses.{located}
 use Rattle.cpu_modes.specs.Modes.{displacement}
@@ -74,8 +72,8 @@ jump_memory first last next =
     ++ (last ∷ next ∷ [])
 
 pub indirect_jump : (first last next : ℕ)
-    → (plains (system Nowhere) 1 (start_with (after_reset 0) (jump_memory first last next) [] [] [] [])).state.cpu
-    ≡ record { a = 0; x = 0; y = 0; sp = 0xFF; p = 0x04; pc = word16 first last; wait = 4; waiting = Nothing }
+    → (plains (system None) 1 (start_with (after_reset 0) (jump_memory first last next) [] [] [] [])).state.cpu
+    ≡ record { a = 0; x = 0; y = 0; sp = 0xFF; p = 0x04; pc = word16 first last; wait = 4; waiting = None }
 unfolding with_bit set_where flip_where input_count ticks_of in_force down_a counts_a clock_a lower_a upper_a load_counter_a reload_b
     down_b clock_b lower_b upper_b copy_b load_counter_b turn_to_c transmitter_asynchronous receiver_asynchronous receiver_shifting
     holds_a keeps_transmitter keeps_receiver parity_bit frame_bits sent_bits pace start_detected with_level received_byte

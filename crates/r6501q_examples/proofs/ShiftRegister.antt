@@ -1,5 +1,6 @@
 -- Document 02, U1, of whole clocks as the chip makes them: a byte sent and a byte received in shift-register mode, each
 -- register write by an instruction, each level by the pin list, each drive as it is recorded.
+use Rattle.std.specs.Prelude.{None}
 use mathlib.Core.Path.{◌≡◌, refl}
 use mathlib.Core.Bool.{Bool, true, false}
 use mathlib.Core.List.{List, [], ◌∷◌, ◌++◌}
@@ -20,13 +21,10 @@ use Rattle.serial_transmitter.specs.Transmitter.{framed, taken, idle_tick, frame
 use Rattle.serial_transmitter.specs.Transmitter.{transmitter_clock, line, shift_clock, transmitter_with_sccr}
 use Rattle.cpu_opcodes.specs.Decode.{decode_of}
 use Rattle.cpu_alu.specs.Status.{packed, unpacked, pushed}
-use Rattle.cpu_access.specs.declared.halt.Halt.TheVariants.{Nowhere, At}
 use Rattle.cpu_access.specs.Halt.{is_written, halts}
 use Rattle.cpu_access.proofs.Told.{told}
 use Rattle.cpu_access.specs.Stack.{write_at}
 use Rattle.cpu_access.specs.Bus.{memory_byte}
-use Rattle.cpu_access.specs.declared.waiting.Waiting.TheVariants.{Nothing, Byte}
-use Rattle.cpu_access.specs.Waiting.{byte_waits}
 use Rattle.cpu_access.specs.Accesses.{byte_after, peripherals_read, peripherals_written, value_read, performed, in_order}
 use Rattle.cpu_modes.specs.ModeAccesses.{located}
 use Rattle.cpu_modes.specs.Modes.{displacement}
@@ -116,32 +114,32 @@ receiver_start = start_with shift_receiver (replicate 0x40 0 ++ (0x4C ∷ 0x40 �
 pub record ShiftRegister : Type 0 where
   -- 41h put on clock 18 with SCCR A0h and latch 0: taken on 19, shifted on each second clock; PA4 is low and high
   -- for each bit; after clock 35 an under-run, both lines high
-  pub sent_clocks : (plains (system Nowhere) 35 (shift_start then_nothing)).output_clocks ≡ tabulate (λ k. k) 17 19
-  pub sent_words : (plains (system Nowhere) 35 (shift_start then_nothing)).output_words
+  pub sent_clocks : (plains (system None) 35 (shift_start then_nothing)).output_clocks ≡ tabulate (λ k. k) 17 19
+  pub sent_words : (plains (system None) 35 (shift_start then_nothing)).output_words
       ≡ driven_a 0xEF ∷ driven_a 0xFF ∷ driven_a 0xAF ∷ driven_a 0xBF ∷ driven_a 0xAF ∷ driven_a 0xBF ∷ driven_a 0xAF
       ∷ driven_a 0xBF
       ∷ driven_a 0xAF ∷ driven_a 0xBF ∷ driven_a 0xAF ∷ driven_a 0xBF ∷ driven_a 0xEF ∷ driven_a 0xFF ∷ driven_a 0xAF
       ∷ driven_a 0xBF
       ∷ driven_a 0xFF ∷ []
-  pub under_run : (plains (system Nowhere) 35 (shift_start then_nothing)).state.peripherals.control.scsr ≡ 0xC0
+  pub under_run : (plains (system None) 35 (shift_start then_nothing)).state.peripherals.control.scsr ≡ 0xC0
   -- "it takes the next data that tick": 17h written again meanwhile, PA4 is low and PA6 the next byte's first bit
-  pub next_taken : (plains (system Nowhere) 35 (shift_start then_another)).state.peripherals.transmitter
+  pub next_taken : (plains (system None) 35 (shift_start then_another)).state.peripherals.transmitter
       ≡ record { left = 8; phase = 0; register = 0x41 }
-  pub next_driven : driven_word (plains (system Nowhere) 35 (shift_start then_another)).state.peripherals ≡ driven_a 0xEF
+  pub next_driven : driven_word (plains (system None) 35 (shift_start then_another)).state.peripherals ≡ driven_a 0xEF
   -- SCCR written with the same A0h ends the byte: PA4 and PA6 go high
-  pub sccr_again : (plains (system Nowhere) 23 (shift_start then_sccr_again)).state.peripherals.transmitter
+  pub sccr_again : (plains (system None) 23 (shift_start then_sccr_again)).state.peripherals.transmitter
       ≡ idle_transmitter
-  pub sccr_driven : driven_word (plains (system Nowhere) 22 (shift_start then_sccr_again)).state.peripherals
+  pub sccr_driven : driven_word (plains (system None) 22 (shift_start then_sccr_again)).state.peripherals
       ≡ driven_a 0xBF
-  pub sccr_high : driven_word (plains (system Nowhere) 23 (shift_start then_sccr_again)).state.peripherals ≡ driven_a 0xFF
+  pub sccr_high : driven_word (plains (system None) 23 (shift_start then_sccr_again)).state.peripherals ≡ driven_a 0xFF
   -- PA7 1, 0, 0, 0, 0, 0, 1, 0 at rises of PA4, SCCR 50h: 7 bits left and 400h after the first, 208h and the byte 41h
   -- at the last
-  pub first_rise : (plains (system Nowhere) 2 receiver_start).state.peripherals.receiver
+  pub first_rise : (plains (system None) 2 receiver_start).state.peripherals.receiver
       ≡ record { subinterval = 0; half = false; left = 7; register = 0x400 }
-  pub last_rise : (plains (system Nowhere) 16 receiver_start).state.peripherals.receiver
+  pub last_rise : (plains (system None) 16 receiver_start).state.peripherals.receiver
       ≡ record { subinterval = 0; half = false; left = 0; register = 0x208 }
-  pub byte_received : (plains (system Nowhere) 16 receiver_start).state.peripherals.serial.received ≡ 0x41
-  pub byte_full : (plains (system Nowhere) 16 receiver_start).state.peripherals.control.scsr ≡ 0x41
+  pub byte_received : (plains (system None) 16 receiver_start).state.peripherals.serial.received ≡ 0x41
+  pub byte_full : (plains (system None) 16 receiver_start).state.peripherals.control.scsr ≡ 0x41
 
 pub shift_register : ShiftRegister
 unfolding with_bit set_where flip_where input_count ticks_of in_force down_a counts_a clock_a lower_a upper_a load_counter_a reload_b

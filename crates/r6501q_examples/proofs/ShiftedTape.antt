@@ -1,4 +1,5 @@
 -- Document 01's tape with the clock shifted.
+use Rattle.std.specs.Prelude.{Some}
 use mathlib.Core.Path.{◌≡◌, refl, sym, ap, ◌∙◌}
 use mathlib.Core.Bool.{Bool, true, false, not, cond, ◌&&◌}
 use mathlib.Core.List.{List, [], ◌∷◌}
@@ -8,12 +9,7 @@ use lib.Dec.{ltb, eqb}
 use lib.ListN.{length}
 use borrow.Author.Tests.{eq-eqb}
 use Rattle.bits.proofs.Cond.{cond_map, cond_along}
-use Rattle.cpu_access.specs.declared.halt.Halt.{Halt}
-use Rattle.cpu_access.specs.declared.halt.Halt.TheVariants.{At}
-use Rattle.cpu_access.specs.declared.waiting.Waiting.{Waiting}
-use Rattle.cpu_access.specs.declared.waiting.Waiting.TheVariants.{Nothing, Byte}
 use Rattle.cpu_access.specs.declared.stack.Write.{Write}
-use Rattle.cpu_access.specs.Waiting.{byte_waits}
 use Rattle.cpu.specs.InstructionAccesses.{Ending, undefined, leaves, instruction_accesses}
 use Rattle.memory.specs.Memory.{memory_length}
 use Rattle.pin_lists.specs.PinLists.{pins_right}
@@ -52,12 +48,12 @@ tape_at k = start_with (shifted_state k fresh) tape_memory ((1 + k) ∷ []) (res
 
 tape_alike : (k : ℕ) → ShiftedWorld shifted_state k (tape_start 1) (tape_at k)
 tape_alike k =
-    start_alike (At 0) k fresh tape_memory (1 ∷ []) (res_high ∷ []) (0 ∷ []) (0 ∷ []) (0 ∷ []) (0 ∷ []) refl refl
+    start_alike (Some 0) k fresh tape_memory (1 ∷ []) (res_high ∷ []) (0 ∷ []) (0 ∷ []) (0 ∷ []) (0 ∷ []) refl refl
 
-pub tape_reached : (k : ℕ) → reached (plains (system (At 0)) 100 (tape_at k)) ≡ 12 ∷ (12 + k) ∷ 0 ∷ 1 ∷ []
+pub tape_reached : (k : ℕ) → reached (plains (system (Some 0)) 100 (tape_at k)) ≡ 12 ∷ (12 + k) ∷ 0 ∷ 1 ∷ []
 tape_reached k =
-    by_fields (plains (system (At 0)) 100 (tape_start 1)) (plains (system (At 0)) 100 (tape_at k))
-    (plains_shifted (At 0) k (tape_start 1) (tape_at k) (tape_alike k) 100) ∙ ap clock_shifted halt_reached
+    by_fields (plains (system (Some 0)) 100 (tape_start 1)) (plains (system (Some 0)) 100 (tape_at k))
+    (plains_shifted (Some 0) k (tape_start 1) (tape_at k) (tape_alike k) 100) ∙ ap clock_shifted halt_reached
   where
     clock_shifted : List ℕ → List ℕ
     clock_shifted [] = []
@@ -67,5 +63,5 @@ tape_reached k =
     by_fields : (w v : World) → ShiftedWorld shifted_state k w v → reached v ≡ clock_shifted (reached w)
     by_fields w v r = rw (r.stop, r.state, r.written)
 
-pub tape_leaps : (k : ℕ) → leap_count (system (At 0)) 100 (tape_at k) ≡ 4
-tape_leaps k = count_shifted (At 0) k (tape_start 1) (tape_at k) (tape_alike k) 100 ∙ halt_leaps
+pub tape_leaps : (k : ℕ) → leap_count (system (Some 0)) 100 (tape_at k) ≡ 4
+tape_leaps k = count_shifted (Some 0) k (tape_start 1) (tape_at k) (tape_alike k) 100 ∙ halt_leaps

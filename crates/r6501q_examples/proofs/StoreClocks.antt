@@ -1,5 +1,6 @@
 -- 02, U6, of whole clocks: what the clocks of a store tell. A store's start tells no write, nor do the clocks between;
 -- the last tells just the byte that waited, and with RES low nothing is told.
+use Rattle.std.specs.Prelude.{Some}
 use mathlib.Core.Path.{◌≡◌, refl, ap, ◌∙◌}
 use mathlib.Core.Bool.{Bool, true, false, ◌&&◌, not, cond}
 use Prim.Native.Nat.{ℕ, ◌+◌, ◌<◌}
@@ -12,7 +13,6 @@ use Rattle.cpu_opcodes.specs.declared.Decoded.TheVariants.{Defined}
 use Rattle.cpu_opcodes.specs.declared.Entry.{Entry}
 use Rattle.cpu_access.specs.declared.stack.Write.{Write}
 use Rattle.cpu_access.specs.declared.stack.Writes.{Writes}
-use Rattle.cpu_access.specs.declared.waiting.Waiting.TheVariants.{Byte}
 use Rattle.cpu_access.specs.Stack.{no_writes, one_write}
 use Rattle.cpu_access.specs.Waiting.{byte_waits}
 use Rattle.cpu.proofs.Laws.{stores_of}
@@ -73,7 +73,7 @@ module _ (w : World) where
       untold _ (clock_waits (ready_in w) w.memory high some ∙ waited_less (ready_in w) more) refl
 
   -- the put
-  pub put_told : (x : Write) → (ready_in w).last.res ≡ true → (ready_in w).cpu.wait ≡ 1 → (ready_in w).cpu.waiting ≡ Byte x
+  pub put_told : (x : Write) → (ready_in w).last.res ≡ true → (ready_in w).cpu.wait ≡ 1 → (ready_in w).cpu.waiting ≡ Some x
       → told_by (clock_in w) ≡ cond (full_in w (byte_put (ready_in w) x)) no_writes (one_write x)
   unfolding byte_put
   put_told x high last waits = told_by_lem (byte_put (ready_in w) x) (byte_put_lem (ready_in w) w.memory x high last waits)

@@ -1,4 +1,5 @@
 -- Instructions one after the other keep within the span, and each takes a clock at least.
+use Rattle.std.specs.Prelude.{Option}
 use mathlib.Core.Path.{◌≡◌, refl}
 use mathlib.Core.Bool.{Bool, true, false, ◌&&◌, cond}
 use mathlib.Core.List.{List}
@@ -10,7 +11,6 @@ use Rattle.bits.specs.Bits.{one_where}
 use Rattle.bits.proofs.Cond.{and_right, one_where_le}
 use Rattle.r6501q_unseen.specs.declared.Ticking.{Ticking}
 use Rattle.r6501q_unseen.specs.Unseen.{on_tick}
-use Rattle.cpu_access.specs.declared.halt.Halt.{Halt}
 use Rattle.cpu.specs.declared.work.Work.{Work}
 use Rattle.cpu.specs.Work.{WithinSpan}
 use Rattle.cpu_attempts.specs.declared.Attempt.{Attempt}
@@ -46,7 +46,7 @@ shared_two t start gone =
       at_most (eqb gone start) (one_where (on_tick t gone)) (one_where_le (on_tick t gone)),
     )
 
-module _ (halt : Halt) (span : ℕ) (ticking : Ticking) (start : Work) (memory₀ : List ℕ) where
+module _ (halt : Option ℕ) (span : ℕ) (ticking : Ticking) (start : Work) (memory₀ : List ℕ) where
   pub try_within : (w : Work) (memory : List ℕ) (t : Attempt) (memory' : List ℕ) → WithinSpan w span
       → Tries halt span w memory t memory' → WithinSpan t.work span
   try_within w memory t memory' room unchanged = room

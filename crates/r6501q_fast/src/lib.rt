@@ -9,9 +9,7 @@ ghost use Rattle.r6501q_fast.specs.Instructions.{ByInstructions, RunsOn, shared_
 use bits::one_where;
 use counters::time::Clocks;
 use cpu::work::Work;
-use cpu_access::halt::Halt;
 use cpu_access::memory_byte;
-use cpu_access::waiting::Waiting;
 use cpu_attempts::same_work;
 use memory::{MEMORY_LENGTH, is_register};
 use r6501q_spans::{Working, none_waiting};
@@ -76,7 +74,7 @@ pub fn run_opcodes(
     ticking: Ticking,
     memory: &mut [u8],
     sums: &mut [u16],
-    halt: Halt,
+    halt: Option<u16>,
 ) -> Ran
     requires within_span { WithinSpan start span.0 }
     requires span_bound { (span.0 ≤ 2147483647) × (0 < ticking.period) }
@@ -144,7 +142,7 @@ pub fn run_working(
     ticking: Ticking,
     memory: &mut [u8],
     sums: &mut [u16],
-    halt: Halt,
+    halt: Option<u16>,
 ) -> RanOn
     requires within_span { WithinSpan v.work span.0 }
     requires span_bound { (span.0 ≤ 2147483647) × (0 < ticking.period) }
@@ -155,14 +153,14 @@ pub fn run_working(
 {
     let waiting = v.waiting;
     match waiting {
-        Waiting::Nothing => {
+        None => {
             let ran = run_opcodes(v.work, span, ticking, memory, sums, halt);
             RanOn {
                 working: none_waiting(ran.work),
                 shared: ran.shared,
             }
         }
-        Waiting::Byte(_) => RanOn {
+        Some(_) => RanOn {
             working: v,
             shared: 0,
         },

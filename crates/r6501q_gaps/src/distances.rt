@@ -5,7 +5,6 @@ ghost use Rattle.r6501q_events.specs.Gaps.{to_underflow_b, to_reset, until_cpu, 
 
 use crate::events::{levels_change, reset_changes};
 use counters::time::Clocks;
-use cpu_access::waiting::byte_waits;
 use r6501q_state::state::{Control, Cpu, State};
 
 // Whether counter A counts in every clock of a gap, given the port levels.
@@ -80,8 +79,7 @@ pub fn to_reset(left: Clocks, s: State) -> Clocks
 fn until_cpu(c: Cpu) -> u8
     ensures { result ≡ until_cpu c }
 {
-    let waiting = c.waiting;
-    if byte_waits(waiting) {
+    if c.waiting.is_some() {
         return bits::one_less(c.wait);
     }
     c.wait

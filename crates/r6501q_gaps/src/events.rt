@@ -3,7 +3,6 @@ ghost use Rattle.std.specs.Prelude.{◌≡◌};
 ghost use Rattle.r6501q_events.specs.Events.{same_levels, levels_change, ports_fresh, control_fresh, transmitter_idle};
 ghost use Rattle.r6501q_events.specs.Events.{receiver_idle, is_reset, reset_changes};
 
-use cpu_access::waiting::byte_waits;
 use r6501q_state::state::{Control, Levels, Ports, State};
 use serial_receiver::Receiver;
 use serial_transmitter::Transmitter;
@@ -59,9 +58,7 @@ fn is_reset(s: State) -> bool
     let control = control_fresh(s.peripherals.control);
     let transmitter = transmitter_idle(s.peripherals.transmitter);
     let receiver = receiver_idle(s.peripherals.receiver);
-    let cpu = s.cpu;
-    let waiting = cpu.waiting;
-    let waits = byte_waits(waiting);
+    let waits = s.cpu.waiting.is_some();
     (s.cpu.wait == 0) & !waits & s.due.reset & !s.due.nmi & ports & control & transmitter & receiver
 }
 

@@ -1,16 +1,12 @@
 -- What crosses to and from programs in C and Rust: document 01, "Machine state", with each flag and level as a byte.
-use Rattle.std.specs.Prelude.{Bool, ◌&&◌, ◌||◌, cond, ℕ, leb, eqb}
+use Rattle.std.specs.Prelude.{Bool, ◌&&◌, ◌||◌, cond, ℕ, leb, eqb, None, Option, Some}
 use Rattle.page_sums.specs.declared.TotalResult.{TotalResult}
 use Rattle.bits.specs.Bits.{one_where}
 use Rattle.bit_rate.specs.declared.Found.{Found}
 use Rattle.bit_rate.specs.declared.Found.TheVariants.{Fits, Nothing, Refused}
 use Rattle.bit_rate.specs.BitRate.{latch_number}
 use Rattle.counters.specs.declared.b.CounterB.{CounterB}
-use Rattle.cpu_access.specs.declared.halt.Halt.{Halt}
-use Rattle.cpu_access.specs.declared.halt.Halt.TheVariants.{Nowhere, At}
-use Rattle.cpu_access.specs.declared.waiting.Waiting.{Waiting}
-use Rattle.cpu_access.specs.declared.waiting.Waiting.TheVariants as waiting
-use Rattle.cpu_access.specs.declared.waiting.Waiting.TheVariants.{Byte}
+use Rattle.cpu_access.specs.declared.stack.Write.{Write}
 use Rattle.cpu_access.specs.Stack.{write_at}
 use Rattle.serial_receiver.specs.declared.Receiver.{Receiver}
 use Rattle.r6501q_state.specs.declared.state.Cpu.{Cpu}
@@ -38,8 +34,8 @@ use Rattle.r6501q_host.specs.declared.HostTotalResult.{HostTotalResult}
 abbrev pub flag_of : ℕ → Bool
 flag_of b = eqb b 1
 
-unfoldable pub waiting_from_host : HostWaiting → Waiting
-waiting_from_host h = cond (flag_of h.there) (Byte (write_at h.address h.value)) waiting.Nothing
+unfoldable pub waiting_from_host : HostWaiting → Option Write
+waiting_from_host h = cond (flag_of h.there) (Some (write_at h.address h.value)) None
 
 abbrev pub cpu_from_host : HostCpu → Cpu
 cpu_from_host h = record {
@@ -109,14 +105,14 @@ flags_fit h =
 
 -- 02, U4: "all calls of a list are given the same address, or none": of the host a number, above
 -- 65,535 meaning none
-unfoldable pub halt_of : ℕ → Halt
-halt_of halt = cond (leb halt 65535) (At halt) Nowhere
+unfoldable pub halt_of : ℕ → Option ℕ
+halt_of halt = cond (leb halt 65535) (Some halt) None
 
 -- ---- to the host
 
-unfoldable pub host_waiting : Waiting → HostWaiting
-host_waiting waiting.Nothing = record { there = 0; address = 0; value = 0 }
-host_waiting (Byte w) = record { there = 1; address = w.address; value = w.value }
+unfoldable pub host_waiting : Option Write → HostWaiting
+host_waiting None = record { there = 0; address = 0; value = 0 }
+host_waiting (Some w) = record { there = 1; address = w.address; value = w.value }
 
 abbrev pub host_cpu : Cpu → HostCpu
 host_cpu c = record {

@@ -16,9 +16,7 @@ use bit_rate::Found;
 use bits::one_where;
 use counters::a::CounterA;
 use counters::b::CounterB;
-use cpu_access::halt::Halt;
 use cpu_access::stack::Write;
-use cpu_access::waiting::Waiting;
 use page_sums::{TotalResult, WRONG_PAGE_LIST};
 use r6501q_state::state::{Control, Cpu, Due, Levels, Peripherals, Ports, SerialData, State};
 use r6501q_step::{CallResult, limits};
@@ -137,7 +135,7 @@ pub struct HostTotalResult {
 }
 
 // From the host: a byte of 1 is a yes. What is neither 0 nor 1 is refused before, by `flags_fit`.
-fn waiting_from(h: HostWaiting) -> Waiting
+fn waiting_from(h: HostWaiting) -> Option<Write>
     ensures { result ≡ waiting_from_host h }
 {
     if h.there == 1 {
@@ -145,9 +143,9 @@ fn waiting_from(h: HostWaiting) -> Waiting
             address: h.address,
             value: h.value,
         };
-        return Waiting::Byte(byte);
+        return Some(byte);
     }
-    Waiting::Nothing
+    None
 }
 
 fn cpu_from(h: HostCpu) -> Cpu
@@ -259,26 +257,26 @@ pub fn flags_fit(h: HostState) -> bool
 }
 
 // The halt address that the host's number stands for; none above 65,535.
-pub fn halt_of(halt: u32) -> Halt
+pub fn halt_of(halt: u32) -> Option<u16>
     ensures { result ≡ halt_of halt }
 {
     if halt <= 65535 {
-        return Halt::At(halt as u16);
+        return Some(halt as u16);
     }
-    Halt::Nowhere
+    None
 }
 
 // To the host.
-fn host_waiting(w: Waiting) -> HostWaiting
+fn host_waiting(w: Option<Write>) -> HostWaiting
     ensures { result ≡ host_waiting w }
 {
     match w {
-        Waiting::Nothing => HostWaiting {
+        None => HostWaiting {
             there: 0,
             address: 0,
             value: 0,
         },
-        Waiting::Byte(byte) => HostWaiting {
+        Some(byte) => HostWaiting {
             there: 1,
             address: byte.address,
             value: byte.value,

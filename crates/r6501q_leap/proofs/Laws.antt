@@ -1,11 +1,11 @@
 -- The R6501Q keeps the laws that a chip owes to the theory of leaps.
+use Rattle.std.specs.Prelude.{Option}
 use mathlib.Core.Path.{◌≡◌, refl}
 use mathlib.Core.Bool.{Bool, true, false, cond}
 use mathlib.Core.List.{List, []}
 use Prim.Native.Nat.{ℕ, ◌+◌, ◌<◌}
 use lib.ListN.{length}
 use borrow.Author.Tests.{eq-eqb}
-use Rattle.cpu_access.specs.declared.halt.Halt.{Halt}
 use Rattle.cpu_access.specs.Stack.{no_writes}
 use Rattle.cpu_access.specs.Halt.{halts}
 use Rattle.cpu_access.proofs.Told.{unwritten}
@@ -29,7 +29,7 @@ use Rattle.r6501q_events.proofs.Gaps.{gap_le, gap_no_input, gap_clock, gap_no_ev
 use Rattle.r6501q_chip.specs.R6501q.{end_of, clock_outcome, r6501q, system}
 
 -- what holds of each end of a clock holds of the end that the theory sees, and of a stop likewise
-module _ (halt : Halt) (s : State) (codes memory : List ℕ) (free : Bool) where
+module _ (halt : Option ℕ) (s : State) (codes memory : List ℕ) (free : Bool) where
   along_done : (P : ClockEnd State → Type 0)
       → ((e : Ended) → clock_of s codes memory free ≡ Done e → P (end_of halt memory e))
       → (d : ClockEnd State) → clock_outcome halt memory (clock_of s codes memory free) ≡ ended d → P d
@@ -83,7 +83,7 @@ module _ (n : ℕ) (s : State) (clocks memory : List ℕ) (free : Bool) (inside 
       )
 
   -- and writes nothing, the halt address least of all
-  gap_outcome : (halt : Halt) → clock_outcome halt memory (clock_of s [] memory free)
+  gap_outcome : (halt : Option ℕ) → clock_outcome halt memory (clock_of s [] memory free)
       ≡ ended (record {
         state = pass_of s (clocks_of 1);
         memory = memory;
@@ -94,7 +94,7 @@ module _ (n : ℕ) (s : State) (clocks memory : List ℕ) (free : Bool) (inside 
   unfolding committed put_write
   gap_outcome halt = rw (gap_clocked, unwritten halt no_writes refl)
 
-pub laws : (halt : Halt) → ChipLaws (r6501q halt)
+pub laws : (halt : Option ℕ) → ChipLaws (r6501q halt)
 laws halt = record {
   done_clock = λ s codes memory free d q.
       along_done halt s codes memory free (λ (x : ClockEnd State). x.state.clock ≡ s.clock + 1)
@@ -124,5 +124,5 @@ laws halt = record {
   pass_clock = λ g s. pass_clock s g;
 }
 
-pub lawful : (halt : Halt) → Lawful (system halt)
+pub lawful : (halt : Option ℕ) → Lawful (system halt)
 lawful halt = chips.lawful (r6501q halt) (laws halt)

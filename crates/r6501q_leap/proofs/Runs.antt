@@ -1,4 +1,5 @@
 -- The run in code, leap by leap.
+use Rattle.std.specs.Prelude.{Option}
 use mathlib.Core.Path.{◌≡◌, refl, sym, ap, ◌∙◌}
 use mathlib.Core.Bool.{true, false}
 use mathlib.Core.List.{List}
@@ -10,7 +11,6 @@ use lib.ListN.{length, drop, length-drop}
 use borrow.Author.Tests.{ltb-true, lt-ltb, le-ltb, eq-eqb, ne_eqb, eqb-true}
 use Rattle.bits.proofs.Cond.{cond_both, one_where_le, and_left, and_right}
 use Rattle.counters.specs.declared.time.Clocks.{Clocks}
-use Rattle.cpu_access.specs.declared.halt.Halt.{Halt}
 use Rattle.refusals.specs.Refusals.{last_clock, refusal_of}
 use Rattle.refusals.proofs.Accepted.{accepted}
 use Rattle.leaps.specs.Leaps.{Run, leap_of, left_after, moved_of, run}
@@ -46,7 +46,7 @@ pub record Leapt (n : ℕ) (w v : World) : Type 0 where
   pub output_words : length v.output_words ≡ length w.output_words
   pub written : w.written ≤ length w.output_clocks → v.written ≤ length w.output_clocks
 
-pub leap_goes : (halt : Halt) (n : ℕ) (w : World) → Leapt n w (leap_of (system halt) n w)
+pub leap_goes : (halt : Option ℕ) (n : ℕ) (w : World) → Leapt n w (leap_of (system halt) n w)
 unfolding leap_of
 leap_goes halt n w =
     let g = gap_in n w in
@@ -73,7 +73,7 @@ leap_goes halt n w =
     })
 
 -- one leap of a run
-pub leap_run : (halt : Halt) (n leaps : ℕ) (w v : World) → 0 < n → running_in w ≡ true → v ≡ leap_of (system halt) n w
+pub leap_run : (halt : Option ℕ) (n leaps : ℕ) (w v : World) → 0 < n → running_in w ≡ true → v ≡ leap_of (system halt) n w
     → ◌≡◌ {A = Run World}
     (record {
       world = (run (system halt) (n - (gap_in n w + 1)) v).world;
@@ -83,7 +83,7 @@ pub leap_run : (halt : Halt) (n leaps : ℕ) (w v : World) → 0 < n → running
 unfolding moved_of
 leap_run halt n leaps w v h z e = rw (run_leap (system halt) (lawful halt) n w h z, e, add_assoc)
 
-module _ (halt : Halt) (memory clocks codes times words memory' times' words' : List ℕ) (p q : Progress) (n : ℕ)
+module _ (halt : Option ℕ) (memory clocks codes times words memory' times' words' : List ℕ) (p q : Progress) (n : ℕ)
     (l : Leaping p n clocks codes times words)
     (e : world_of q memory' clocks codes times' words'
     ≡ leap_of (system halt) n (world_of p memory clocks codes times words)) where
@@ -104,7 +104,7 @@ module _ (halt : Halt) (memory clocks codes times words memory' times' words' : 
   }
 
 -- a run that goes on no more
-pub run_ended_lem : (halt : Halt) (l : Leaped) (memory clocks codes times words : List ℕ) → goes_on l ≡ false
+pub run_ended_lem : (halt : Option ℕ) (l : Leaped) (memory clocks codes times words : List ℕ) → goes_on l ≡ false
     → run_ended l memory clocks codes times words ≡ run_from halt l memory clocks codes times words
 run_ended_lem halt l memory clocks codes times words e =
     rw (
@@ -113,7 +113,7 @@ run_ended_lem halt l memory clocks codes times words e =
     )
 
 -- the run by leaps is the run by plain clocks, with document 01's count, from any start
-pub runs_plainly : (halt : Halt) (n : ℕ) (s : State) (memory clocks codes times words : List ℕ)
+pub runs_plainly : (halt : Option ℕ) (n : ℕ) (s : State) (memory clocks codes times words : List ℕ)
     → run_of (machine halt) n (call_start s memory clocks codes times words)
     ≡ plain_run_of (machine halt) n (call_start s memory clocks codes times words)
 runs_plainly halt n s memory clocks codes times words =
@@ -121,7 +121,7 @@ runs_plainly halt n s memory clocks codes times words =
     (record { output_clocks = omega arith; output_words = omega arith })
 
 -- a refused call
-pub run_refused : (halt : Halt) (n : ℕ) (s : State) (memory clocks codes times words : List ℕ) (number : ℕ)
+pub run_refused : (halt : Option ℕ) (n : ℕ) (s : State) (memory clocks codes times words : List ℕ) (number : ℕ)
     → number
     ≡ refusal_of r6501q_limits (well_formed s) s.clock (length memory) clocks codes (length times) (length words) n
     → (number ≡ 0 → ⊥)
@@ -151,7 +151,7 @@ module _ (s : State) (n : ℕ) (memory clocks codes times words : List ℕ)
       omega (arith, a.most)
 
   -- and hands back what its leaps leave
-  pub runs : (halt : Halt) (l : Leaped) (memory' times' words' : List ℕ)
+  pub runs : (halt : Option ℕ) (l : Leaped) (memory' times' words' : List ℕ)
       → run_ended l memory' clocks codes times' words' ≡ run_from halt (begin_run s n) memory clocks codes times words
       → handed (progress_result l.leaps l.progress) memory' times' words' ≡ run_of (machine halt) n start
   unfolding run_of
@@ -183,20 +183,20 @@ passed_goes p n clocks codes times words gap l on h = record {
 }
 
 -- a leap that reaches its event clock, and one that ends before
-pub leap_reaches : (halt : Halt) (n : ℕ) (w : World) (gap : Clocks) → gap ≡ gap_of n w.state w.input_clocks
+pub leap_reaches : (halt : Option ℕ) (n : ℕ) (w : World) (gap : Clocks) → gap ≡ gap_of n w.state w.input_clocks
     → gap.0 < n
     → plain halt (pass_in (r6501q halt) gap.0 w) ≡ leap_of (system halt) n w
 unfolding leap_of
 leap_reaches halt n w gap e h = rw (← e, lt-ltb gap.0 n h)
 
-pub leap_falls_short : (halt : Halt) (n : ℕ) (w : World) (gap : Clocks) → gap ≡ gap_of n w.state w.input_clocks
+pub leap_falls_short : (halt : Option ℕ) (n : ℕ) (w : World) (gap : Clocks) → gap ≡ gap_of n w.state w.input_clocks
     → n ≤ gap.0
     → pass_in (r6501q halt) gap.0 w ≡ leap_of (system halt) n w
 unfolding leap_of
 leap_falls_short halt n w gap e h = rw (← e, le-ltb gap.0 n h)
 
 -- a leap more of a run
-module _ (halt : Halt) (memory clocks codes times words memory' times' words' : List ℕ) (at r : Leaped)
+module _ (halt : Option ℕ) (memory clocks codes times words memory' times' words' : List ℕ) (at r : Leaped)
     (l : Leaping at.progress at.left.0 clocks codes times words) (some : 0 < at.left.0)
     (on : at.progress.stop ≡ 0)
     (bound : at.leaps + at.left.0 ≤ last_clock)

@@ -1,7 +1,6 @@
 -- A run in code: what it carries, and what it starts from.
-use Rattle.std.specs.Prelude.{◌≡◌, Bool, ◌&&◌, List, ℕ, ◌+◌, ◌≤◌, ltb, eqb, length}
+use Rattle.std.specs.Prelude.{◌≡◌, Bool, ◌&&◌, List, ℕ, ◌+◌, ◌≤◌, ltb, eqb, length, Option}
 use Rattle.counters.specs.declared.time.Clocks.{Clocks}
-use Rattle.cpu_access.specs.declared.halt.Halt.{Halt}
 use Rattle.refusals.specs.Refusals.{last_clock}
 use Rattle.leaps.specs.Leaps.{Run, run}
 use Rattle.r6501q_state.specs.declared.state.State.{State}
@@ -21,7 +20,7 @@ abbrev pub goes_on : Leaped → Bool
 goes_on l = ltb 0 l.left.0 && eqb l.progress.stop 0
 
 -- what the code has come to, and the run of what is left
-abbrev pub run_from : Halt → Leaped → List ℕ → List ℕ → List ℕ → List ℕ → List ℕ → Run World
+abbrev pub run_from : Option ℕ → Leaped → List ℕ → List ℕ → List ℕ → List ℕ → List ℕ → Run World
 run_from halt l memory input_clocks input_codes output_clocks output_words =
     let w = world_of l.progress memory input_clocks input_codes output_clocks output_words in
     let r = run (system halt) l.left.0 w in

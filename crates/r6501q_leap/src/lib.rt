@@ -12,7 +12,6 @@ ghost use Rattle.r6501q_step.specs.Calls.{leaps_from};
 ghost use Rattle.r6501q_leap.specs.RunInCode.{passed_by, Leaping};
 
 use counters::time::Clocks;
-use cpu_access::halt::Halt;
 use r6501q_advance::{Progress, advance};
 use r6501q_step::leaps_from;
 
@@ -69,7 +68,7 @@ fn leap(
     outputclocks: &mut [u32],
     outputwords: &mut [u32],
     entries: &[u16],
-    halt: Halt,
+    halt: Option<u16>,
 ) -> Progress
     requires leaping { Leaping p left.0 inputclocks.now inputcodes.now outputclocks.old outputwords.old }
     requires stop_value { p.stop ≡ 0 }
@@ -106,7 +105,7 @@ pub fn leap_once(
     outputclocks: &mut [u32],
     outputwords: &mut [u32],
     entries: &[u16],
-    halt: Halt,
+    halt: Option<u16>,
 ) -> Leaped
     requires leaping { Leaping at.progress at.left.0 inputclocks.now inputcodes.now outputclocks.old
         outputwords.old }

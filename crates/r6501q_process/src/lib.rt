@@ -8,7 +8,6 @@ ghost use Rattle.r6501q_cpu.specs.Processor.{byte_put, waited_by, processor_of};
 
 use cpu::entries::{interrupt_entry, reset_entry};
 use cpu_access::stack::{Write, no_writes, one_write};
-use cpu_access::waiting::Waiting;
 use cpu_access::{IRQ_VECTOR, NMI_VECTOR};
 use r6501q_cpu::{Next, Processed, answered_instruction, next_state, put_register, registers_of};
 use r6501q_state::state::{Due, State};
@@ -95,9 +94,9 @@ fn wait_less(s: State) -> Processed
 fn put_byte(s: State, w: Write) -> Next
     ensures { result ≡ byte_put s w }
 {
-    let peripherals = put_register(true, w, s.peripherals);
+    let peripherals = put_register(w, s.peripherals);
     let writes = one_write(w.address, w.value);
-    let cpu = s.cpu.waiting_at(0, Waiting::Nothing);
+    let cpu = s.cpu.waiting_at(0, None);
     let mut state = s;
     state.cpu = cpu;
     state.peripherals = peripherals;
@@ -115,8 +114,8 @@ fn wait_on(s: State) -> Processed
     let cpu = s.cpu;
     let waiting = cpu.waiting;
     match waiting {
-        Waiting::Nothing => wait_less(s),
-        Waiting::Byte(w) => {
+        None => wait_less(s),
+        Some(w) => {
             if s.cpu.wait == 1 {
                 return Processed::Done(put_byte(s, w));
             }

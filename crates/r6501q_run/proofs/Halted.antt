@@ -1,4 +1,5 @@
 -- Document 02, U4, of a call: where it tells 12.
+use Rattle.std.specs.Prelude.{Option}
 use mathlib.Core.Path.{◌≡◌, refl, ap, subst, ◌∙◌}
 use mathlib.Core.Bool.{Bool, true, false, ◌&&◌, cond}
 use Prim.Native.Nat.{ℕ}
@@ -6,7 +7,6 @@ use native.Mathlib.Omega.{arith}
 use lib.Dec.{ltb, eqb}
 use lib.ListN.{length}
 use borrow.Author.Tests.{eqb-true}
-use Rattle.cpu_access.specs.declared.halt.Halt.{Halt}
 use Rattle.leaps.specs.Leaps.{plains, leap_count}
 use Rattle.leaps.specs.CallLists.{Call, single_clock, run_for, count_of, call_of, plain_run_of}
 use Rattle.leaps.specs.Calls.{stop_of, handed_back_of, refusal_in, refused_call, Room}
@@ -27,14 +27,14 @@ no_stop_twelve number none = by_test (eqb number 12) refl
     by_test true e = absurd (omega (arith, subst (λ (k : ℕ). stop_of k ≡ 0) (eqb-true number 12 e) none))
     by_test false e = refl
 
-refusal_not_twelve : (halt : Halt) (n : ℕ) (w : World) → eqb (refusal_in (r6501q halt) n w) 12 ≡ false
+refusal_not_twelve : (halt : Option ℕ) (n : ℕ) (w : World) → eqb (refusal_in (r6501q halt) n w) 12 ≡ false
 refusal_not_twelve halt n w =
     no_stop_twelve (refusal_in (r6501q halt) n w)
     (refusal_no_stop r6501q_limits (well_formed w.state) w.state.clock (length w.memory) w.input_clocks
     w.input_codes
     (length w.output_clocks) (length w.output_words) n)
 
-plain_run_twelve : (halt : Halt) (n : ℕ) (w : World) → w.stop ≡ 0
+plain_run_twelve : (halt : Option ℕ) (n : ℕ) (w : World) → w.stop ≡ 0
     → eqb (plain_run_of (machine halt) n w).result.number 12
     ≡ (eqb (refusal_in (r6501q halt) n w) 0 && ltb (clocks_before halt n w) n)
 unfolding plain_run_of
@@ -50,7 +50,7 @@ plain_run_twelve halt n w on = by_test (eqb (refusal_in (r6501q halt) n w) 0)
 -- A call, single clock or run, tells 12 just where it is not refused and one of its clocks writes the halt address: the
 -- first that does is the last that it does (`plains_halt`, `before_unwritten`, `first_written` of
 -- r6501q_chip/proofs/Halted.antt).
-pub call_twelve : (halt : Halt) (c : Call) (w : World) → Room w → w.stop ≡ 0
+pub call_twelve : (halt : Option ℕ) (c : Call) (w : World) → Room w → w.stop ≡ 0
     → eqb (call_of (machine halt) c w).result.number 12
     ≡ (eqb (refusal_in (r6501q halt) (count_of c) w) 0 && ltb (clocks_before halt (count_of c) w) (count_of c))
 unfolding call_of count_of

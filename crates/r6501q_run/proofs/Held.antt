@@ -1,5 +1,6 @@
 -- 02, U8, of the run: a fresh chip without inputs stays held, and one that is given RES high on clock 1 runs as it did
 -- from the old start.
+use Rattle.std.specs.Prelude.{Option}
 use mathlib.Core.Path.{◌≡◌, refl, sym, ap, ap₂, ◌∙◌}
 use mathlib.Core.Bool.{Bool, true, false, cond}
 use mathlib.Core.List.{List, [], ◌∷◌, ◌++◌}
@@ -10,7 +11,6 @@ use lib.Dec.{eqb}
 use lib.ListN.{length, take}
 use borrow.Author.Tests.{eq-eqb}
 use Rattle.memory.specs.Memory.{memory_length}
-use Rattle.cpu_access.specs.declared.halt.Halt.{Halt}
 use Rattle.pin_lists.specs.PinLists.{pin_of, pins_right, input_count}
 use Rattle.pin_lists.proofs.PinLists.{input_count_within}
 use Rattle.refusals.specs.Refusals.{last_clock}
@@ -25,7 +25,6 @@ use Rattle.leaps.proofs.Calls as theory
 use Rattle.r6501q_state.specs.State.{fresh, well_formed}
 use Rattle.r6501q_state.specs.Inputs.{last_pin}
 use Rattle.r6501q_state.proofs.Ranges.{fresh_formed}
-use Rattle.cpu_access.specs.Waiting.{byte_waits}
 use Rattle.r6501q_chip.specs.R6501q.{World, Handed, r6501q_limits, r6501q, plain, system, machine}
 use Rattle.r6501q_chip.proofs.Held.{held_state, held_leaps, held_clocks, held_leaps_lem}
 use Rattle.r6501q_chip.proofs.ReleaseLists.{below_res}
@@ -38,14 +37,14 @@ start_room : (w : World) → w.written ≡ 0 → Room w
 start_room w none = record { output_clocks = omega (arith, none); output_words = omega (arith, none) }
 
 -- what a call that is not refused hands back, by plain clocks
-accepted_run : (halt : Halt) (n : ℕ) (w : World) → w.written ≡ 0 → eqb (refusal_in (r6501q halt) n w) 0 ≡ true
+accepted_run : (halt : Option ℕ) (n : ℕ) (w : World) → w.written ≡ 0 → eqb (refusal_in (r6501q halt) n w) 0 ≡ true
     → run_of (machine halt) n w ≡ handed_back_of (leap_count (system halt) n w) (plains (system halt) n w)
 unfolding plain_run_of
 accepted_run halt n w none e = theory.runs_plainly (r6501q halt) (laws halt) n w (start_room w none) ∙ rw e
 
 -- ---- "A fresh chip with no inputs"
 
-fresh_fits : (halt : Halt) (memory times words : List ℕ) → length memory ≡ memory_length → length times ≡ length words
+fresh_fits : (halt : Option ℕ) (memory times words : List ℕ) → length memory ≡ memory_length → length times ≡ length words
     → Fit (r6501q halt) (call_start fresh memory [] [] times words)
 unfolding fresh pins_right
 fresh_fits halt memory times words whole equal =
@@ -57,7 +56,7 @@ fresh_clock = refl
 
 -- "stays without a CPU start for any n that fits the clock, its counters still counting, and leaping agrees there too":
 -- the run by leaps, for any memory, halt address and output space
-pub held_run : (halt : Halt) (n : ℕ) (memory times words : List ℕ) → n ≤ last_clock → length memory ≡ memory_length
+pub held_run : (halt : Option ℕ) (n : ℕ) (memory times words : List ℕ) → n ≤ last_clock → length memory ≡ memory_length
     → length times ≡ length words
     → run_of (machine halt) n (call_start fresh memory [] [] times words)
     ≡ record {
@@ -107,7 +106,7 @@ one_read = record {
 whole_one : (v : World) → whole_of one_read v ≡ one_more_read v
 whole_one v = let read : 1 + v.read ≡ v.read + 1 = omega arith in rw (read, zero-add v.written)
 
-module _ (halt : Halt) where
+module _ (halt : Option ℕ) where
   plains_more : (n : ℕ) (v : World) → plains (system halt) n (one_more_read v) ≡ one_more_read (plains (system halt) n v)
   plains_more n v =
       ap (plains (system halt) n) (sym (whole_one v)) ∙ plains_whole (r6501q halt) n one_read v (start_room one_read refl)
@@ -190,7 +189,7 @@ module _ (halt : Halt) where
     given_old = old_start memory clocks codes times words
 
     refused_alike : (n : ℕ) → refusal_in (r6501q halt) n given_start ≡ refusal_in (r6501q halt) n given_old
-    unfolding fresh well_formed byte_waits
+    unfolding fresh well_formed
     refused_alike n = refl
 
     pub given_run : (n : ℕ) → refusal_in (r6501q halt) (suc n) given_old ≡ 0

@@ -1,5 +1,6 @@
 -- 01, Run and leaps: "A run hands on the rest of the input list from its first unread entry." A run over the rest is
 -- the run over the whole, but for the inputs that were read before.
+use Rattle.std.specs.Prelude.{Option}
 use mathlib.Core.Path.{◌≡◌, refl, sym, ap, ◌∙◌}
 use mathlib.Core.Bool.{true, false}
 use mathlib.Core.List.{List}
@@ -9,7 +10,6 @@ use native.Mathlib.Omega.{arith}
 use lib.ListN.{length, take, drop, length-drop}
 use lib.Seq.{drop-drop}
 use Rattle.bits.proofs.Cond.{cond_along}
-use Rattle.cpu_access.specs.declared.halt.Halt.{Halt}
 use Rattle.refusals.specs.Refusals.{last_clock}
 use Rattle.leaps.specs.Leaps.{Run, leap_of, left_after, run}
 use Rattle.leaps.specs.Chip.{ChipRules, ClockOutcome, stopped, ended}
@@ -93,7 +93,7 @@ read_all k l = record {
 }
 
 -- the run over the rest
-rest_run : (halt : Halt) (l : Leaped) (memory clocks codes times words : List ℕ)
+rest_run : (halt : Option ℕ) (l : Leaped) (memory clocks codes times words : List ℕ)
     → run_from halt l memory clocks codes times words
     ≡ run_before l.progress.read
     (run_from halt (unread l) memory (drop l.progress.read clocks) (drop l.progress.read codes) times words)
@@ -108,7 +108,7 @@ rest_run halt l memory clocks codes times words =
     ∙ run_along (system halt) (read_before k) (read_unaffected k (r6501q halt)) l.left.0 rest)
 
 -- what the loop keeps: the run of what is left, over the rests of the lists, is that of the start
-module _ (halt : Halt) (start : Leaped) (memory₀ input_clocks input_codes times₀ words₀ : List ℕ) where
+module _ (halt : Option ℕ) (start : Leaped) (memory₀ input_clocks input_codes times₀ words₀ : List ℕ) where
   -- the inputs before the rest
   abbrev pub read_to : List ℕ → ℕ
   read_to clocks = length input_clocks - length clocks

@@ -1,9 +1,9 @@
 -- The theorem of the shifted clock, of lists of calls on the R6501Q, and of runs past the last clock.
+use Rattle.std.specs.Prelude.{Option}
 use mathlib.Core.Path.{◌≡◌}
 use mathlib.Core.Bool.{true}
 use mathlib.Core.List.{List}
 use Prim.Native.Nat.{ℕ}
-use Rattle.cpu_access.specs.declared.halt.Halt.{Halt}
 use Rattle.leaps.specs.Leaps.{plains, leap_count}
 use Rattle.leaps.specs.CallLists.{Call, run_of, calls}
 use Rattle.leaps.specs.Calls.{Room, refusal_in, handed_back_of}
@@ -14,7 +14,7 @@ use Rattle.r6501q_chip.specs.Shifted.{shifted_state}
 use Rattle.r6501q_chip.proofs.Shifted.{shift_laws}
 use Rattle.r6501q_leap.proofs.Laws.{laws}
 
-module _ (halt : Halt) (k : ℕ) (w v : World) (r : ShiftedWorld shifted_state k w v) (room : Room w) where
+module _ (halt : Option ℕ) (k : ℕ) (w v : World) (r : ShiftedWorld shifted_state k w v) (room : Room w) where
   -- Any list of single clocks and runs, refused ones included, of which none at the later clock is refused with 4:
   -- state, memory, records, stop and counts, and each call's result, are alike but for the clock.
   pub list_shifted : (cs : List Call) → clocks_fit (calls (machine halt) cs v).results ≡ true

@@ -1,4 +1,5 @@
 -- Demand 3 of the R6501Q with page sums (document 02, U7): the theory's, of this chip.
+use Rattle.std.specs.Prelude.{Option}
 use mathlib.Core.Path.{◌≡◌, refl}
 use mathlib.Core.List.{List, ◌∷◌, map}
 use Prim.Native.Nat.{ℕ, ◌+◌, ◌%◌, ◌<◌}
@@ -6,7 +7,6 @@ use native.Mathlib.Omega.{arith}
 use lib.ListN.{length}
 use Rattle.memory.specs.Memory.{memory_length}
 use Rattle.page_sums.specs.PageSums.{page_count, sum_modulus, sum_at, page_sum, sums_after, SixteenBits, Right}
-use Rattle.cpu_access.specs.declared.halt.Halt.{Halt}
 use Rattle.leaps.specs.Leaps.{plains}
 use Rattle.leaps.specs.CallLists.{Call, call_of, listed, calls, clocks_accepted, results_by}
 use Rattle.leaps.specs.Calls.{call_start, refused_with, Room}
@@ -16,7 +16,7 @@ use Rattle.r6501q_state.specs.declared.state.State.{State}
 use Rattle.r6501q_chip.specs.R6501q.{World, r6501q, system, machine}
 use Rattle.r6501q_leap.proofs.Laws.{laws}
 
-module _ (halt : Halt) (cs : List Call) (sums : List ℕ) (w : World) where
+module _ (halt : Option ℕ) (cs : List Call) (sums : List ℕ) (w : World) where
   -- what a list of calls with these sums leaves
   abbrev end : ListedSums State
   end = calls_with_sums (call_of (machine halt)) cs sums w
@@ -70,7 +70,7 @@ module _ (halt : Halt) (cs : List Call) (sums : List ℕ) (w : World) where
   one_hands_on m words on = theory.memory_hands_on (r6501q halt) refl cs sums w m words on
 
 -- the same from any state, memory and lists: a start has nothing written, so that it needs no room
-pub fair_with_sums_start : (halt : Halt) (cs : List Call) (sums : List ℕ) (s : State)
+pub fair_with_sums_start : (halt : Option ℕ) (cs : List Call) (sums : List ℕ) (s : State)
     (memory input_clocks input_codes output_clocks output_words : List ℕ) → length sums ≡ page_count → SixteenBits sums
     → FairWithSums halt cs sums (call_start s memory input_clocks input_codes output_clocks output_words)
 fair_with_sums_start halt cs sums s memory input_clocks input_codes output_clocks output_words n words =

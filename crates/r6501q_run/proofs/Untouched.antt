@@ -1,4 +1,5 @@
 -- 01, Machine state: memory's "bytes at 0 to 3Fh, the registers, are never touched": neither read nor written by a run.
+use Rattle.std.specs.Prelude.{Option}
 use mathlib.Core.Path.{◌≡◌, refl, sym}
 use mathlib.Core.Bool.{cond}
 use mathlib.Core.List.{List}
@@ -6,7 +7,6 @@ use Prim.Native.Nat.{ℕ, ◌≤◌}
 use lib.Dec.{eqb}
 use lib.ListN.{length}
 use Rattle.bits.proofs.Cond.{cond_along}
-use Rattle.cpu_access.specs.declared.halt.Halt.{Halt}
 use Rattle.memory.specs.Memory.{register_end, with_untouched}
 use Rattle.memory.proofs.Untouched.{untouched_length}
 use Rattle.leaps.specs.Leaps.{plains, moved_of, run}
@@ -27,7 +27,7 @@ handed_with_untouched first h = record {
 
 -- Two memories that agree from 40h on: the same results and records, the same bytes from 40h on, and each its own bytes
 -- below.
-module _ (halt : Halt) (first : List ℕ) (whole : length first ≡ register_end) where
+module _ (halt : Option ℕ) (first : List ℕ) (whole : length first ≡ register_end) where
   pub plains_untouched : (n : ℕ) (w : World)
       → plains (system halt) n (world_with_untouched first w) ≡ world_with_untouched first (plains (system halt) n w)
   plains_untouched = plains_along (system halt) (world_with_untouched first) (unaffected first whole halt)

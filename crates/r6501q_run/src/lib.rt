@@ -12,7 +12,6 @@ ghost use Rattle.r6501q_step.specs.Calls.{at_exit};
 ghost use Rattle.r6501q_leap.specs.RunInCode.{goes_on, run_from, run_ended, begin_run, Leaping};
 
 use counters::time::Clocks;
-use cpu_access::halt::Halt;
 use page_sums::{WRONG_PAGE_LIST, page_list_refused};
 use r6501q_leap::{Leaped, leap_once};
 use r6501q_span_leaps::leap_span;
@@ -37,7 +36,7 @@ fn leap_on(
     outputclocks: &mut [u32],
     outputwords: &mut [u32],
     entries: &[u16],
-    halt: Halt,
+    halt: Option<u16>,
 ) -> Leaped
     requires leaping { Leaping start.progress start.left.0 inputclocks.now inputcodes.now outputclocks.old
         outputwords.old }
@@ -96,7 +95,7 @@ fn run_into(
     outputclocks: &mut [u32],
     outputwords: &mut [u32],
     n: u32,
-    halt: Halt,
+    halt: Option<u16>,
 ) -> CallResult
     ensures outputwords_value { at_exit result memory outputclocks outputwords
         ≡ run_of (machine halt) n (at_entry state memory inputclocks inputcodes outputclocks outputwords) }
@@ -140,7 +139,7 @@ pub fn run(
     outputclocks: &mut [u32],
     outputwords: &mut [u32],
     n: u32,
-    halt: Halt,
+    halt: Option<u16>,
 ) -> CallResult
     ensures outputwords_value { at_exit result memory outputclocks outputwords
         ≡ run_of (machine halt) n (at_entry state memory inputclocks inputcodes outputclocks outputwords) }
@@ -171,7 +170,7 @@ pub fn run_with_sums(
     outputclocks: &mut [u32],
     outputwords: &mut [u32],
     n: u32,
-    halt: Halt,
+    halt: Option<u16>,
 ) -> CallResult
     ensures outputwords_value { at_exit result memory outputclocks outputwords
         ≡ with_sums sums.old (run_of (machine halt) n)

@@ -1,4 +1,5 @@
 -- A step of the CPU in a span is done, or nothing happens; after the leaps of a span the run ahead is the same.
+use Rattle.std.specs.Prelude.{Option}
 use mathlib.Core.Path.{◌≡◌, refl, sym}
 use mathlib.Core.Bool.{Bool, true, false, ◌&&◌, not, cond}
 use mathlib.Core.List.{List, []}
@@ -11,7 +12,6 @@ use Rattle.bits.proofs.Cond.{cond_both, and_left, and_right}
 use Rattle.cpu_effects.specs.declared.Writing.{Writing}
 use Rattle.cpu_effects.specs.declared.Writing.TheVariants.{Nothing}
 use Rattle.cpu_effects.specs.Effects.{pushes_of}
-use Rattle.cpu_access.specs.declared.halt.Halt.{Halt}
 use Rattle.cpu_access.specs.declared.stack.Write.{Write}
 use Rattle.cpu_access.specs.Stack.{one_write}
 use Rattle.cpu_effects.specs.declared.Worked.{Worked}
@@ -42,7 +42,7 @@ use Rattle.r6501q_span_leaps.specs.Spanned.{Spanned}
 use Rattle.r6501q_leap.proofs.Laws.{lawful}
 
 -- the next instruction is a leap, or nothing happens
-pub work_either : (halt : Halt) (s : State) (span : ℕ) (w : Work) (memory : List ℕ) (P : Working → List ℕ → Type 0)
+pub work_either : (halt : Option ℕ) (s : State) (span : ℕ) (w : Work) (memory : List ℕ) (P : Working → List ℕ → Type 0)
     → w.gone.0 ≤ span → P (none_waiting w) memory
     → ((worked : Worked) → w.gone.0 + w.wait < span → outcome_within s w.registers memory ≡ outcome.Done worked
     → ends_span halt (pushes_of worked.writing) ≡ false
@@ -75,7 +75,7 @@ work_either halt s span w memory P room none next = by_test (leb (span - w.gone.
         (omega (arith, leb-false (span - w.gone.0) w.wait q, room)) refl
 
 -- the byte that waits is put by a leap, or nothing happens
-pub put_either : (halt : Halt) (span : ℕ) (w : Work) (x : Write) (memory : List ℕ) (P : Working → List ℕ → Type 0)
+pub put_either : (halt : Option ℕ) (span : ℕ) (w : Work) (x : Write) (memory : List ℕ) (P : Working → List ℕ → Type 0)
     → w.gone.0 ≤ span
     → P (byte_waiting w x) memory
     → (0 < w.wait → w.gone.0 + w.wait ≤ span → ends_span halt (one_write x) ≡ false
@@ -100,20 +100,20 @@ put_either halt span w x memory P room none put = by_test (puts_within halt span
     by_test false q = none
 
 -- what is gone stays within the span, and each leap takes a clock at least
-pub room_after : (halt : Halt) (s : State) (span : ℕ) (w : Work) (memory : List ℕ) → WithinSpan w span
+pub room_after : (halt : Option ℕ) (s : State) (span : ℕ) (w : Work) (memory : List ℕ) → WithinSpan w span
     → WithinSpan (work_after halt s span w memory).work span
 room_after halt s span w memory room =
     work_either halt s span w memory (λ (v : Working) (memory' : List ℕ). WithinSpan v.work span) room.gone room
     (λ worked inside e q. record { gone = omega arith; leaps = omega (arith, room.leaps) })
 
-pub room_put : (halt : Halt) (span : ℕ) (w : Work) (x : Write) → WithinSpan w span
+pub room_put : (halt : Option ℕ) (span : ℕ) (w : Work) (x : Write) → WithinSpan w span
     → WithinSpan (work_put halt span w x).work span
 room_put halt span w x room =
     put_either halt span w x [] (λ (v : Working) (memory' : List ℕ). WithinSpan v.work span) room.gone room
     (λ some fits q. record { gone = fits; leaps = omega (arith, room.leaps) })
 
 -- an instruction that writes nothing pushes neither to a register nor at the halt address, and leaves memory as it is
-pub no_end : (halt : Halt) (w : Writing) → w ≡ Nothing → ends_span halt (pushes_of w) ≡ false
+pub no_end : (halt : Option ℕ) (w : Writing) → w ≡ Nothing → ends_span halt (pushes_of w) ≡ false
 unfolding pushes_of
 no_end halt w e = rw e (no_writes_end halt)
 
@@ -122,7 +122,7 @@ unfolding committed put_write pushes_of
 same_memory memory w e = rw e
 
 -- where there is no span nothing is done
-pub no_span : (halt : Halt) (at : Leaped) (memory clocks : List ℕ) → Spanned halt at memory at memory clocks
+pub no_span : (halt : Option ℕ) (at : Leaped) (memory clocks : List ℕ) → Spanned halt at memory at memory clocks
 no_span halt at memory clocks = record {
   made = 0;
   by_leaps = λ codes times words. no_leap;
@@ -141,7 +141,7 @@ fewer_left span gone later h =
     (λ e. let less = ltb-true gone later e in omega arith) (λ e. omega arith)
 
 -- after the leaps of a span the same run is ahead, and what holds at each leap's start holds further on
-module _ (halt : Halt) (at r : Leaped) (memory memory' clocks codes times words : List ℕ)
+module _ (halt : Option ℕ) (at r : Leaped) (memory memory' clocks codes times words : List ℕ)
     (z : Spanned halt at memory r memory' clocks) where
   pub run_later : run_from halt r memory' clocks codes times words ≡ run_from halt at memory clocks codes times words
   run_later =

@@ -1,5 +1,6 @@
 -- A span that goes on through ticks: an instruction of it, or a byte put in it, is a leap of the run, and so is each
 -- tick on a clock on which the CPU does not act.
+use Rattle.std.specs.Prelude.{None, Option, Some}
 use mathlib.Core.Path.{◌≡◌, refl, sym, ap, subst, ◌∙◌}
 use mathlib.Core.Bool.{Bool, true, false, false≢true}
 use mathlib.Core.List.{List, []}
@@ -13,11 +14,8 @@ use Rattle.bits.specs.Bits.{one_where}
 use Rattle.bits.proofs.Cond.{cond_both, one_where_le}
 use Rattle.cpu_effects.specs.declared.Writing.TheVariants.{Nothing, Stored}
 use Rattle.cpu_effects.specs.Effects.{pushes_of, waiting_of}
-use Rattle.cpu_access.specs.declared.halt.Halt.{Halt}
 use Rattle.cpu_access.specs.declared.stack.Write.{Write}
 use Rattle.cpu_access.specs.declared.stack.Writes.{Writes}
-use Rattle.cpu_access.specs.declared.waiting.Waiting.{Waiting}
-use Rattle.cpu_access.specs.declared.waiting.Waiting.TheVariants as waiting
 use Rattle.cpu_access.specs.Stack.{one_write, no_writes}
 use Rattle.cpu_effects.specs.declared.Worked.{Worked}
 use Rattle.cpu.specs.declared.Outcome.TheVariants as outcome
@@ -93,7 +91,7 @@ leaps_clocks : {W : Type 0} (S : System W) {n : ℕ} {w : W} {k m : ℕ} {v : W}
 leaps_clocks S no_leap = omega arith
 leaps_clocks S (one_more before on some reached) = omega (arith, leaps_clocks S before, some)
 
-module _ (halt : Halt) (at : Leaped) (clocks : List ℕ) (span : ℕ) (on : at.progress.stop ≡ 0)
+module _ (halt : Option ℕ) (at : Leaped) (clocks : List ℕ) (span : ℕ) (on : at.progress.stop ≡ 0)
     (a : AloneSeen at.left.0 at.progress.state (drop at.progress.read clocks) span) where
   abbrev s : State
   s = at.progress.state
@@ -370,7 +368,7 @@ module _ (halt : Halt) (at : Leaped) (clocks : List ℕ) (span : ℕ) (on : at.p
     pub leapt_pushing : (w : Work) (shared : ℕ) (memory₀ memory : List ℕ)
         → LeaptTo memory₀ (none_waiting w) shared memory
         → (worked : Worked) → w.gone.0 + w.wait < span
-        → instruction_of w.registers [] memory ≡ outcome.Done worked → waiting_of worked.writing ≡ waiting.Nothing
+        → instruction_of w.registers [] memory ≡ outcome.Done worked → waiting_of worked.writing ≡ None
         → ends_span halt (pushes_of worked.writing) ≡ false
         → LeaptTo memory₀ (none_waiting (next_work w worked))
         (shared + one_where (on_tick ticking (w.gone.0 + w.wait + 1)))
@@ -404,7 +402,7 @@ module _ (halt : Halt) (at : Leaped) (clocks : List ℕ) (span : ℕ) (on : at.p
     leapt_storing w shared memory₀ memory so_far worked x inside long e z q =
         let start = w.gone.0 + w.wait in
         let pushes : pushes_of worked.writing ≡ no_writes = rw z in
-        let waits : waiting_of worked.writing ≡ waiting.Byte x = rw z in
+        let waits : waiting_of worked.writing ≡ Some x = rw z in
         let begun =
         leapt_next w shared memory₀ memory so_far worked (omega arith) (within_done s w.registers memory worked e)
         (rw pushes (no_end halt Nothing refl)) in
@@ -482,14 +480,14 @@ begin_same at n clocks span a =
     rw (a.status, add-zero at.progress.state.clock, all, add-zero at.leaps)
 
 -- no step goes back
-goes_after : (halt : Halt) (s : State) (span : ℕ) (w : Work) (memory : List ℕ) → w.gone.0 ≤ span
+goes_after : (halt : Option ℕ) (s : State) (span : ℕ) (w : Work) (memory : List ℕ) → w.gone.0 ≤ span
     → w.gone.0 ≤ (work_after halt s span w memory).work.gone.0
 goes_after halt s span w memory room =
     work_either halt s span w memory (λ (v : Working) (memory' : List ℕ). w.gone.0 ≤ v.work.gone.0) room
     (omega arith)
     (λ worked inside e q. omega arith)
 
-goes_put : (halt : Halt) (span : ℕ) (w : Work) (x : Write) → w.gone.0 ≤ span
+goes_put : (halt : Option ℕ) (span : ℕ) (w : Work) (x : Write) → w.gone.0 ≤ span
     → w.gone.0 ≤ (work_put halt span w x).work.gone.0
 goes_put halt span w x room =
     put_either halt span w x [] (λ (v : Working) (memory' : List ℕ). w.gone.0 ≤ v.work.gone.0) room (omega arith)
@@ -527,7 +525,7 @@ some_period ports p t e =
     (λ _. omega arith) (λ _. omega arith))
 
 -- what holds after each step of the CPU
-pub record Within (halt : Halt) (at : Leaped) (clocks : List ℕ) (span : ℕ) (memory₀ memory : List ℕ) (v : Working)
+pub record Within (halt : Option ℕ) (at : Leaped) (clocks : List ℕ) (span : ℕ) (memory₀ memory : List ℕ) (v : Working)
     (shared : ℕ) : Type 0 where
   pub begun : SpanBegun at clocks span
   pub leapt : LeaptTo halt at clocks span begun.on begun.alone memory₀ v shared memory
@@ -535,7 +533,7 @@ pub record Within (halt : Halt) (at : Leaped) (clocks : List ℕ) (span : ℕ) (
   pub shares : shared ≤ v.work.gone.0
   pub kept : length memory ≡ length memory₀
 
-module _ (halt : Halt) (at : Leaped) (clocks : List ℕ) (span : ℕ) (memory₀ : List ℕ) where
+module _ (halt : Option ℕ) (at : Leaped) (clocks : List ℕ) (span : ℕ) (memory₀ : List ℕ) where
   abbrev start : State
   start = at.progress.state
 
@@ -612,12 +610,12 @@ module _ (halt : Halt) (at : Leaped) (clocks : List ℕ) (span : ℕ) (memory₀
           kept = k ∙ i.kept;
         }
 
-    within_on : (memory memory' : List ℕ) (w : Work) (waits : Waiting) (shared : ℕ) (v : Working)
+    within_on : (memory memory' : List ℕ) (w : Work) (waits : Option Write) (shared : ℕ) (v : Working)
         → Within halt at clocks span memory₀ memory (record { work = w; waiting = waits }) shared
         → WorkedOn halt start span w waits memory v memory' → length memory' ≡ length memory
         → Within halt at clocks span memory₀ memory' v (shared + shared_in t (record { work = w; waiting = waits }) v)
-    within_on memory memory' w waiting.Nothing shared v i o k = within_after memory memory' w shared v i o.0 o.1 k
-    within_on memory memory' w (waiting.Byte x) shared v i o k =
+    within_on memory memory' w None shared v i o k = within_after memory memory' w shared v i o.0 o.1 k
+    within_on memory memory' w (Some x) shared v i o k =
         within_put memory memory' w x shared v i o.0 o.1 k
 
     pub within_goes : (memory memory' : List ℕ) (u v : Working) (shared : ℕ)
@@ -626,15 +624,15 @@ module _ (halt : Halt) (at : Leaped) (clocks : List ℕ) (span : ℕ) (memory₀
         → Within halt at clocks span memory₀ memory' v (shared + shared_in t u v)
     within_goes memory memory' u v shared i o k = within_on memory memory' u.work u.waiting shared v i o k
 
-    within_ran : (memory memory' : List ℕ) (w : Work) (waits : Waiting) (shared : ℕ) (r : RanOn)
+    within_ran : (memory memory' : List ℕ) (w : Work) (waits : Option Write) (shared : ℕ) (r : RanOn)
         → Within halt at clocks span memory₀ memory (record { work = w; waiting = waits }) shared
         → RunsOn halt span t w waits memory r memory' → WithinSpan r.working.work span
         → length memory' ≡ length memory
         → Within halt at clocks span memory₀ memory' r.working (shared + r.shared)
-    within_ran memory memory' w waiting.Nothing shared r i o room k =
+    within_ran memory memory' w None shared r i o room k =
         let b = i.begun in
         let none : r.working ≡ none_waiting r.working.work =
-        ap (λ (x : Waiting). record { work = r.working.work; waiting = x }) o.1 in
+        ap (λ (x : Option Write). record { work = r.working.work; waiting = x }) o.1 in
         record {
           begun = b;
           leapt =
@@ -644,7 +642,7 @@ module _ (halt : Halt) (at : Leaped) (clocks : List ℕ) (span : ℕ) (memory₀
           shares = omega (arith, i.shares, shared_most halt span t w memory o.0);
           kept = k ∙ i.kept;
         }
-    within_ran memory memory' w (waiting.Byte x) shared r i o room k = rw (o.0, o.1, add-zero shared) i
+    within_ran memory memory' w (Some x) shared r i o room k = rw (o.0, o.1, add-zero shared) i
 
     pub within_steps : (memory memory' : List ℕ) (v : Working) (shared : ℕ) (r : Stepped)
         → Within halt at clocks span memory₀ memory v shared → StepsOn halt start span t v memory r memory'

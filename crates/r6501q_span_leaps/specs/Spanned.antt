@@ -1,7 +1,6 @@
 -- The leaps of a span: some of the leaps of a run, done together.
-use Rattle.std.specs.Prelude.{◌≡◌, List, ℕ, ◌+◌, ◌≤◌}
+use Rattle.std.specs.Prelude.{◌≡◌, List, ℕ, ◌+◌, ◌≤◌, Option}
 use Rattle.leaps.specs.Leaps.{ByLeaps}
-use Rattle.cpu_access.specs.declared.halt.Halt.{Halt}
 use Rattle.r6501q_chip.specs.R6501q.{system}
 use Rattle.r6501q_advance.specs.World.{world_of}
 use Rattle.r6501q_leap.specs.declared.Leaped.{Leaped}
@@ -9,7 +8,7 @@ use Rattle.r6501q_leap.specs.declared.Leaped.{Leaped}
 -- `r` is reached from `at` by so many whole leaps of document 01's, each the gap, the gap passed and the event clock,
 -- and the count is raised by as many. How many leaps, none at least, is left free. They are the same for any codes
 -- and output lists.
-pub record Spanned (halt : Halt) (at : Leaped) (memory : List ℕ) (r : Leaped) (memory' input_clocks : List ℕ) :
+pub record Spanned (halt : Option ℕ) (at : Leaped) (memory : List ℕ) (r : Leaped) (memory' input_clocks : List ℕ) :
     Type 0 where
   pub made : ℕ
   pub by_leaps : (input_codes output_clocks output_words : List ℕ)

@@ -1,7 +1,6 @@
 -- The leaps of a span that goes on through ticks.
-use Rattle.std.specs.Prelude.{◌≡◌, cond, List, ℕ, ◌+◌, ◌-◌, ◌≤◌, ltb, drop, length}
+use Rattle.std.specs.Prelude.{◌≡◌, cond, List, ℕ, ◌+◌, ◌-◌, ◌≤◌, ltb, drop, length, Option}
 use Rattle.bits.specs.Bits.{one_where}
-use Rattle.cpu_access.specs.declared.halt.Halt.{Halt}
 use Rattle.cpu.specs.Work.{WithinSpan}
 use Rattle.r6501q_state.specs.declared.state.State.{State}
 use Rattle.r6501q_events.specs.Gaps.{clocks_of}
@@ -55,7 +54,7 @@ pub record EndFits (at : Leaped) (v : Working) (shared : ℕ) : Type 0 where
 
 -- the leaps of a span that began with the state s, further on from `v`: instructions by their opcodes (`middle`,
 -- `between`), then one more step of the CPU, with how many of the clocks that it acted on had a tick too
-pub record StepsOn (halt : Halt) (s : State) (span : ℕ) (t : Ticking) (v : Working) (memory : List ℕ) (r : Stepped)
+pub record StepsOn (halt : Option ℕ) (s : State) (span : ℕ) (t : Ticking) (v : Working) (memory : List ℕ) (r : Stepped)
     (memory' : List ℕ) : Type 0 where
   pub middle : RanOn
   pub between : List ℕ

@@ -9,7 +9,6 @@ ghost use Rattle.r6501q_span_leaps.specs.Spanned.{Spanned};
 ghost use Rattle.r6501q_span_leaps.specs.Ticked.{SpanBegun, shared_in, ticked_to, EndFits, StepsOn};
 
 use counters::time::Clocks;
-use cpu_access::halt::Halt;
 use r6501q_advance::Progress;
 use r6501q_fast::run_working;
 use r6501q_leap::Leaped;
@@ -64,7 +63,7 @@ fn steps_on(
     memory: &mut [u8],
     sums: &mut [u16],
     entries: &[u16],
-    halt: Halt,
+    halt: Option<u16>,
 ) -> Stepped
     requires within_span { WithinSpan v.work span.0 }
     requires span_bound { (span.0 ≤ 2147483647) × (0 < ticking.period) }
@@ -111,7 +110,7 @@ fn leap_within(
     sums: &mut [u16],
     inputclocks: &[u32],
     entries: &[u16],
-    halt: Halt,
+    halt: Option<u16>,
 ) -> Leaped
     requires left_bound { (at.progress.state.clock + at.left.0 ≤ 4294967295) × (at.leaps + at.left.0 ≤ 4294967295) }
     requires span_begun { SpanBegun at inputclocks.now span.0 }
@@ -141,7 +140,7 @@ pub fn leap_span(
     sums: &mut [u16],
     inputclocks: &[u32],
     entries: &[u16],
-    halt: Halt,
+    halt: Option<u16>,
 ) -> Leaped
     requires left_bound { (at.progress.state.clock + at.left.0 ≤ 4294967295) × (at.leaps + at.left.0 ≤ 4294967295) }
     requires read_in_bounds { at.progress.read ≤ length inputclocks.now }

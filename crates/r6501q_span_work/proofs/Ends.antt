@@ -1,4 +1,5 @@
 -- What a clock of a span leaves: an instruction that pushes nothing, a byte put.
+use Rattle.std.specs.Prelude.{Option}
 use mathlib.Core.Path.{◌≡◌, refl, ap}
 use mathlib.Core.Bool.{Bool, true, false, ◌&&◌, not}
 use mathlib.Core.List.{List}
@@ -10,7 +11,6 @@ use Rattle.cpu_access.specs.Stack.{no_writes, one_write}
 use Rattle.cpu_effects.specs.declared.Worked.{Worked}
 use Rattle.cpu_effects.specs.Effects.{pushes_of}
 use Rattle.cpu.specs.declared.work.Work.{Work}
-use Rattle.cpu_access.specs.declared.halt.Halt.{Halt}
 use Rattle.cpu_access.specs.Halt.{ends_span}
 use Rattle.cpu_access.proofs.Ends.{no_writes_end}
 use Rattle.memory_writes.specs.Commit.{put_write, committed}
@@ -24,14 +24,14 @@ and_second : (a b : Bool) → a ≡ true → b ≡ false → (a && b) ≡ false
 and_second a b e f = rw (e, f) refl
 
 -- an instruction that pushes nothing goes on, and leaves memory as it is
-pub nothing_pushed : (halt : Halt) (w : Work) (memory : List ℕ) (worked : Worked) → pushes_of worked.writing
+pub nothing_pushed : (halt : Option ℕ) (w : Work) (memory : List ℕ) (worked : Worked) → pushes_of worked.writing
     ≡ no_writes
     → (continued_by halt w worked ≡ next_working w worked) × (committed_by halt memory worked ≡ memory)
 unfolding continued_by committed_by committed put_write
 nothing_pushed halt w memory worked e = (rw (e, no_writes_end halt) refl, rw (e, no_writes_end halt) refl)
 
 -- a byte is put within the span, or it is not
-module _ (halt : Halt) (span : ℕ) (w : Work) (x : Write) where
+module _ (halt : Option ℕ) (span : ℕ) (w : Work) (x : Write) where
   abbrev clock_within : Bool
   clock_within = ltb 0 w.wait && leb w.wait (span - w.gone.0)
 

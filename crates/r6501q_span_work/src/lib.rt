@@ -13,9 +13,8 @@ ghost use Rattle.r6501q_span_work.specs.Work.{WorkedOn, work_by, memory_by};
 use counters::time::Clocks;
 use cpu::Outcome;
 use cpu::work::{Work, next_work};
-use cpu_access::halt::{Halt, ends_span};
+use cpu_access::halt::{ends_span};
 use cpu_access::stack::{Write, one_write};
-use cpu_access::waiting::Waiting;
 use cpu_effects::{Worked, pushes_of, waiting_of};
 use memory_writes::commit;
 use r6501q_span_reads::known::known_outcome;
@@ -29,7 +28,7 @@ fn continue_work(
     worked: Worked,
     memory: &mut [u8],
     sums: &mut [u16],
-    halt: Halt,
+    halt: Option<u16>,
 ) -> Working
     requires { (w.gone.0 + w.wait + 1 ≤ 4294967295) × (w.leaps + 1 ≤ 4294967295) }
     ensures value { result ≡ continued_by halt w worked }
@@ -56,7 +55,7 @@ fn work_outcome(
     memory: &mut [u8],
     sums: &mut [u16],
     entries: &[u16],
-    halt: Halt,
+    halt: Option<u16>,
 ) -> Working
     requires wait_bound { (w.gone.0 + w.wait + 1 ≤ 4294967295) × (w.leaps + 1 ≤ 4294967295) }
     requires entries_value { entries.now ≡ opcode_table }
@@ -96,7 +95,7 @@ fn work_instruction(
     memory: &mut [u8],
     sums: &mut [u16],
     entries: &[u16],
-    halt: Halt,
+    halt: Option<u16>,
 ) -> Working
     requires within_span { WithinSpan w span.0 }
     requires entries_value { entries.now ≡ opcode_table }
@@ -122,7 +121,7 @@ fn put_within(
     span: Clocks,
     memory: &mut [u8],
     sums: &mut [u16],
-    halt: Halt,
+    halt: Option<u16>,
 ) -> Working
     requires { WithinSpan w span.0 }
     ensures value { result ≡ work_put halt span.0 w x }
@@ -139,7 +138,7 @@ fn put_within(
     }
     Working {
         work: w,
-        waiting: Waiting::Byte(x),
+        waiting: Some(x),
     }
 }
 
@@ -152,7 +151,7 @@ pub fn work_once(
     memory: &mut [u8],
     sums: &mut [u16],
     entries: &[u16],
-    halt: Halt,
+    halt: Option<u16>,
 ) -> Working
     requires within_span { WithinSpan v.work span.0 }
     requires entries_value { entries.now ≡ opcode_table }
@@ -162,7 +161,7 @@ pub fn work_once(
     let work = v.work;
     let waiting = v.waiting;
     match waiting {
-        Waiting::Nothing => work_instruction(s, work, span, memory, sums, entries, halt),
-        Waiting::Byte(x) => put_within(work, x, span, memory, sums, halt),
+        None => work_instruction(s, work, span, memory, sums, entries, halt),
+        Some(x) => put_within(work, x, span, memory, sums, halt),
     }
 }

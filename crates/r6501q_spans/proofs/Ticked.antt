@@ -1,5 +1,6 @@
 -- A state in a span that goes on through ticks: its next event clock is a tick before the CPU acts, or the clock that
 -- the CPU acts on, with a tick or without; and that clock changes nothing that can be seen but the CPU's.
+use Rattle.std.specs.Prelude.{Some}
 use mathlib.Core.Path.{◌≡◌, refl, sym, ap, ◌∙◌}
 use mathlib.Core.Bool.{Bool, true, false, ◌&&◌, ◌||◌, not, cond, false≢true}
 use mathlib.Core.List.{List, [], ◌∷◌}
@@ -19,7 +20,6 @@ use Rattle.r6501q_state.specs.Pins.{driven_word, levels_of}
 use Rattle.r6501q_state.specs.Control.{pending}
 use Rattle.cpu_access.specs.declared.stack.Write.{Write}
 use Rattle.cpu_access.specs.declared.stack.Writes.{Writes}
-use Rattle.cpu_access.specs.declared.waiting.Waiting.TheVariants as waiting
 use Rattle.cpu_access.specs.Stack.{one_write, no_writes}
 use Rattle.cpu_access.specs.Waiting.{byte_waits}
 use Rattle.cpu_access.specs.Accesses.{peripherals_written}
@@ -299,7 +299,7 @@ module _ (n : ℕ) (s : State) (clocks : List ℕ) (span : ℕ) (a : AloneSeen n
 -- ---- an instruction starts
 
 pub until_start : (s : State) (w : Work) → until_cpu (ticked_state s (none_waiting w)).cpu ≡ w.wait
-unfolding until_cpu byte_waits
+unfolding until_cpu
 until_start s w = omega arith
 
 module _ (n : ℕ) (s : State) (clocks : List ℕ) (span : ℕ) (a : AloneSeen n s clocks span) (w : Work)
@@ -371,10 +371,10 @@ module _ (n : ℕ) (s : State) (clocks : List ℕ) (span : ℕ) (a : AloneSeen n
 -- ---- a byte is put
 
 abbrev pub byte_waiting : Work → Write → Working
-byte_waiting w x = record { work = w; waiting = waiting.Byte x }
+byte_waiting w x = record { work = w; waiting = Some x }
 
 pub until_put : (s : State) (w : Work) (x : Write) → until_cpu (ticked_state s (byte_waiting w x)).cpu ≡ w.wait - 1
-unfolding until_cpu byte_waits
+unfolding until_cpu
 until_put s w x = refl
 
 module _ (s : State) (w : Work) (x : Write) (high : s.last.res ≡ true) (some : 0 < w.wait) (memory : List ℕ)

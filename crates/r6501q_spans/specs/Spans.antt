@@ -1,9 +1,8 @@
 -- Spans: clocks in which nothing but the CPU does what can be seen.
-use Rattle.std.specs.Prelude.{Bool, ◌&&◌, not, eqb}
+use Rattle.std.specs.Prelude.{Bool, ◌&&◌, not, eqb, None}
 use Rattle.cpu_alu.specs.Status.{packed, unpacked}
 use Rattle.r6501q_state.specs.declared.state.State.{State}
 use Rattle.r6501q_state.specs.Control.{pending}
-use Rattle.cpu_access.specs.declared.waiting.Waiting.TheVariants as waiting
 use Rattle.cpu_effects.specs.declared.Worked.{Worked}
 use Rattle.cpu_effects.specs.Effects.{waiting_of}
 use Rattle.cpu.specs.declared.work.Work.{Work}
@@ -27,7 +26,7 @@ begin_work s = record {
 }
 
 abbrev pub none_waiting : Work → Working
-none_waiting w = record { work = w; waiting = waiting.Nothing }
+none_waiting w = record { work = w; waiting = None }
 
 -- an instruction that was worked out
 abbrev pub next_working : Work → Worked → Working

@@ -9,7 +9,7 @@ ghost use Rattle.r6501q_spans.specs.Ticked.{AloneSeen, ticked_state};
 
 use counters::time::Clocks;
 use cpu::work::Work;
-use cpu_access::waiting::Waiting;
+use cpu_access::stack::Write;
 use r6501q_cpu::{cpu_of, registers_of};
 use r6501q_gaps::distances::{to_change, to_input};
 use r6501q_gaps::nearer;
@@ -20,7 +20,7 @@ use r6501q_unseen::{pass_unseen, unseen_clocks};
 #[derive(Clone, Copy)]
 pub struct Working {
     pub work: Work,
-    pub waiting: Waiting,
+    pub waiting: Option<Write>,
 }
 
 // Whether the next instruction is started by nothing but the CPU's own wait: no reset, no interrupt.
@@ -83,7 +83,7 @@ pub fn none_waiting(w: Work) -> Working
 {
     Working {
         work: w,
-        waiting: Waiting::Nothing,
+        waiting: None,
     }
 }
 

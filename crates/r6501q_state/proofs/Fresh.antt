@@ -1,7 +1,7 @@
 -- 02, U8: a fresh chip, field by field, each a literal: the start is written out once more, apart from its definitions.
+use Rattle.std.specs.Prelude.{None}
 use mathlib.Core.Path.{◌≡◌, refl}
 use mathlib.Core.Bool.{true, false}
-use Rattle.cpu_access.specs.declared.waiting.Waiting.TheVariants.{Nothing}
 use Rattle.r6501q_state.specs.State.{fresh}
 
 -- "RES low in both its levels, all else as before": A, X, Y, PC, wait 0, no byte waiting; SP FFh; P with I set alone;
@@ -9,7 +9,7 @@ use Rattle.r6501q_state.specs.State.{fresh}
 -- 0; every other level 1; clock 0
 abbrev pub FreshFields : Type 0
 FreshFields = fresh ≡ record {
-  cpu = record { a = 0; x = 0; y = 0; sp = 0xFF; p = 0x04; pc = 0; wait = 0; waiting = Nothing };
+  cpu = record { a = 0; x = 0; y = 0; sp = 0xFF; p = 0x04; pc = 0; wait = 0; waiting = None };
   due = record { reset = true; nmi = false };
   peripherals = record {
     ports = record { a = 0xFF; b = 0xFF; c = 0xFF; d = 0xFF };

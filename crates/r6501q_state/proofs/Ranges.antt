@@ -1,4 +1,5 @@
 -- Everything here takes well-formed states to well-formed states.
+use Rattle.std.specs.Prelude.{None, Some}
 use mathlib.Core.Path.{◌≡◌, refl}
 use mathlib.Core.Bool.{Bool, true, false, ◌&&◌, not}
 use Prim.Native.Nat.{ℕ, ◌/◌, ◌%◌, ◌<◌}
@@ -11,7 +12,6 @@ use Rattle.bits.proofs.Bits.{bit_room}
 use Rattle.serial_transmitter.specs.Transmitter.{transmitter_fits}
 use Rattle.serial_receiver.specs.Receiver.{receiver_fits}
 use Rattle.cpu_access.specs.declared.stack.Write.{Write}
-use Rattle.cpu_access.specs.declared.waiting.Waiting.TheVariants.{Nothing, Byte}
 use Rattle.cpu_access.specs.Waiting.{byte_waits}
 use Rattle.r6501q_state.specs.declared.state.Cpu.{Cpu}
 use Rattle.r6501q_state.specs.declared.state.Peripherals.{Peripherals}
@@ -82,7 +82,7 @@ fit_cpu c i = rw (i.status, i.wait, i.waits) refl
 
 -- 01, Machine state: "Fresh"
 pub fresh_formed : well_formed fresh ≡ true
-unfolding well_formed fresh byte_waits
+unfolding well_formed fresh
 fresh_formed = refl
 
 -- 01, One clock, 1: an input sets an external level, on which the ranges do not hang
@@ -117,7 +117,7 @@ with_edges_formed s now e =
 
 -- RES low
 pub reset_formed : (s : State) → well_formed s ≡ true → well_formed (reset_of s) ≡ true
-unfolding reset_of byte_waits
+unfolding reset_of
 reset_formed s e = let c = in_cpu s.cpu (formed_cpu s e) in formed (reset_of s) (rw c.status refl) refl
 
 -- step 1
@@ -140,18 +140,18 @@ sensed_last s =
 -- ---- 02, U6
 
 -- "RES low drops a waiting byte.": on the very clock
-pub byte_dropped : (s : State) → (levels_of s).res ≡ false → (sensed s).cpu.waiting ≡ Nothing
+pub byte_dropped : (s : State) → (levels_of s).res ≡ false → (sensed s).cpu.waiting ≡ None
 unfolding sensed sensed_at reset_of
 byte_dropped s low = rw low refl
 
 -- "A byte waiting with wait 0 isn't well-formed."; with wait 1 it is
 abbrev pub waiting_for : ℕ → Write → State
-waiting_for n w = with_cpu fresh (waiting_at fresh_cpu n (Byte w))
+waiting_for n w = with_cpu fresh (waiting_at fresh_cpu n (Some w))
 
 pub waiting_zero : (w : Write) → well_formed (waiting_for 0 w) ≡ false
-unfolding well_formed fresh byte_waits
+unfolding well_formed fresh
 waiting_zero w = refl
 
 pub waiting_one : (w : Write) → well_formed (waiting_for 1 w) ≡ true
-unfolding well_formed fresh byte_waits
+unfolding well_formed fresh
 waiting_one w = refl

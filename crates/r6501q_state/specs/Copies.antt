@@ -1,6 +1,6 @@
 -- Records with one part set anew, all others kept: what antt has no shorter way to write. No rule stands here.
-use Rattle.std.specs.Prelude.{ℕ}
-use Rattle.cpu_access.specs.declared.waiting.Waiting.{Waiting}
+use Rattle.cpu_access.specs.declared.stack.Write.{Write}
+use Rattle.std.specs.Prelude.{ℕ, Option}
 use Rattle.counters.specs.declared.a.CounterA.{CounterA}
 use Rattle.counters.specs.declared.b.CounterB.{CounterB}
 use Rattle.serial_transmitter.specs.declared.Transmitter.{Transmitter}
@@ -12,7 +12,7 @@ use Rattle.r6501q_state.specs.declared.state.Peripherals.{Peripherals}
 use Rattle.r6501q_state.specs.declared.state.State.{State}
 
 -- the clocks to wait, and the byte that waits
-abbrev pub waiting_at : Cpu → ℕ → Waiting → Cpu
+abbrev pub waiting_at : Cpu → ℕ → Option Write → Cpu
 waiting_at c n w = record { a = c.a; x = c.x; y = c.y; sp = c.sp; p = c.p; pc = c.pc; wait = n; waiting = w }
 
 abbrev pub at_wait : Cpu → ℕ → Cpu

@@ -1,8 +1,7 @@
 -- Document 01, "Pin lists" (the driven word) and "One clock", 1.
-use Rattle.std.specs.Prelude.{Bool, true, false, ◌&&◌, ◌||◌, not, cond, ℕ, ◌+◌, ◌*◌}
+use Rattle.std.specs.Prelude.{Bool, true, false, ◌&&◌, ◌||◌, not, cond, ℕ, ◌+◌, ◌*◌, None}
 use Rattle.std.specs.Int.Bits.{bit_and}
 use Rattle.bits.specs.Bits.{bit, with_bit, set_where}
-use Rattle.cpu_access.specs.declared.waiting.Waiting.TheVariants.{Nothing}
 use Rattle.serial_transmitter.specs.declared.Transmitter.{Transmitter}
 use Rattle.serial_format.specs.Format.{transmitter_shifts}
 use Rattle.serial_transmitter.specs.Transmitter.{line, shift_clock, idle_transmitter}
@@ -88,7 +87,7 @@ reset_peripherals p = record {
 -- waiting byte."
 unfoldable pub reset_of : State → State
 reset_of s = record {
-  cpu = waiting_at s.cpu 0 Nothing;
+  cpu = waiting_at s.cpu 0 None;
   due = record { reset = true; nmi = false };
   peripherals = reset_peripherals s.peripherals;
   external = s.external;

@@ -1,6 +1,5 @@
 -- Document 01, "Machine state".
-use Rattle.std.specs.Prelude.{Bool, true, false, ◌&&◌, not, ◌/◌, ◌%◌, leb, ltb, eqb}
-use Rattle.cpu_access.specs.declared.waiting.Waiting.TheVariants.{Nothing}
+use Rattle.std.specs.Prelude.{Bool, true, false, ◌&&◌, not, ◌/◌, ◌%◌, leb, ltb, eqb, None}
 use Rattle.cpu_access.specs.Waiting.{byte_waits}
 use Rattle.serial_transmitter.specs.Transmitter.{idle_transmitter, transmitter_fits}
 use Rattle.serial_receiver.specs.Receiver.{idle_receiver, receiver_fits}
@@ -14,7 +13,7 @@ use Rattle.r6501q_state.specs.declared.state.State.{State}
 
 -- "Fresh: A, X, Y, PC, wait 0; SP FFh; P with I set alone"; no byte waits (02, U6)
 abbrev pub fresh_cpu : Cpu
-fresh_cpu = record { a = 0; x = 0; y = 0; sp = 0xFF; p = 0x04; pc = 0; wait = 0; waiting = Nothing }
+fresh_cpu = record { a = 0; x = 0; y = 0; sp = 0xFF; p = 0x04; pc = 0; wait = 0; waiting = None }
 
 -- "reset due, NMI not"
 abbrev pub fresh_due : Due

@@ -4,7 +4,6 @@ ghost use Rattle.r6501q_state.specs.Pins.{drive_a, drive_d, word_of, driven_word
 ghost use Rattle.r6501q_state.specs.Pins.{reset_peripherals, reset_of, with_edges, sensed};
 
 use crate::state::{Levels, Peripherals, State, fresh_control, fresh_ports};
-use cpu_access::waiting::Waiting;
 use serial_format::{transmitter_on, transmitter_shifts};
 use serial_receiver::idle_receiver;
 use serial_transmitter::idle_transmitter;
@@ -130,7 +129,7 @@ impl State {
         ensures { result ≡ reset_of self }
     {
         let peripherals = self.peripherals.reset();
-        let cpu = self.cpu.waiting_at(0, Waiting::Nothing);
+        let cpu = self.cpu.waiting_at(0, None);
         self.cpu = cpu;
         self.due.reset = true;
         self.due.nmi = false;

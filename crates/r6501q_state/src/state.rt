@@ -6,7 +6,7 @@ ghost use Rattle.r6501q_state.specs.State.{fresh, well_formed};
 
 use counters::a::CounterA;
 use counters::b::CounterB;
-use cpu_access::waiting::{Waiting, byte_waits};
+use cpu_access::stack::Write;
 use serial_receiver::{Receiver, idle_receiver};
 use serial_transmitter::{Transmitter, idle_transmitter};
 
@@ -20,7 +20,7 @@ pub struct Cpu {
     pub p: u8,
     pub pc: u16,
     pub wait: u8,
-    pub waiting: Waiting,
+    pub waiting: Option<Write>,
 }
 
 // The entries that are due.
@@ -104,7 +104,7 @@ fn fresh_cpu() -> Cpu
         p: 4,
         pc: 0,
         wait: 0,
-        waiting: Waiting::Nothing,
+        waiting: None,
     }
 }
 
@@ -171,7 +171,7 @@ fn fresh_levels() -> Levels
 
 impl Cpu {
     // With so many clocks to wait, and this byte waiting.
-    pub fn waiting_at(self, wait: u8, waiting: Waiting) -> Cpu
+    pub fn waiting_at(self, wait: u8, waiting: Option<Write>) -> Cpu
         ensures { result ≡ waiting_at self wait waiting }
     {
         Cpu {
@@ -209,9 +209,7 @@ pub fn fresh_state() -> State
 pub fn well_formed(s: State) -> bool
     ensures { result ≡ well_formed s }
 {
-    let cpu = s.cpu;
-    let waiting = cpu.waiting;
-    let waits = byte_waits(waiting);
+    let waits = s.cpu.waiting.is_some();
     (s.cpu.p / 16 % 4 == 0)
         & (s.cpu.wait <= 6)
         & !(waits & (s.cpu.wait == 0))

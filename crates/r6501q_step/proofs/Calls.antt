@@ -1,11 +1,11 @@
 -- The single-clock call, by its parts.
+use Rattle.std.specs.Prelude.{Option}
 use mathlib.Core.Path.{◌≡◌, refl, ap}
 use mathlib.Core.List.{List}
 use Prim.Native.Nat.{ℕ}
 use native.Mathlib.Omega.{arith}
 use lib.ListN.{length}
 use borrow.Author.Tests.{eq-eqb, ne_eqb}
-use Rattle.cpu_access.specs.declared.halt.Halt.{Halt}
 use Rattle.refusals.specs.Refusals.{refusal_of}
 use Rattle.refusals.proofs.Accepted.{accepted}
 use Rattle.leaps.specs.Leaps.{moved_of}
@@ -36,7 +36,7 @@ module _ (s : State) (memory clocks codes times words : List ℕ)
       }
 
   -- and hands back what its clock leaves
-  pub steps : (halt : Halt) (p : Progress) (memory' times' words' : List ℕ)
+  pub steps : (halt : Option ℕ) (p : Progress) (memory' times' words' : List ℕ)
       → world_of p memory' clocks codes times' words' ≡ plain halt (call_start s memory clocks codes times words)
       → handed (progress_result (leaps_from s.clock p.state.clock) p) memory' times' words'
       ≡ step_of (machine halt) (call_start s memory clocks codes times words)
@@ -45,7 +45,7 @@ module _ (s : State) (memory clocks codes times words : List ℕ)
       rw (eq-eqb _ 0 good) (ap (λ (w : World). handed_back_of (leaps_from s.clock w.state.clock) w) e)
 
 -- a call that is refused hands back what it got
-pub refuses : (halt : Halt) (s : State) (memory clocks codes times words : List ℕ) (number : ℕ)
+pub refuses : (halt : Option ℕ) (s : State) (memory clocks codes times words : List ℕ) (number : ℕ)
     → number
     ≡ refusal_of r6501q_limits (well_formed s) s.clock (length memory) clocks codes (length times) (length words) 1
     → (number ≡ 0 → ⊥)

@@ -11,7 +11,6 @@ ghost use Rattle.r6501q_state.specs.State.{well_formed};
 ghost use Rattle.r6501q_chip.specs.R6501q.{r6501q_limits, machine};
 ghost use Rattle.r6501q_step.specs.Calls.{begin, refusal_result, progress_result, leaps_from, at_exit};
 
-use cpu_access::halt::Halt;
 use memory::MEMORY_LENGTH;
 use page_sums::{WRONG_PAGE_LIST, page_list_refused};
 use r6501q_advance::{Progress, advance};
@@ -123,7 +122,7 @@ fn step_into(
     inputcodes: &[u8],
     outputclocks: &mut [u32],
     outputwords: &mut [u32],
-    halt: Halt,
+    halt: Option<u16>,
 ) -> CallResult
     ensures outputwords_value { at_exit result memory outputclocks outputwords
         ≡ step_of (machine halt) (at_entry state memory inputclocks inputcodes outputclocks outputwords) }
@@ -165,7 +164,7 @@ pub fn step(
     inputcodes: &[u8],
     outputclocks: &mut [u32],
     outputwords: &mut [u32],
-    halt: Halt,
+    halt: Option<u16>,
 ) -> CallResult
     ensures { at_exit result memory outputclocks outputwords
         ≡ step_of (machine halt) (at_entry state memory inputclocks inputcodes outputclocks outputwords) }
@@ -192,7 +191,7 @@ pub fn step_with_sums(
     inputcodes: &[u8],
     outputclocks: &mut [u32],
     outputwords: &mut [u32],
-    halt: Halt,
+    halt: Option<u16>,
 ) -> CallResult
     ensures outputwords_value { at_exit result memory outputclocks outputwords
         ≡ with_sums sums.old (step_of (machine halt))

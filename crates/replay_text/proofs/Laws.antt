@@ -1,4 +1,5 @@
 -- A replay is never refused by the call, and what it prints is what 100 plain clocks come to.
+use Rattle.std.specs.Prelude.{None}
 use mathlib.Core.Path.{◌≡◌, refl, ap, ◌∙◌}
 use mathlib.Core.Bool.{true}
 use mathlib.Core.List.{List, [], ◌∷◌}
@@ -6,7 +7,6 @@ use Prim.Native.Nat.{ℕ, ◌≤◌}
 use native.Mathlib.Omega.{arith}
 use lib.ListN.{length, take, replicate}
 use borrow.Author.Tests.{eq-eqb, ne_eqb}
-use Rattle.cpu_access.specs.declared.halt.Halt.TheVariants.{Nowhere}
 use Rattle.memory.specs.Memory.{memory_length}
 use Rattle.pin_lists.specs.PinLists.{code_right, rest_right, pins_right, input_count}
 use Rattle.refusals.proofs.Accepted.{accepts}
@@ -42,9 +42,9 @@ release_right = refl
 module _ (memory : List ℕ) (whole : length memory ≡ memory_length) where
   -- where the clocks lead to
   abbrev ended : World
-  ended = plains (system Nowhere) 100 (replay_start memory)
+  ended = plains (system None) 100 (replay_start memory)
 
-  not_refused : refusal_in (r6501q Nowhere) 100 (replay_start memory) ≡ 0
+  not_refused : refusal_in (r6501q None) 100 (replay_start memory) ≡ 0
   not_refused =
       accepts r6501q_limits (well_formed fresh) fresh.clock (length memory) (1 ∷ []) (res_high ∷ [])
       (length free_records) (length free_records) 100
@@ -57,24 +57,24 @@ module _ (memory : List ℕ) (whole : length memory ≡ memory_length) where
         pins = release_right;
       })
 
-  start_fits : Fit (r6501q Nowhere) (replay_start memory)
+  start_fits : Fit (r6501q None) (replay_start memory)
   start_fits =
       record { memory = whole; state = fresh_formed; pins = release_right; outputs = refl; written = omega arith }
 
   -- every plain clock keeps it so
-  ended_fits : Fit (r6501q Nowhere) ended
+  ended_fits : Fit (r6501q None) ended
   ended_fits =
-      plains_kept (system Nowhere) (lawful Nowhere) (Fit (r6501q Nowhere)) (plain_fits (r6501q Nowhere) (laws Nowhere))
-      (no_gap_event (r6501q Nowhere) (laws Nowhere)) 100 (replay_start memory) start_fits
+      plains_kept (system None) (lawful None) (Fit (r6501q None)) (plain_fits (r6501q None) (laws None))
+      (no_gap_event (r6501q None) (laws None)) 100 (replay_start memory) start_fits
 
   module _ (s : State) (result : CallResult) (memory' times words : List ℕ) (new : s ≡ fresh) {clocks codes : List ℕ}
       (e : handed result memory' times words
-      ≡ plain_run_of (machine Nowhere) 100 (call_start s memory clocks codes (replicate 100 0) (replicate 100 0)))
+      ≡ plain_run_of (machine None) 100 (call_start s memory clocks codes (replicate 100 0) (replicate 100 0)))
       (at : clocks ≡ 1 ∷ []) (high : codes ≡ res_high ∷ []) where
     -- what the call hands back
-    back : handed result memory' times words ≡ handed_back_of (leap_count (system Nowhere) 100 (replay_start memory)) ended
+    back : handed result memory' times words ≡ handed_back_of (leap_count (system None) 100 (replay_start memory)) ended
     unfolding plain_run_of free_records
-    back = (rw (new, at, high) at e) ∙ rw (eq-eqb (refusal_in (r6501q Nowhere) 100 (replay_start memory)) 0 not_refused)
+    back = (rw (new, at, high) at e) ∙ rw (eq-eqb (refusal_in (r6501q None) 100 (replay_start memory)) 0 not_refused)
 
     pub written_clocks : result.written ≤ length times
     written_clocks =
@@ -97,9 +97,9 @@ module _ (memory : List ℕ) (whole : length memory ≡ memory_length) where
 
 -- 02, U8: what is printed is "what it was" from the old start with no inputs; inputs read are not printed
 pub printed_before : (memory : List ℕ)
-    → ran_of memory ≡ lines_of (plains (system Nowhere) 100 (old_start memory [] [] free_records free_records))
+    → ran_of memory ≡ lines_of (plains (system None) 100 (old_start memory [] [] free_records free_records))
 unfolding ran_of input_count
-printed_before memory = ap lines_of (released_plains Nowhere memory [] [] free_records free_records refl 99 (omega arith))
+printed_before memory = ap lines_of (released_plains None memory [] [] free_records free_records refl 99 (omega arith))
 
 module _ (tape memory : List ℕ) (result : LoadResult) (e : loaded result memory ≡ load_of tape zero_memory) where
   pub replay_refused : (result.number ≡ 0 → ⊥) → end_line 0 result.number ≡ replay_of tape

@@ -1,9 +1,8 @@
 -- What the program `replay` prints of a tape: document 01, "Tape": "The program `replay` reads a tape ... into a memory
 -- of zeros and runs 100 clocks from fresh, no inputs, 100 free records. A refused tape prints only the end line, with 0
 -- clocks." Document 02, U8: "`replay` .. now give[s] RES high on clock 1".
-use Rattle.std.specs.Prelude.{cond, List, [], ◌∷◌, ℕ, eqb, take, replicate}
+use Rattle.std.specs.Prelude.{cond, List, [], ◌∷◌, ℕ, eqb, take, replicate, None}
 use Rattle.memory.specs.Memory.{memory_length}
-use Rattle.cpu_access.specs.declared.halt.Halt.TheVariants.{Nowhere}
 use Rattle.r6501q_state.specs.State.{fresh}
 use Rattle.r6501q_state.specs.Inputs.{res_high}
 use Rattle.leaps.specs.Leaps.{plains}
@@ -36,7 +35,7 @@ lines_of w =
 
 -- "runs 100 clocks", stated by plain clocks, with no halt address
 unfoldable pub ran_of : List ℕ → List ℕ
-ran_of memory = lines_of (plains (system Nowhere) 100 (replay_start memory))
+ran_of memory = lines_of (plains (system None) 100 (replay_start memory))
 
 -- the text for a tape
 unfoldable pub replay_of : List ℕ → List ℕ

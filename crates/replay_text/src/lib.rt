@@ -6,7 +6,6 @@ ghost use Rattle.memory.specs.Memory.{memory_length};
 ghost use Rattle.record_text.specs.Lines.{filled, put_of};
 ghost use Rattle.replay_text.specs.Replay.{tape_length, ran_of, replay_of};
 
-use cpu_access::halt::Halt;
 use memory::MEMORY_LENGTH;
 use r6501q_state::inputs::RES_HIGH;
 use r6501q_state::state::fresh_state;
@@ -44,7 +43,7 @@ fn run_loaded(memory: &mut [u8], text: &mut [u8]) -> usize
         &mut outputclocks,
         &mut outputwords,
         CLOCKS,
-        Halt::Nowhere,
+        None,
     );
     let written = result.written;
     put_outcome(

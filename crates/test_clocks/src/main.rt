@@ -14,7 +14,6 @@
 
 ghost use Rattle.std.specs.Prelude.{◌≡◌, ◌≤◌, length};
 
-use cpu_access::halt::Halt;
 use memory::MEMORY_LENGTH;
 use r6501q_advance::Progress;
 use r6501q_state::state::fresh_state;
@@ -89,7 +88,7 @@ fn single_clock(
         &codes[read..],
         &mut times[written..],
         &mut words[written..],
-        Halt::Nowhere,
+        None,
     );
     let state = result.state;
     Progress {

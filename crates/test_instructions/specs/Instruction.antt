@@ -1,5 +1,5 @@
 -- One instruction by a run for all its clocks: what a case starts from, and what it has to come to.
-use Rattle.std.specs.Prelude.{ℕ, ◌-◌, true, false, List, [], ◌∷◌}
+use Rattle.std.specs.Prelude.{ℕ, ◌-◌, true, false, List, [], ◌∷◌, None, Option, Some}
 use Rattle.r6501q_state.specs.declared.state.Cpu.{Cpu}
 use Rattle.r6501q_state.specs.declared.state.Peripherals.{Peripherals}
 use Rattle.r6501q_state.specs.declared.state.State.{State}
@@ -7,10 +7,8 @@ use Rattle.r6501q_state.specs.State.{fresh_control, fresh_levels, high_levels, f
 use Rattle.r6501q_state.specs.Inputs.{res_high}
 use Rattle.serial_transmitter.specs.Transmitter.{idle_transmitter}
 use Rattle.serial_receiver.specs.Receiver.{idle_receiver}
+use Rattle.cpu_access.specs.declared.stack.Write.{Write}
 use Rattle.cpu_access.specs.declared.stack.Writes.{Writes}
-use Rattle.cpu_access.specs.declared.halt.Halt.TheVariants.{Nowhere}
-use Rattle.cpu_access.specs.declared.waiting.Waiting.{Waiting}
-use Rattle.cpu_access.specs.declared.waiting.Waiting.TheVariants.{Nothing, Byte}
 use Rattle.cpu_access.specs.Stack.{no_writes, one_write}
 use Rattle.r6501q_clock.specs.declared.Clocked.{Clocked}
 use Rattle.r6501q_clock.specs.declared.Clocked.TheVariants.{Stopped, Done}
@@ -55,7 +53,7 @@ later n c = record {
 -- the run for n clocks with RES high as its input on clock 1, one free output entry and no halt address
 abbrev pub run_alone : Cpu → ℕ → List ℕ → Handed
 run_alone c n memory =
-    run_of (machine Nowhere) n (call_start (prepared c) memory (1 ∷ []) (res_high ∷ []) (0 ∷ []) (0 ∷ []))
+    run_of (machine None) n (call_start (prepared c) memory (1 ∷ []) (res_high ∷ []) (0 ∷ []) (0 ∷ []))
 
 -- 01, Run and leaps: "Leaps = event clocks done, plus 1 if the last clock done isn't an event clock": of an instruction
 -- the start, and the last clock, which puts the byte that waits (02, U6: "A last clock with a byte waiting is an event
@@ -69,9 +67,9 @@ done_with n c = record { number = 0; state = later n c; leaps = instruction_leap
 
 -- what an instruction writes, in order, as its first clock tells: its pushes (02, U6: "Stack pushes remain on the first
 -- clock.") or the byte that waits after it
-abbrev pub writes_with : Writes → Waiting → Writes
-writes_with pushes Nothing = pushes
-writes_with pushes (Byte w) = one_write w
+abbrev pub writes_with : Writes → Option Write → Writes
+writes_with pushes None = pushes
+writes_with pushes (Some w) = one_write w
 
 -- the same by what the first clock comes to; nothing where it stops
 abbrev pub writes_in : Clocked → Writes

@@ -9,7 +9,6 @@ ghost use Rattle.test_instructions.specs.Instruction.{run_alone, done_with};
 use crate::instruction::{done_with, instruction_writes, run_alone};
 use crate::line::{Cursor, after, bad, byte_at, ends, next_byte, next_word16, start};
 use cpu_access::stack::{Write, Writes};
-use cpu_access::waiting::Waiting;
 use memory::is_register;
 use r6501q_state::state::Cpu;
 use test_states::memories::{byte_of, cleared, put, same_bytes};
@@ -61,7 +60,7 @@ fn registers_at(line: &[u8], c: Cursor) -> Registers {
             p: p.value,
             pc: pc.value,
             wait: 0,
-            waiting: Waiting::Nothing,
+            waiting: None,
         },
         rest: rest,
     }

@@ -7,7 +7,6 @@ ghost use Rattle.std.specs.Prelude.{◌^◌, ◌<◌};
 use crate::instruction::{done_with, run_alone};
 use crate::line::{after, byte_at, digits, ends, next_byte, start};
 use cpu_access::stack::Write;
-use cpu_access::waiting::Waiting;
 use r6501q_state::state::Cpu;
 use test_states::memories::{cleared, put, same_bytes};
 
@@ -53,7 +52,7 @@ fn registers(a: u8, p: u8, pc: u16) -> Cpu {
         p: p,
         pc: pc,
         wait: 0,
-        waiting: Waiting::Nothing,
+        waiting: None,
     }
 }
 

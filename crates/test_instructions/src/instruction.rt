@@ -5,9 +5,7 @@ ghost use Rattle.r6501q_clock.specs.Clock.{clock_of};
 ghost use Rattle.r6501q_step.specs.Calls.{result_from};
 ghost use Rattle.test_instructions.specs.Instruction.{prepared, later, run_alone, done_with, writes_with, writes_in};
 
-use cpu_access::halt::Halt;
 use cpu_access::stack::{Writes, no_writes, one_write};
-use cpu_access::waiting::Waiting;
 use r6501q_clock::{Clocked, Ended, clock};
 use r6501q_state::inputs::RES_HIGH;
 use r6501q_state::state::{Cpu, State, fresh_state};
@@ -58,7 +56,7 @@ pub(crate) fn run_alone(cpu: Cpu, clocks: u8, memory: &mut [u8]) -> CallResult
         &mut times,
         &mut words,
         clocks as u32,
-        Halt::Nowhere,
+        None,
     )
 }
 
@@ -87,8 +85,8 @@ fn writes_with(ended: Ended) -> Writes
     let cpu = state.cpu;
     let waiting = cpu.waiting;
     match waiting {
-        Waiting::Nothing => ended.writes,
-        Waiting::Byte(w) => one_write(w.address, w.value),
+        None => ended.writes,
+        Some(w) => one_write(w.address, w.value),
     }
 }
 

@@ -1,4 +1,5 @@
 -- Two structs are the same where a test of each field says so.
+use Rattle.std.specs.Prelude.{None, Option, Some}
 use mathlib.Core.Path.{◌≡◌, refl}
 use mathlib.Core.Bool.{Bool, true, false, ◌&&◌, not, beq}
 use mathlib.Core.List.{List, [], ◌∷◌}
@@ -8,8 +9,6 @@ use lib.Dec.{eqb}
 use borrow.Author.Tests.{eqb-true}
 use Rattle.bits.proofs.Cond.{and_left, and_right}
 use Rattle.cpu_access.specs.declared.stack.Write.{Write}
-use Rattle.cpu_access.specs.declared.waiting.Waiting.{Waiting}
-use Rattle.cpu_access.specs.declared.waiting.Waiting.TheVariants.{Nothing, Byte}
 use Rattle.cpu_access.specs.Waiting.{byte_waits}
 use Rattle.r6501q_state.specs.declared.state.Cpu.{Cpu}
 use Rattle.r6501q_state.specs.declared.state.Due.{Due}
@@ -86,10 +85,9 @@ write_same a b e =
     (record { address = b.address; value = b.value }) = cc in
     whole
 
-pub nothing_waits : (w : Waiting) → not (byte_waits w) ≡ true → Nothing ≡ w
-unfolding byte_waits
-nothing_waits Nothing e = refl
-nothing_waits (Byte w) e = absurd (never e)
+pub nothing_waits : (w : Option Write) → not (byte_waits w) ≡ true → None ≡ w
+nothing_waits None e = refl
+nothing_waits (Some w) e = absurd (never e)
 
 abbrev pub register_pairs : Cpu → Cpu → List Pair
 register_pairs a b =

@@ -5,7 +5,6 @@ ghost use Rattle.cpu_access.specs.declared.waiting.Waiting.TheVariants.{Byte};
 use counters::a::CounterA;
 use counters::b::CounterB;
 use cpu_access::stack::Write;
-use cpu_access::waiting::{Waiting, byte_waits};
 use r6501q_state::state::{Control, Cpu, Due, Levels, Peripherals, Ports, SerialData, State};
 use serial_receiver::Receiver;
 use serial_transmitter::Transmitter;
@@ -17,21 +16,21 @@ pub fn same_write(a: Write, b: Write) -> bool
 }
 
 // Whether just this byte waits.
-fn is_waiting(waiting: Waiting, write: Write) -> bool
+fn is_waiting(waiting: Option<Write>, write: Write) -> bool
     ensures { result ≡ true → waiting ≡ Byte write }
 {
     match waiting {
-        Waiting::Nothing => false,
-        Waiting::Byte(w) => same_write(w, write),
+        None => false,
+        Some(w) => same_write(w, write),
     }
 }
 
-fn same_waiting(a: Waiting, b: Waiting) -> bool
+fn same_waiting(a: Option<Write>, b: Option<Write>) -> bool
     ensures { result ≡ true → a ≡ b }
 {
     match a {
-        Waiting::Nothing => !byte_waits(b),
-        Waiting::Byte(w) => is_waiting(b, w),
+        None => !b.is_some(),
+        Some(w) => is_waiting(b, w),
     }
 }
 

@@ -10,7 +10,7 @@ pub returns-then-at-memory : goal.returns-then-at-memory
 unfolding put_write
 returns-then-at-memory c = record {
   memory_after = rw (
-    ← c.is_register.ensures,
+    ← c.is_register-here.ensures,
     c.if-here.true,
   ) c.commit_byte.ensures.part_after;
   sums_after = c.commit_byte.ensures.sums_after;
@@ -22,7 +22,7 @@ returns-else-at-memory c =
     let at = c.args in
     let words : SixteenBits at.sums.now =
     λ p. omega (arith, c.type_inv.sums p) in record {
-      memory_after = rw (← c.is_register.ensures, c.if-here.true, set_out _ _ _ c.if-at-memory.false) refl;
+      memory_after = rw (← c.is_register-here.ensures, c.if-here.true, set_out _ _ _ c.if-at-memory.false) refl;
       sums_after = sums_kept 0 at.sums.now at.memory.now words;
     }
 
@@ -31,7 +31,7 @@ unfolding put_write
 returns-else-here c =
     let at = c.args in
     let words : SixteenBits at.sums.now = λ p. omega (arith, c.type_inv.sums p) in record {
-      memory_after = rw (← c.is_register.ensures, c.if-here.false) refl;
+      memory_after = rw (← c.is_register-here.ensures, c.if-here.false) refl;
       sums_after = sums_kept 0 at.sums.now
           at.memory.now words;
     }

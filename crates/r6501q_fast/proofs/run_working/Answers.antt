@@ -5,10 +5,10 @@ use Rattle.page_sums.proofs.Sums.{sums_kept}
 use Rattle.r6501q_fast.proofs.Instructions.{shared_most}
 use Rattle.r6501q_fast.proofs.run_working.Goals as goal
 
-pub returns-in-Nothing : goal.returns-in-Nothing
-returns-in-Nothing c =
+pub returns-in-None : goal.returns-in-None
+returns-in-None c =
     let at = c.args in
-    let e = c.in-Nothing.is in
+    let e = c.in-None.is in
     let most = shared_most at.halt at.span.0 at.ticking at.v.work at.memory.now
     c.run_opcodes-ran.ensures.by_instructions in record {
       runs_on = rw (e, c.none_waiting.ensures) (c.run_opcodes-ran.ensures.by_instructions, refl);
@@ -18,10 +18,10 @@ returns-in-Nothing c =
           c.run_opcodes-ran.ensures.sums_after;
     }
 
-pub returns-in-Byte : goal.returns-in-Byte
-returns-in-Byte c =
+pub returns-in-Some : goal.returns-in-Some
+returns-in-Some c =
     let at = c.args in
-    let e = c.in-Byte.is in
+    let e = c.in-Some.is in
     let words : SixteenBits at.sums.now = λ k. omega (arith, c.type_inv.sums k) in record {
       runs_on = rw e (refl, refl);
       within_span_2 = (c.requires.within_span, omega arith);

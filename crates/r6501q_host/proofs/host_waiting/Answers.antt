@@ -2,10 +2,10 @@ use Rattle.r6501q_host.specs.Host.{host_waiting}
 use mathlib.Core.Path.{refl}
 use Rattle.r6501q_host.proofs.host_waiting.Goals as goal
 
-pub returns-in-Nothing : goal.returns-in-Nothing
+pub returns-in-None : goal.returns-in-None
 unfolding host_waiting
-returns-in-Nothing c = rw c.in-Nothing.is refl
+returns-in-None c = rw c.in-None.is refl
 
-pub returns-in-Byte : goal.returns-in-Byte
+pub returns-in-Some : goal.returns-in-Some
 unfolding host_waiting
-returns-in-Byte c = rw c.in-Byte.is refl
+returns-in-Some c = rw c.in-Some.is refl

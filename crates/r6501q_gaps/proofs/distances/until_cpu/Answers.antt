@@ -3,10 +3,10 @@ use mathlib.Core.Path.{sym}
 use native.Mathlib.Nat.{sub-zero}
 use Rattle.r6501q_gaps.proofs.distances.until_cpu.Goals as goal
 
-pub returns-then-byte_waits : goal.returns-then-byte_waits
+pub returns-then-is_some : goal.returns-then-is_some
 unfolding until_cpu
-returns-then-byte_waits c = rw (← c.byte_waits.ensures, c.if-byte_waits.true) c.one_less.ensures
+returns-then-is_some c = rw (← c.is_some.ensures, c.if-is_some.true) c.one_less.ensures
 
 pub returns : goal.returns
 unfolding until_cpu
-returns c = rw (← c.byte_waits.ensures, c.if-byte_waits.false) (sym (sub-zero _))
+returns c = rw (← c.is_some.ensures, c.if-is_some.false) (sym (sub-zero _))

@@ -8,5 +8,5 @@ returns c = rw (
   ← c.control_fresh-control.ensures,
   ← c.transmitter_idle-transmitter.ensures,
   ← c.receiver_idle-receiver.ensures,
-  ← c.byte_waits-waits.ensures,
+  ← c.is_some-waits.ensures,
 )

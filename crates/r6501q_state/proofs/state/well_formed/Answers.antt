@@ -4,4 +4,4 @@ use Rattle.r6501q_state.proofs.state.well_formed.Goals as goal
 
 pub returns : goal.returns
 unfolding well_formed
-returns c = rw c.byte_waits-waits.ensures refl
+returns c = rw c.is_some-waits.ensures refl

@@ -1,5 +1,5 @@
 use Rattle.std.proofs.Common.{◌∙◌}
 use Rattle.test_instructions.proofs.instruction.writes_with.Goals as goal
 
-pub returns-in-Byte : goal.returns-in-Byte
-returns-in-Byte c = c.one_write.ensures ∙ rw c.in-Byte.is
+pub returns-in-Some : goal.returns-in-Some
+returns-in-Some c = c.one_write.ensures ∙ rw c.in-Some.is
