@@ -13,7 +13,7 @@ ghost use Rattle.r6501q_clock.specs.Clock.{clock_of};
 ghost use Rattle.r6501q_chip.specs.R6501q.{stop_after, plain};
 ghost use Rattle.r6501q_advance.specs.World.{progress_to, stopped_with, Going, world_at_entry, world_at_exit};
 
-use cpu_access::halt::{halts};
+use cpu_access::halt::halts;
 use cpu_access::stack::Writes;
 use memory_writes::commit;
 use pin_lists::input_count;

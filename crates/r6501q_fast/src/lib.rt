@@ -151,8 +151,7 @@ pub fn run_working(
     ensures within_span_2 { WithinSpan result.working.work span.0 × (result.shared ≤ result.working.work.gone.0) }
     ensures sums_after { sums.new ≡ sums_after sums.old memory.old memory.new }
 {
-    let waiting = v.waiting;
-    match waiting {
+    match v.waiting {
         None => {
             let ran = run_opcodes(v.work, span, ticking, memory, sums, halt);
             RanOn {

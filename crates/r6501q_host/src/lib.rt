@@ -138,14 +138,10 @@ pub struct HostTotalResult {
 fn waiting_from(h: HostWaiting) -> Option<Write>
     ensures { result ≡ waiting_from_host h }
 {
-    if h.there == 1 {
-        let byte = Write {
-            address: h.address,
-            value: h.value,
-        };
-        return Some(byte);
-    }
-    None
+    (h.there == 1).then_some(Write {
+        address: h.address,
+        value: h.value,
+    })
 }
 
 fn cpu_from(h: HostCpu) -> Cpu
@@ -260,10 +256,7 @@ pub fn flags_fit(h: HostState) -> bool
 pub fn halt_of(halt: u32) -> Option<u16>
     ensures { result ≡ halt_of halt }
 {
-    if halt <= 65535 {
-        return Some(halt as u16);
-    }
-    None
+    u16::try_from(halt).ok()
 }
 
 // To the host.
@@ -287,7 +280,6 @@ fn host_waiting(w: Option<Write>) -> HostWaiting
 fn host_cpu(c: Cpu) -> HostCpu
     ensures { result ≡ host_cpu c }
 {
-    let waiting = c.waiting;
     HostCpu {
         a: c.a,
         x: c.x,
@@ -296,7 +288,7 @@ fn host_cpu(c: Cpu) -> HostCpu
         p: c.p,
         pc: c.pc,
         wait: c.wait,
-        waiting: host_waiting(waiting),
+        waiting: host_waiting(c.waiting),
     }
 }
 

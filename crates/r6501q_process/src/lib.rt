@@ -111,16 +111,9 @@ fn wait_on(s: State) -> Processed
     requires { 0 < s.cpu.wait }
     ensures { result ≡ waited_by s s.cpu.waiting }
 {
-    let cpu = s.cpu;
-    let waiting = cpu.waiting;
-    match waiting {
-        None => wait_less(s),
-        Some(w) => {
-            if s.cpu.wait == 1 {
-                return Processed::Done(put_byte(s, w));
-            }
-            wait_less(s)
-        }
+    match s.cpu.waiting {
+        Some(w) if s.cpu.wait == 1 => Processed::Done(put_byte(s, w)),
+        _ => wait_less(s),
     }
 }
 

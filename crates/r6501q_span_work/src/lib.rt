@@ -159,8 +159,7 @@ pub fn work_once(
     ensures sums_after { sums.new ≡ sums_after sums.old memory.old memory.new }
 {
     let work = v.work;
-    let waiting = v.waiting;
-    match waiting {
+    match v.waiting {
         None => work_instruction(s, work, span, memory, sums, entries, halt),
         Some(x) => put_within(work, x, span, memory, sums, halt),
     }

@@ -81,10 +81,7 @@ fn clock_alone(cpu: Cpu, memory: &[u8]) -> Clocked
 fn writes_with(ended: Ended) -> Writes
     ensures { result ≡ writes_with ended.writes ended.state.cpu.waiting }
 {
-    let state = ended.state;
-    let cpu = state.cpu;
-    let waiting = cpu.waiting;
-    match waiting {
+    match ended.state.cpu.waiting {
         None => ended.writes,
         Some(w) => one_write(w.address, w.value),
     }

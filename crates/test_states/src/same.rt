@@ -1,6 +1,5 @@
 // Whether two states are the same.
-ghost use Rattle.std.specs.Prelude.{◌≡◌, true};
-ghost use Rattle.cpu_access.specs.declared.waiting.Waiting.TheVariants.{Byte};
+ghost use Rattle.std.specs.Prelude.{◌≡◌, true, Some};
 
 use counters::a::CounterA;
 use counters::b::CounterB;
@@ -17,7 +16,7 @@ pub fn same_write(a: Write, b: Write) -> bool
 
 // Whether just this byte waits.
 fn is_waiting(waiting: Option<Write>, write: Write) -> bool
-    ensures { result ≡ true → waiting ≡ Byte write }
+    ensures { result ≡ true → waiting ≡ Some write }
 {
     match waiting {
         None => false,
@@ -29,7 +28,7 @@ fn same_waiting(a: Option<Write>, b: Option<Write>) -> bool
     ensures { result ≡ true → a ≡ b }
 {
     match a {
-        None => !b.is_some(),
+        None => b.is_none(),
         Some(w) => is_waiting(b, w),
     }
 }
