@@ -135,6 +135,7 @@ pub struct HostTotalResult {
 }
 
 // From the host: a byte of 1 is a yes. What is neither 0 nor 1 is refused before, by `flags_fit`.
+#[tactic(auto, unfolding(crate::specs::Host::waiting_from_host))]
 fn waiting_from(h: HostWaiting) -> Option<Write>
     ensures { result ≡ waiting_from_host h }
 {
@@ -253,6 +254,7 @@ pub fn flags_fit(h: HostState) -> bool
 }
 
 // The halt address that the host's number stands for; none above 65,535.
+#[tactic(auto, unfolding(crate::specs::Host::halt_of))]
 pub fn halt_of(halt: u32) -> Option<u16>
     ensures { result ≡ halt_of halt }
 {

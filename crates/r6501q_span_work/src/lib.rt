@@ -13,7 +13,7 @@ ghost use Rattle.r6501q_span_work.specs.Work.{WorkedOn, work_by, memory_by};
 use counters::time::Clocks;
 use cpu::Outcome;
 use cpu::work::{Work, next_work};
-use cpu_access::halt::{ends_span};
+use cpu_access::halt::ends_span;
 use cpu_access::stack::{Write, one_write};
 use cpu_effects::{Worked, pushes_of, waiting_of};
 use memory_writes::commit;
