@@ -49,7 +49,7 @@ fn store(
         address: address,
         value: value,
     };
-    put_write(memory, sums, true, x);
+    put_write(memory, sums, x);
     stored_whole(w, registers, length)
 }
 
