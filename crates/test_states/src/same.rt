@@ -28,7 +28,7 @@ fn same_waiting(a: Option<Write>, b: Option<Write>) -> bool
     ensures { result ≡ true → a ≡ b }
 {
     match a {
-        None => b.is_none(),
+        None => !b.is_some(),
         Some(w) => is_waiting(b, w),
     }
 }
