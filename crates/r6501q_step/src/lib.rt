@@ -141,7 +141,6 @@ fn step_into(
     if number != 0 {
         return refused(number, state);
     }
-    let entries = cpu_opcodes::opcode_table();
     let end = advance(
         begin(state),
         memory,
@@ -150,7 +149,6 @@ fn step_into(
         inputcodes,
         outputclocks,
         outputwords,
-        &entries,
         halt,
     );
     let leaps = leaps_from(state.clock, end.state.clock);
