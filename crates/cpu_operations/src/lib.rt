@@ -70,8 +70,7 @@ pub fn operate(
         Operation::Flag(flag) => completed(o, with_status(r, with_flag(flag, status))),
         Operation::Brk => break_taken(memory, o, r),
         Operation::Jmp => jumped(o, r),
-        Operation::Jsr => completed(o, r),
-        Operation::Nop => completed(o, r),
+        Operation::Jsr | Operation::Nop => completed(o, r),
         Operation::Rti => returned_from_interrupt(answers, memory, o, r),
         Operation::Rts => returned(answers, memory, o, r),
     }

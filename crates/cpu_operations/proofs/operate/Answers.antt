@@ -1,4 +1,5 @@
 use mathlib.Core.Path.{refl}
+use mathlib.Core.Logic.{inl, inr}
 use Rattle.cpu_operations.specs.Operations.{operate_of}
 use Rattle.cpu_operations.proofs.operate.Goals as goal
 
@@ -66,14 +67,6 @@ pub returns-in-Jmp : goal.returns-in-Jmp
 unfolding operate_of
 returns-in-Jmp c = rw (c.jumped.ensures, c.in-Jmp.is) refl
 
-pub returns-in-Jsr : goal.returns-in-Jsr
-unfolding operate_of
-returns-in-Jsr c = rw (c.completed-in-Jsr.ensures, c.in-Jsr.is) refl
-
-pub returns-in-Nop : goal.returns-in-Nop
-unfolding operate_of
-returns-in-Nop c = rw (c.completed-in-Nop.ensures, c.in-Nop.is) refl
-
 pub returns-in-Rti : goal.returns-in-Rti
 unfolding operate_of
 returns-in-Rti c = rw (c.returned_from_interrupt.ensures, c.in-Rti.is) refl
@@ -81,3 +74,7 @@ returns-in-Rti c = rw (c.returned_from_interrupt.ensures, c.in-Rti.is) refl
 pub returns-in-Rts : goal.returns-in-Rts
 unfolding operate_of
 returns-in-Rts c = rw (c.returned.ensures, c.in-Rts.is) refl
+
+pub returns-in-Jsr : goal.returns-in-Jsr
+unfolding operate_of
+returns-in-Jsr c = rw c.completed-in-Jsr.ensures (elim c.in-Jsr.is [ inl p ↦ rw p refl | inr q ↦ rw q refl ])
