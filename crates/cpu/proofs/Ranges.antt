@@ -614,7 +614,8 @@ module _ (answers memory : List ℕ) (given : Bytes answers) (bytes : Bytes memo
       (λ t. jsr_fits r e.length b i)
       (λ t. outcome_fits no_writes (carried_out answers memory e r b) (carried_fits e r b i))
 
-  decoded_fits : (d : Option Entry) (r : CpuRegisters) (b : Bus) → InRange r → DoneFits (decoded_to answers memory r b d)
+  decoded_fits : (d : Option Entry) (r : CpuRegisters) (b : Bus) → InRange r
+      → DoneFits (decoded_to answers memory r b d)
   decoded_fits None r b i = tt
   decoded_fits (Some e) r b i = execute_fits e r b i
 
