@@ -4,13 +4,11 @@ use mathlib.Core.Path.{◌≡◌, refl, sym, ap, ◌∙◌}
 use mathlib.Core.Bool.{Bool, true, false, not, false≢true}
 use mathlib.Core.List.{List, [], ◌∷◌, ◌++◌}
 use Prim.Native.Nat.{ℕ}
-use lib.Dec.{eqb}
 use Rattle.bits.proofs.Cond.{cond_both}
 use Rattle.cpu_opcodes.specs.declared.Mode.{Mode}
 use Rattle.cpu_opcodes.specs.declared.Mode.TheVariants.{Implied, Accumulator, Immediate, ZeroPage, ZeroPageX}
 use Rattle.cpu_opcodes.specs.declared.Mode.TheVariants.{ZeroPageY, Absolute, AbsoluteX, AbsoluteY, IndexedIndirect}
 use Rattle.cpu_opcodes.specs.declared.Mode.TheVariants.{IndirectIndexed, Indirect, Relative, ZeroPageRelative}
-use Rattle.cpu_opcodes.specs.TableInCode.{mode_number}
 use Rattle.cpu_opcodes.specs.declared.operation.Operation.{Operation}
 use Rattle.cpu_opcodes.specs.declared.operation.Operation.TheVariants as operation
 use Rattle.cpu_alu.specs.declared.Status.{Status}
@@ -62,7 +60,8 @@ performed_ends file memory P p before (writes a v t) q =
 -- ---- an operand's place: nothing is written, and it is the accumulator just in that mode
 
 abbrev pub is_accumulator : Mode → Bool
-is_accumulator mode = eqb (mode_number mode) (mode_number Accumulator)
+is_accumulator Accumulator = true
+is_accumulator mode = false
 
 abbrev pub PlaceIn : Mode → List Write → Located → Type 0
 PlaceIn mode ws p = (ws ≡ []) × (p.accumulator ≡ is_accumulator mode)

@@ -9,12 +9,11 @@ use native.Mathlib.Omega.{arith}
 use lib.Dec.{ltb, eqb}
 use lib.ListN.{length, drop}
 use borrow.Author.Tests.{ne_eqb}
+use Rattle.std.specs.Prelude.{Option, Some, None}
 use Rattle.bits.specs.Bits.{low_byte, high_byte, word16}
 use Rattle.bits.proofs.Cond.{cond_map, cond_along}
 use Rattle.memory.specs.Memory.{is_register}
 use Rattle.cpu_opcodes.specs.Decode.{decode_of}
-use Rattle.cpu_opcodes.specs.declared.Decoded.{Decoded}
-use Rattle.cpu_opcodes.specs.declared.Decoded.TheVariants as decoded
 use Rattle.cpu_opcodes.specs.declared.Entry.{Entry}
 use Rattle.cpu_opcodes.specs.declared.Mode.{Mode}
 use Rattle.cpu_opcodes.specs.declared.operation.Operation.{Operation}
@@ -348,14 +347,14 @@ module _ (answers memory : List ℕ) where
   execute_on operation.Rts mode n r b =
       let p = locate_of answers memory mode r b in located_first mode r b _ _ (returned_on (unread n p) _)
 
-  decoded_on : (d : Decoded) (r : CpuRegisters) (b : Bus) → b.missing ≡ false
+  decoded_on : (d : Option Entry) (r : CpuRegisters) (b : Bus) → b.missing ≡ false
       → Same b (opcode_accesses r d) (decoded_to answers memory r b d)
   unfolding onwards asked
-  decoded_on decoded.Undefined r b m = rw m
-  decoded_on (decoded.Defined e) r b m = execute_on e.operation e.mode e.length r b
+  decoded_on None r b m = rw m
+  decoded_on (Some e) r b m = execute_on e.operation e.mode e.length r b
 
   -- the opcode is fetched, and goes its way
-  opcode_on : (r : CpuRegisters) (b : Bus) (d : Decoded)
+  opcode_on : (r : CpuRegisters) (b : Bus) (d : Option Entry)
       → Same b (opcode_accesses r d) (cond b.missing (Asked (ask_with no_writes b)) (decoded_to answers memory r b d))
   unfolding onwards in_order
   opcode_on r b d = by_answer b.missing refl

@@ -5,19 +5,17 @@ use mathlib.Core.Bool.{Bool, true, false, ◌&&◌, ◌||◌, not, false≢true}
 use mathlib.Core.List.{List}
 use Prim.Native.Nat.{ℕ, suc, ◌+◌, ◌≤◌, ◌<◌}
 use native.Mathlib.Omega.{arith}
-use lib.Dec.{T, leb, eqb, leb→le, lit≤}
+use lib.Dec.{T, leb, leb→le, lit≤}
 use lib.ListN.{length}
+use Rattle.std.specs.Prelude.{Option, Some, None}
 use Rattle.bits.proofs.Cond.{cond_both, both_left, both_right}
 use Rattle.cpu_opcodes.specs.InstructionSet.{rows}
 use Rattle.cpu_opcodes.specs.Decode.{decode_of}
-use Rattle.cpu_opcodes.specs.declared.Decoded.{Decoded}
-use Rattle.cpu_opcodes.specs.declared.Decoded.TheVariants as decoded
 use Rattle.cpu_opcodes.specs.declared.Entry.{Entry}
 use Rattle.cpu_opcodes.specs.declared.Mode.{Mode}
 use Rattle.cpu_opcodes.specs.declared.Mode.TheVariants.{Implied, Accumulator, Immediate, ZeroPage, ZeroPageX}
 use Rattle.cpu_opcodes.specs.declared.Mode.TheVariants.{ZeroPageY, Absolute, AbsoluteX, AbsoluteY, IndexedIndirect}
 use Rattle.cpu_opcodes.specs.declared.Mode.TheVariants.{IndirectIndexed, Indirect, Relative, ZeroPageRelative}
-use Rattle.cpu_opcodes.specs.TableInCode.{mode_number}
 use Rattle.cpu_opcodes.proofs.Laws.{passes, looked_up}
 use Rattle.cpu_access.specs.declared.Bus.{Bus}
 use Rattle.cpu_access.specs.declared.CpuRegisters.{CpuRegisters}
@@ -46,6 +44,7 @@ use Rattle.cpu.specs.InstructionInCode.{jsr_to}
 use Rattle.cpu.specs.InstructionInCode.{jsr_outcome, execute_of, decoded_to, instruction_of}
 use Rattle.cpu_operations.proofs.Sound.{cost_of, operate_sound}
 use Rattle.cpu_operations.proofs.Stores.{is_store, stores, operate_stores}
+use Rattle.cpu.proofs.Conclusions.{is_accumulator}
 
 -- an instruction that is done
 pub record Fits (w : Worked) : Type 0 where
@@ -81,7 +80,7 @@ reads_of e = (cost_of e.operation).reads (reads_of_access (access_of e.operation
 
 -- an entry that leaves a store
 abbrev pub stores_of : Entry → Bool
-stores_of e = stores e.operation (eqb (mode_number e.mode) (mode_number Accumulator))
+stores_of e = stores e.operation (is_accumulator e.mode)
 
 -- one test over the table: no instruction reads more than five bytes that can be asked for, nor takes more than 7
 -- clocks, and one that stores takes 3 at least
@@ -119,7 +118,7 @@ unfolding decode_of cost_fits
 table_fits o = looked_up cost_fits o rows tt
 
 -- so of each entry of the table
-pub entry_fits : (o : ℕ) (e : Entry) → decode_of o ≡ decoded.Defined e → CostFits e
+pub entry_fits : (o : ℕ) (e : Entry) → decode_of o ≡ Some e → CostFits e
 entry_fits o e d = cost_fits_lem e (rw d at (table_fits o))
 
 pushed_writes : (sp pc : ℕ) → (push_address sp pc).count ≤ 3
@@ -137,7 +136,7 @@ asking_writes b sp pc =
 
 -- an operand is the accumulator just in that mode
 pub locate_accumulator : (answers memory : List ℕ) (mode : Mode) (r : CpuRegisters) (b : Bus)
-    → (locate_of answers memory mode r b).accumulator ≡ eqb (mode_number mode) (mode_number Accumulator)
+    → (locate_of answers memory mode r b).accumulator ≡ is_accumulator mode
 unfolding locate_of indexed_by relative_to
 locate_accumulator answers memory Implied r b = refl
 locate_accumulator answers memory Accumulator r b = refl
@@ -227,10 +226,10 @@ module _ (P : ℕ → Bus → Type 0) (answers memory : List ℕ)
       (λ t. jsr_lawful r e.length b c.least (let m = c.most in omega arith) h)
       (λ t. carried_lawful e r b c h)
 
-  decoded_lawful : (d : Decoded) (r : CpuRegisters) (b : Bus) → T (passes cost_fits d) → P 1 b
+  decoded_lawful : (d : Option Entry) (r : CpuRegisters) (b : Bus) → T (passes cost_fits d) → P 1 b
       → Lawful P (decoded_to answers memory r b d)
-  decoded_lawful decoded.Undefined r b t h = tt
-  decoded_lawful (decoded.Defined e) r b t h = execute_lawful e r b (cost_fits_lem e t) h
+  decoded_lawful None r b t h = tt
+  decoded_lawful (Some e) r b t h = execute_lawful e r b (cost_fits_lem e t) h
 
   pub lawful : (r : CpuRegisters) → P 0 unasked → Lawful P (instruction_of r answers memory)
   unfolding instruction_of

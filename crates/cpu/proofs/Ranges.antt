@@ -9,12 +9,11 @@ use lib.Bits.{and_lt, or_lt, xor_lt}
 use lib.Dec.{ltb, eqb}
 use lib.IntN.{ℤ, pos, negsuc}
 use lib.ListN.{get_or, length}
+use Rattle.std.specs.Prelude.{Option, Some, None}
 use Rattle.bits.specs.Bits.{one_where, with_bit, word16, wrapping8, wrapping16}
 use Rattle.bits.proofs.Bits.{bit_room}
 use Rattle.bits.proofs.Cond.{cond_both, one_where_le}
 use Rattle.cpu_opcodes.specs.Decode.{decode_of}
-use Rattle.cpu_opcodes.specs.declared.Decoded.{Decoded}
-use Rattle.cpu_opcodes.specs.declared.Decoded.TheVariants as decoded
 use Rattle.cpu_opcodes.specs.declared.Entry.{Entry}
 use Rattle.cpu_opcodes.specs.declared.Mode.{Mode}
 use Rattle.cpu_opcodes.specs.declared.Mode.TheVariants.{Implied, Accumulator, Immediate, ZeroPage, ZeroPageX}
@@ -615,9 +614,10 @@ module _ (answers memory : List ℕ) (given : Bytes answers) (bytes : Bytes memo
       (λ t. jsr_fits r e.length b i)
       (λ t. outcome_fits no_writes (carried_out answers memory e r b) (carried_fits e r b i))
 
-  decoded_fits : (d : Decoded) (r : CpuRegisters) (b : Bus) → InRange r → DoneFits (decoded_to answers memory r b d)
-  decoded_fits decoded.Undefined r b i = tt
-  decoded_fits (decoded.Defined e) r b i = execute_fits e r b i
+  decoded_fits : (d : Option Entry) (r : CpuRegisters) (b : Bus) → InRange r
+      → DoneFits (decoded_to answers memory r b d)
+  decoded_fits None r b i = tt
+  decoded_fits (Some e) r b i = execute_fits e r b i
 
   in_range : (r : CpuRegisters) → InRange r → DoneFits (instruction_of r answers memory)
   unfolding instruction_of

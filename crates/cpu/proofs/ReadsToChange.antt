@@ -3,7 +3,7 @@
 use mathlib.Core.Path.{◌≡◌, refl, sym}
 use mathlib.Core.Bool.{Bool, true, false, ◌&&◌, not, cond, false≢true}
 use Prim.Native.Nat.{ℕ}
-use Rattle.cpu_opcodes.specs.declared.Decoded.TheVariants.{Defined}
+use Rattle.std.specs.Prelude.{Some}
 use Rattle.cpu_opcodes.specs.declared.Entry.{Entry}
 use Rattle.cpu_opcodes.specs.declared.Mode.{Mode}
 use Rattle.cpu_opcodes.specs.declared.Mode.TheVariants.{Implied, Accumulator, Immediate, ZeroPage, ZeroPageX}
@@ -102,7 +102,7 @@ module _ (mode : Mode) (n : ℕ) (r : CpuRegisters) where
   reads_to_change operation.Rts = placed false _ (λ p q. (refl, λ l. (refl, λ h. tt)))
 
 -- of each defined opcode, by the list of 001, 4.1
-pub just_eight_read_to_change : (o : ℕ) (e : Entry) (r : CpuRegisters) → decode_of o ≡ Defined e
+pub just_eight_read_to_change : (o : ℕ) (e : Entry) (r : CpuRegisters) → decode_of o ≡ Some e
     → ToChange (listed read_modify_write e.operation && not (is_accumulator e.mode))
     (operation_accesses e.operation e.mode e.length r)
 just_eight_read_to_change o e r d = rw (← just_eight o e d) (reads_to_change e.mode e.length r e.operation)

@@ -1,10 +1,9 @@
 -- One whole instruction and the entries by their accesses, in the order of the Programming Manual's cycles, idle ones
 -- left out (01, One clock, 4).
-use Rattle.std.specs.Prelude.{Bool, true, false, cond, ℕ, ◌+◌, None, Option, Some}
+use Rattle.std.specs.Prelude.{Bool, true, false, cond, ℕ, ◌+◌, Option, Some, None}
 use Rattle.bits.specs.Bits.{one_where, low_byte, high_byte, word16}
 use Rattle.cpu_opcodes.specs.Decode.{decode_of}
-use Rattle.cpu_opcodes.specs.declared.Decoded.{Decoded}
-use Rattle.cpu_opcodes.specs.declared.Decoded.TheVariants as decoded
+use Rattle.cpu_opcodes.specs.declared.Entry.{Entry}
 use Rattle.cpu_opcodes.specs.declared.Mode.{Mode}
 use Rattle.cpu_opcodes.specs.declared.operation.Operation.{Operation}
 use Rattle.cpu_opcodes.specs.declared.operation.Operation.TheVariants as operation
@@ -179,9 +178,9 @@ operation_accesses operation.Rts mode n r = do
   p ← located mode r
   return_accesses n (past_operand p r)
 
-abbrev pub opcode_accesses : CpuRegisters → Decoded → Accesses Ending
-opcode_accesses r decoded.Undefined = ends undefined
-opcode_accesses r (decoded.Defined e) = do
+abbrev pub opcode_accesses : CpuRegisters → Option Entry → Accesses Ending
+opcode_accesses r None = ends undefined
+opcode_accesses r (Some e) = do
   l ← operation_accesses e.operation e.mode e.length r
   ends (leaves l)
 

@@ -1,11 +1,9 @@
 -- One whole instruction as the code works it, with the answers so far: the opcode, the operand's place, its byte, the
 -- operation. What is to be believed of an instruction stands in `InstructionAccesses.antt`; this is the same, asked
 -- (`instruction_asked` of `cpu/proofs/InstructionAccesses.antt`).
-use Rattle.std.specs.Prelude.{true, false, cond, List, ℕ}
+use Rattle.std.specs.Prelude.{true, false, cond, List, ℕ, Option, Some, None}
 use Rattle.bits.specs.Bits.{word16}
 use Rattle.cpu_opcodes.specs.Decode.{decode_of}
-use Rattle.cpu_opcodes.specs.declared.Decoded.{Decoded}
-use Rattle.cpu_opcodes.specs.declared.Decoded.TheVariants as decoded
 use Rattle.cpu_opcodes.specs.declared.Entry.{Entry}
 use Rattle.cpu_access.specs.declared.Bus.{Bus}
 use Rattle.cpu_access.specs.declared.Got.{Got}
@@ -88,9 +86,9 @@ execute_of answers memory e r b =
     cond (is_jsr (access_of e.operation)) (jsr_outcome answers memory r e.length b)
     (outcome_of no_writes (carried_out answers memory e r b))
 
-abbrev pub decoded_to : List ℕ → List ℕ → CpuRegisters → Bus → Decoded → Outcome
-decoded_to answers memory r b decoded.Undefined = Stopped undefined_stop
-decoded_to answers memory r b (decoded.Defined e) = execute_of answers memory e r b
+abbrev pub decoded_to : List ℕ → List ℕ → CpuRegisters → Bus → Option Entry → Outcome
+decoded_to answers memory r b None = Stopped undefined_stop
+decoded_to answers memory r b (Some e) = execute_of answers memory e r b
 
 -- an opcode that has to be asked for is no opcode yet
 abbrev pub opcode_fetched : List ℕ → List ℕ → CpuRegisters → Fetched → Outcome

@@ -3,7 +3,6 @@
 #![tactic(auto)]
 
 ghost use Rattle.std.specs.Prelude.{◌≡◌, ◌≤◌};
-ghost use Rattle.cpu_opcodes.specs.TableInCode.{opcode_table};
 ghost use Rattle.cpu_operations.specs.Operations.{access_of};
 ghost use Rattle.cpu.specs.InstructionInCode.{ask_with, outcome_of, operand_byte, operand_of, carried_out};
 ghost use Rattle.cpu.specs.InstructionInCode.{writes_asked};
@@ -14,7 +13,7 @@ use cpu_access::{Bus, CpuRegisters, Got};
 use cpu_effects::{Executed, Operand, Worked, Writing, effects};
 use cpu_kinds::updates;
 use cpu_modes::Place;
-use cpu_opcodes::{Decoded, Entry};
+use cpu_opcodes::Entry;
 use cpu_operations::Access;
 
 pub mod entries; // entries.rt: reset, NMI and IRQ
@@ -164,14 +163,8 @@ fn execute(
     )
 }
 
-// One instruction. `entries` is what `cpu_opcodes::opcode_table` gave.
-pub fn instruction(
-    registers: CpuRegisters,
-    answers: &[u8],
-    memory: &[u8],
-    entries: &[u16],
-) -> Outcome
-    requires { entries.now ≡ opcode_table }
+// One instruction.
+pub fn instruction(registers: CpuRegisters, answers: &[u8], memory: &[u8]) -> Outcome
     ensures { result ≡ instruction_of registers answers.now memory.now }
 {
     let opcode = Bus::unasked().fetch(answers, memory, registers.pc);
@@ -179,8 +172,7 @@ pub fn instruction(
     if bus.missing {
         return Outcome::Asked(ask_with(no_writes(), bus));
     }
-    let decoded = cpu_opcodes::decode_in(entries, opcode.value);
-    let Decoded::Defined(entry) = decoded else {
+    let Some(entry) = cpu_opcodes::decode(opcode.value) else {
         return Outcome::Stopped(UNDEFINED);
     };
     execute(

@@ -8,10 +8,10 @@ use native.Mathlib.Nat.{add-zero}
 use native.Mathlib.Omega.{arith}
 use lib.Dec.{ltb}
 use borrow.Author.Tests.{ltb-false}
+use Rattle.std.specs.Prelude.{Some}
 use Rattle.memory.specs.Memory.{is_register}
 use Rattle.cpu_opcodes.specs.Decode.{decode_of}
 use Rattle.cpu_opcodes.specs.declared.Entry.{Entry}
-use Rattle.cpu_opcodes.specs.declared.Decoded.TheVariants as decoded
 use Rattle.cpu_opcodes.specs.declared.Mode.{Mode}
 use Rattle.cpu_opcodes.specs.declared.Mode.TheVariants.{Implied, Accumulator, Absolute, Relative, ZeroPageRelative}
 use Rattle.cpu_opcodes.specs.declared.operation.Operation.{Operation}
@@ -66,7 +66,7 @@ entry o m n = record { operation = o; mode = m; length = n }
 
 -- a defined opcode at an address that is no register's: the instruction is what its entry executes
 pub opcode_executes : (r : CpuRegisters) (memory : List ℕ) (e : Entry) → is_register r.pc ≡ false
-    → decode_of (memory_byte memory r.pc) ≡ decoded.Defined e
+    → decode_of (memory_byte memory r.pc) ≡ Some e
     → instruction_of r [] memory ≡ execute_of [] memory e (with_pc (next_address r.pc) r) unasked
 unfolding instruction_of fetch_of read_of
 opcode_executes r memory e free d = rw (free, d) refl
@@ -89,7 +89,7 @@ module _ (halt : Option ℕ) (span : ℕ) (w : Work) (memory : List ℕ) (inside
   place_of m = locate_of [] memory m behind unasked
 
   abbrev Decodes : Operation → Mode → ℕ → Type 0
-  Decodes o m n = decode_of (memory_byte memory w.registers.pc) ≡ decoded.Defined (entry o m n)
+  Decodes o m n = decode_of (memory_byte memory w.registers.pc) ≡ Some (entry o m n)
 
   abbrev Executes : Operation → Mode → ℕ → Worked → Type 0
   Executes o m n worked = execute_of [] memory (entry o m n) behind unasked ≡ Done worked

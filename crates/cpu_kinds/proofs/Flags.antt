@@ -6,7 +6,6 @@ use Prim.Native.Nat.{ℕ}
 use lib.Dec.{eqb}
 use Rattle.bits.specs.Lists.{any_of}
 use Rattle.bits.proofs.Cond.{cond_both}
-use Rattle.cpu_opcodes.specs.TableInCode.{operation_number}
 use Rattle.cpu_opcodes.specs.declared.operation.Operation.{Operation}
 use Rattle.cpu_opcodes.specs.declared.operation.Operation.TheVariants.{Read, Modify}
 use Rattle.cpu_opcodes.specs.declared.operation.Operation.TheVariants.{Pull, Register, Flag, Brk, Rti}
@@ -29,6 +28,7 @@ use Rattle.cpu_alu.specs.declared.Status.{Status}
 use Rattle.cpu_alu.specs.declared.Computed.{Computed}
 use Rattle.cpu_access.specs.declared.CpuRegisters.{CpuRegisters}
 use Rattle.cpu_kinds.specs.Kinds.{with_read, changed_by, with_pulled, with_register, with_flag}
+use Rattle.cpu_kinds.proofs.Mnemonics.{operation_number}
 
 -- a list names an operation by its mnemonic, RMB, SMB, BBR and BBS whatever their bit
 abbrev pub listed : List Operation → Operation → Bool

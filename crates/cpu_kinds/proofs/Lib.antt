@@ -1,2 +1,3 @@
+pub mod Mnemonics
 pub mod Flags
 pub mod Bytes

@@ -4,6 +4,7 @@ use mathlib.Core.Path.{◌≡◌, refl}
 use mathlib.Core.Bool.{Bool, true, cond, ◌&&◌}
 use mathlib.Core.List.{List, [], ◌∷◌}
 use Prim.Native.Nat.{ℕ, ◌+◌, ◌<◌, ◌≤◌}
+use Rattle.std.specs.Prelude.{Option, Some, None}
 use lib.Dec.{T, leb, eqb, leb→le, eqb→eq}
 use lib.ListN.{length}
 use Rattle.bits.specs.Lists.{all_of, tabulate}
@@ -11,8 +12,6 @@ use Rattle.bits.proofs.Cond.{cond_both, both_left, both_right}
 use Rattle.bits.proofs.Tables.{below}
 use Rattle.cpu_opcodes.specs.InstructionSet.{Row, rows}
 use Rattle.cpu_opcodes.specs.Decode.{look_up, decode_of, defined, count_defined}
-use Rattle.cpu_opcodes.specs.declared.Decoded.{Decoded}
-use Rattle.cpu_opcodes.specs.declared.Decoded.TheVariants.{Undefined, Defined}
 use Rattle.cpu_opcodes.specs.declared.Entry.{Entry}
 
 -- P8: "183 opcodes are defined"
@@ -38,15 +37,15 @@ pub rows_183 : length rows ≡ 183
 rows_183 = refl
 
 -- a test that each row's entry passes is passed by whatever is looked up
-abbrev pub passes : (Entry → Bool) → Decoded → Bool
-passes p Undefined = true
-passes p (Defined e) = p e
+abbrev pub passes : (Entry → Bool) → Option Entry → Bool
+passes p None = true
+passes p (Some e) = p e
 
 pub looked_up : (p : Entry → Bool) (o : ℕ) (rs : List Row) → T (all_of (λ r. p r.entry) rs)
     → T (passes p (look_up o rs))
 looked_up p o [] t = tt
 looked_up p o (r ∷ rs) t =
-    cond_both (λ d. T (passes p d)) (eqb o r.opcode) (Defined r.entry) (look_up o rs)
+    cond_both (λ d. T (passes p d)) (eqb o r.opcode) (Some r.entry) (look_up o rs)
     (λ h. both_left (p r.entry) _ t)
     (λ h. looked_up p o rs (both_right (p r.entry) _ t))
 
@@ -58,7 +57,7 @@ pub record LengthFits (e : Entry) : Type 0 where
 length_fits : Entry → Bool
 length_fits e = leb 2 e.length && leb e.length 7
 
-pub length_fits_lem : (o : ℕ) (e : Entry) → decode_of o ≡ Defined e → LengthFits e
+pub length_fits_lem : (o : ℕ) (e : Entry) → decode_of o ≡ Some e → LengthFits e
 unfolding decode_of length_fits
 length_fits_lem o e h =
     let t : T (length_fits e) = rw h at (looked_up length_fits o rows tt) in

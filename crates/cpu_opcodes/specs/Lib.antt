@@ -1,3 +1,2 @@
 pub mod InstructionSet
 pub mod Decode
-pub mod TableInCode

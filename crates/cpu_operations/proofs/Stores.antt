@@ -4,10 +4,10 @@ use mathlib.Core.Bool.{Bool, true, false, not, beq, false≢true}
 use mathlib.Core.List.{List, [], ◌∷◌}
 use Prim.Native.Nat.{ℕ}
 use lib.Dec.{T}
+use Rattle.std.specs.Prelude.{Some}
 use Rattle.bits.proofs.Cond.{equal}
 use Rattle.cpu_opcodes.specs.InstructionSet.{rows}
 use Rattle.cpu_opcodes.specs.Decode.{decode_of}
-use Rattle.cpu_opcodes.specs.declared.Decoded.TheVariants.{Defined}
 use Rattle.cpu_opcodes.specs.declared.Entry.{Entry}
 use Rattle.cpu_opcodes.proofs.Laws.{looked_up}
 use Rattle.cpu_opcodes.specs.declared.operation.Operation.{Operation}
@@ -47,7 +47,7 @@ eight_modify : Entry → Bool
 eight_modify e = beq (modifies (access_of e.operation)) (listed read_modify_write e.operation)
 
 -- of all instructions just these eight read a byte to change it, and so a port's latch
-pub just_eight : (o : ℕ) (e : Entry) → decode_of o ≡ Defined e
+pub just_eight : (o : ℕ) (e : Entry) → decode_of o ≡ Some e
     → modifies (access_of e.operation) ≡ listed read_modify_write e.operation
 unfolding decode_of eight_modify
 just_eight o e h =

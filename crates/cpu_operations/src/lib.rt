@@ -30,33 +30,17 @@ pub fn access_of(operation: Operation) -> Access
     ensures { result ≡ access_of operation }
 {
     match operation {
-        Operation::Read(_) => Access::Read,
+        Operation::Read(_) | Operation::BitBranch(_) => Access::Read,
         Operation::Modify(_) => Access::Modify,
-        Operation::Store(_) => Access::Nothing,
-        Operation::Branch(_) => Access::Nothing,
-        Operation::BitBranch(_) => Access::Read,
-        Operation::Push(_) => Access::Nothing,
-        Operation::Pull(_) => Access::Nothing,
-        Operation::Register(_) => Access::Nothing,
-        Operation::Flag(_) => Access::Nothing,
-        Operation::Brk => Access::Nothing,
-        Operation::Jmp => Access::Nothing,
         Operation::Jsr => Access::Jsr,
-        Operation::Nop => Access::Nothing,
-        Operation::Rti => Access::Nothing,
-        Operation::Rts => Access::Nothing,
+        _ => Access::Nothing,
     }
 }
 
 pub fn is_jsr(access: Access) -> bool
     ensures { result ≡ is_jsr access }
 {
-    match access {
-        Access::Nothing => false,
-        Access::Read => false,
-        Access::Modify => false,
-        Access::Jsr => true,
-    }
+    matches!(access, Access::Jsr)
 }
 
 // The operation itself. `r` has PC behind the operand bytes; JSR does not come here.
@@ -86,8 +70,7 @@ pub fn operate(
         Operation::Flag(flag) => completed(o, with_status(r, with_flag(flag, status))),
         Operation::Brk => break_taken(memory, o, r),
         Operation::Jmp => jumped(o, r),
-        Operation::Jsr => completed(o, r),
-        Operation::Nop => completed(o, r),
+        Operation::Jsr | Operation::Nop => completed(o, r),
         Operation::Rti => returned_from_interrupt(answers, memory, o, r),
         Operation::Rts => returned(answers, memory, o, r),
     }

@@ -7,7 +7,6 @@ ghost use Rattle.page_sums.specs.PageSums.{sums_after};
 ghost use Rattle.pin_lists.specs.PinLists.{input_count};
 ghost use Rattle.refusals.specs.Refusals.{last_clock};
 ghost use Rattle.leaps.specs.World.{put_record};
-ghost use Rattle.cpu_opcodes.specs.TableInCode.{opcode_table};
 ghost use Rattle.memory_writes.specs.Commit.{committed};
 ghost use Rattle.r6501q_clock.specs.Clock.{clock_of};
 ghost use Rattle.r6501q_chip.specs.R6501q.{stop_after, plain};
@@ -57,22 +56,14 @@ fn input_count_from(inputclocks: &[u32], from: usize, clock: u32) -> usize
 }
 
 // What the next clock comes to, which has `inputs` inputs.
-fn outcome_from(
-    p: Progress,
-    inputs: usize,
-    memory: &[u8],
-    inputcodes: &[u8],
-    free: bool,
-    entries: &[u16],
-) -> Clocked
-    requires clock_lt_last_clock { (p.state.clock < last_clock) × (p.read + inputs ≤ length inputcodes.now) }
-    requires entries_value { entries.now ≡ opcode_table }
+fn outcome_from(p: Progress, inputs: usize, memory: &[u8], inputcodes: &[u8], free: bool) -> Clocked
+    requires { (p.state.clock < last_clock) × (p.read + inputs ≤ length inputcodes.now) }
     ensures { result ≡ clock_of p.state (take inputs (drop p.read inputcodes.now))
         memory.now free }
 {
     let from = p.read;
     let upto = from + inputs;
-    r6501q_clock::clock(p.state, &inputcodes[from..upto], memory, free, entries)
+    r6501q_clock::clock(p.state, &inputcodes[from..upto], memory, free)
 }
 
 // The stop that a clock with these writes ends in, or 0.
@@ -141,18 +132,16 @@ pub fn advance(
     inputcodes: &[u8],
     outputclocks: &mut [u32],
     outputwords: &mut [u32],
-    entries: &[u16],
     halt: Option<u16>,
 ) -> Progress
-    requires going { Going p inputclocks.now inputcodes.now outputclocks.old outputwords.old }
-    requires entries_value { entries.now ≡ opcode_table }
+    requires { Going p inputclocks.now inputcodes.now outputclocks.old outputwords.old }
     ensures outputwords_value { world_at_exit result memory inputclocks inputcodes outputclocks outputwords
         ≡ plain halt (world_at_entry p memory inputclocks inputcodes outputclocks outputwords) }
     ensures sums_after { sums.new ≡ sums_after sums.old memory.old memory.new }
 {
     let inputs = input_count_from(inputclocks, p.read, p.state.clock + 1);
     let free = p.written < outputclocks.len();
-    let clocked = outcome_from(p, inputs, memory, inputcodes, free, entries);
+    let clocked = outcome_from(p, inputs, memory, inputcodes, free);
     match clocked {
         Clocked::Stopped(number) => stop_at(number, p),
         Clocked::Done(ended) => complete(

@@ -8,10 +8,9 @@ use Prim.Native.Nat.{ℕ}
 use lib.Dec.{ltb, eqb}
 use lib.ListN.{length, take}
 use borrow.Author.Tests.{eq-eqb}
+use Rattle.std.specs.Prelude.{Option, Some, None}
 use Rattle.bits.proofs.Cond.{cond_yes, cond_both}
 use Rattle.cpu_access.specs.Halt.{halts}
-use Rattle.cpu_opcodes.specs.declared.Decoded.{Decoded}
-use Rattle.cpu_opcodes.specs.declared.Decoded.TheVariants as decoded
 use Rattle.cpu_opcodes.specs.declared.Entry.{Entry}
 use Rattle.cpu_opcodes.specs.Decode.{decode_of}
 use Rattle.leaps.specs.World.{after, input_count_in, running_in, plain_of}
@@ -25,9 +24,9 @@ use Rattle.r6501q_cpu.proofs.Undefined.{undefined_opcode, defined_opcode}
 use Rattle.r6501q_clock.specs.Clock.{halt_stop, before_cpu, finished, recorded, clock_of}
 use Rattle.r6501q_chip.specs.R6501q.{World, clock_outcome, r6501q, plain}
 
-abbrev pub is_undefined : Decoded → Bool
-is_undefined decoded.Undefined = true
-is_undefined (decoded.Defined e) = false
+abbrev pub is_undefined : Option Entry → Bool
+is_undefined None = true
+is_undefined (Some e) = false
 
 -- of a state after steps 1 to 3: RES is high, wait 0, neither reset nor NMI due, no IRQ, and the opcode at PC is
 -- undefined
@@ -44,15 +43,15 @@ instruction_undefined : (s : State) (memory : List ℕ)
     → stops_with_six (whole_instruction s memory) ≡ is_undefined (decode_of (opcode_at s memory))
 instruction_undefined s memory = by_opcode (decode_of (opcode_at s memory)) refl
   where
-    done : (e : Entry) → decode_of (opcode_at s memory) ≡ decoded.Defined e → (p : Processed)
+    done : (e : Entry) → decode_of (opcode_at s memory) ≡ Some e → (p : Processed)
         → whole_instruction s memory ≡ p → stops_with_six p ≡ false
     done e d (processed.Stopped number) u = absurd (defined_opcode s memory e number d u)
     done e d (processed.Done n) u = refl
 
-    by_opcode : (d : Decoded) → decode_of (opcode_at s memory) ≡ d
+    by_opcode : (d : Option Entry) → decode_of (opcode_at s memory) ≡ d
         → stops_with_six (whole_instruction s memory) ≡ is_undefined d
-    by_opcode decoded.Undefined d = ap stops_with_six (undefined_opcode s memory d)
-    by_opcode (decoded.Defined e) d = done e d (whole_instruction s memory) refl
+    by_opcode None d = ap stops_with_six (undefined_opcode s memory d)
+    by_opcode (Some e) d = done e d (whole_instruction s memory) refl
 
 -- a clock after the first is done
 waited_done : (s : State) (v : Option Write) → stops_with_six (waited_by s v) ≡ false

@@ -3,7 +3,6 @@
 #![tactic(auto)]
 
 ghost use Rattle.std.specs.Prelude.{◌≡◌, ◌<◌};
-ghost use Rattle.cpu_opcodes.specs.TableInCode.{opcode_table};
 ghost use Rattle.refusals.specs.Refusals.{last_clock};
 ghost use Rattle.r6501q_clock.specs.Clock.{with_inputs, count_a, count_b, sent_by, heard_by, peripherals_clock};
 ghost use Rattle.r6501q_clock.specs.Clock.{before_cpu};
@@ -174,13 +173,12 @@ fn finish(next: Next, word: u32, differs: bool, free: bool) -> Clocked
 }
 
 // Steps 1 to 5 of a clock, given the codes of its inputs and whether an output entry is free.
-pub fn clock(s: State, codes: &[u8], memory: &[u8], free: bool, entries: &[u16]) -> Clocked
-    requires clock_lt_last_clock { s.clock < last_clock }
-    requires entries_value { entries.now ≡ opcode_table }
+pub fn clock(s: State, codes: &[u8], memory: &[u8], free: bool) -> Clocked
+    requires { s.clock < last_clock }
     ensures { result ≡ clock_of s codes.now memory.now free }
 {
     let before = s.peripherals.driven_word();
-    let processed = r6501q_process::process(before_cpu(s, codes), memory, entries);
+    let processed = r6501q_process::process(before_cpu(s, codes), memory);
     match processed {
         Processed::Stopped(number) => Clocked::Stopped(number),
         Processed::Done(next) => {

@@ -8,10 +8,9 @@ use Prim.Native.Nat.{ℕ, ◌-◌, ◌≤◌, ◌<◌}
 use native.Mathlib.Omega.{arith}
 use lib.Dec.{ltb, eqb}
 use borrow.Author.Tests.{lt-ltb, le-ltb, eq-eqb}
+use Rattle.std.specs.Prelude.{Option, Some}
 use Rattle.bits.proofs.Cond.{cond_yes, cond_no}
 use Rattle.cpu_opcodes.specs.Decode.{decode_of}
-use Rattle.cpu_opcodes.specs.declared.Decoded.{Decoded}
-use Rattle.cpu_opcodes.specs.declared.Decoded.TheVariants as decoded
 use Rattle.cpu_opcodes.specs.declared.Entry.{Entry}
 use Rattle.cpu_alu.specs.Status.{unpacked}
 use Rattle.cpu_alu.specs.declared.Status.{Status}
@@ -68,7 +67,7 @@ accesses_after : (s : State) (memory : List ℕ)
 unfolding instruction_accesses performed value_read byte_after opcode_at
 accesses_after s memory = refl
 
-pub instruction_begun : (s : State) (memory : List ℕ) (e : Entry) → decode_of (opcode_at s memory) ≡ decoded.Defined e
+pub instruction_begun : (s : State) (memory : List ℕ) (e : Entry) → decode_of (opcode_at s memory) ≡ Some e
     → Begun s memory e (whole_instruction s memory)
 unfolding in_order
 instruction_begun s memory e d =
@@ -76,7 +75,7 @@ instruction_begun s memory e d =
     let p = peripherals_read file s.peripherals s.cpu.pc in
     let r = with_pc (next_address s.cpu.pc) (registers_of s.cpu) in
     let t = operation_accesses e.operation e.mode e.length r in
-    let whole = opcode_accesses r (decoded.Defined e) in
+    let whole = opcode_accesses r (Some e) in
     let x : Performed Peripherals Ending = performed file memory p [] whole in
     let concluding : Concluding e r.status x.writes x.end =
     performed_ends file memory (Concluding e r.status) p [] whole
@@ -95,7 +94,7 @@ instruction_begun s memory e d =
       conclusion = l;
       ended =
           ap (λ (y : Performed Peripherals Ending). y.end)
-          (accesses_after s memory ∙ ap (λ (y : Decoded). performed file memory p [] (opcode_accesses r y)) d)
+          (accesses_after s memory ∙ ap (λ (y : Option Entry). performed file memory p [] (opcode_accesses r y)) d)
           ∙ concluding.is;
       cpu = refl;
       flags = c.flags;

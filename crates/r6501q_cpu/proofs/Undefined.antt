@@ -5,10 +5,9 @@ use mathlib.Core.Path.{◌≡◌, refl, sym, ap, subst, ◌∙◌}
 use mathlib.Core.List.{List, []}
 use Prim.Native.Nat.{ℕ}
 use lib.Dec.{ltb, eqb}
+use Rattle.std.specs.Prelude.{Option, Some, None}
 use Rattle.bits.proofs.Cond.{cond_both}
 use Rattle.cpu_opcodes.specs.Decode.{decode_of}
-use Rattle.cpu_opcodes.specs.declared.Decoded.{Decoded}
-use Rattle.cpu_opcodes.specs.declared.Decoded.TheVariants as decoded
 use Rattle.cpu_opcodes.specs.declared.Entry.{Entry}
 use Rattle.r6501q_state.specs.declared.state.Peripherals.{Peripherals}
 use Rattle.r6501q_state.specs.declared.state.State.{State}
@@ -26,7 +25,7 @@ use Rattle.r6501q_cpu.specs.Processor.{registers_of, register_file, performed_in
 use Rattle.r6501q_cpu.specs.Processor.{whole_instruction, opcode_at, irq_due, start_of, waited_by, processor_of}
 
 -- an instruction after its opcode
-abbrev pub decoded_by : State → List ℕ → Decoded → Processed
+abbrev pub decoded_by : State → List ℕ → Option Entry → Processed
 decoded_by s memory d =
     processed_after s (performed (register_file s.last.ports) memory
     (peripherals_read (register_file s.last.ports) s.peripherals s.cpu.pc) []
@@ -39,7 +38,7 @@ unfolding whole_instruction instruction_accesses performed value_read byte_after
 by_opcode s memory = refl
 
 -- an instruction whose opcode is undefined is undefined
-pub undefined_opcode : (s : State) (memory : List ℕ) → decode_of (opcode_at s memory) ≡ decoded.Undefined
+pub undefined_opcode : (s : State) (memory : List ℕ) → decode_of (opcode_at s memory) ≡ None
     → whole_instruction s memory ≡ Stopped undefined_stop
 unfolding performed
 undefined_opcode s memory e = by_opcode s memory ∙ ap (decoded_by s memory) e
@@ -65,13 +64,13 @@ concluded s p pushes x l e = rw e tt
 
 -- an instruction whose opcode is defined is not undefined
 pub defined_opcode :
-    (s : State) (memory : List ℕ) (e : Entry) (number : ℕ) → decode_of (opcode_at s memory) ≡ decoded.Defined e
+    (s : State) (memory : List ℕ) (e : Entry) (number : ℕ) → decode_of (opcode_at s memory) ≡ Some e
     → whole_instruction s memory ≡ Stopped number → ⊥
 defined_opcode s memory e number defined same =
     let file = register_file s.last.ports in
     let t =
     operation_accesses e.operation e.mode e.length (with_pc (next_address s.cpu.pc) (registers_of s.cpu)) in
-    let done : Concluded (decoded_by s memory (decoded.Defined e)) =
+    let done : Concluded (decoded_by s memory (Some e)) =
     concluded s _ _ _ _ (ends_leaving file memory t (peripherals_read file s.peripherals s.cpu.pc) []) in
     subst Concluded (sym (ap (decoded_by s memory) defined) ∙ sym (by_opcode s memory) ∙ same) done
 

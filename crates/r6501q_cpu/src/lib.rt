@@ -3,7 +3,6 @@
 #![tactic(auto)]
 
 ghost use Rattle.std.specs.Prelude.{◌≡◌, true, []};
-ghost use Rattle.cpu_opcodes.specs.TableInCode.{opcode_table};
 ghost use Rattle.r6501q_cpu.specs.Processor.{registers_of, cpu_of};
 ghost use Rattle.r6501q_cpu.specs.Asking.{put_register, registers_after, answer_of, next_of, round_of};
 ghost use Rattle.r6501q_cpu.specs.Asking.{instruction_from};
@@ -131,11 +130,10 @@ pub fn next_state(s: State, due: Due, p: Peripherals, w: Worked) -> Next
 }
 
 // An instruction worked with the answers so far.
-fn one_round(s: State, p: Peripherals, answers: &[u8], memory: &[u8], entries: &[u16]) -> Round
-    requires { entries.now ≡ opcode_table }
+fn one_round(s: State, p: Peripherals, answers: &[u8], memory: &[u8]) -> Round
     ensures { result ≡ round_of s p answers.now memory.now }
 {
-    let outcome = instruction(registers_of(s.cpu), answers, memory, entries);
+    let outcome = instruction(registers_of(s.cpu), answers, memory);
     match outcome {
         Outcome::Stopped(number) => Round::Over(Processed::Stopped(number)),
         Outcome::Asked(ask) => Round::Answered(answer(p, s.last.ports, ask)),
@@ -144,15 +142,14 @@ fn one_round(s: State, p: Peripherals, answers: &[u8], memory: &[u8], entries: &
 }
 
 // One whole instruction: each question is answered in turn.
-pub fn answered_instruction(s: State, memory: &[u8], entries: &[u16]) -> Processed
-    requires { entries.now ≡ opcode_table }
+pub fn answered_instruction(s: State, memory: &[u8]) -> Processed
     ensures { result ≡ answered_instruction s memory.now }
 {
     let mut answers = [0u8; ANSWERS];
     let mut peripherals = s.peripherals;
     let mut count = 0;
     while count < ANSWERS {
-        let round = one_round(s, peripherals, &answers[..count], memory, entries);
+        let round = one_round(s, peripherals, &answers[..count], memory);
         match round {
             Round::Over(processed) => {
                 return processed;

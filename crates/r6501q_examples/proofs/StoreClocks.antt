@@ -6,10 +6,10 @@ use mathlib.Core.Bool.{Bool, true, false, ◌&&◌, not, cond}
 use Prim.Native.Nat.{ℕ, ◌+◌, ◌<◌}
 use lib.Dec.{ltb, eqb}
 use lib.ListN.{length, take}
+use Rattle.std.specs.Prelude.{Some}
 use Rattle.bits.proofs.Cond.{cond_map}
 use Rattle.pin_lists.specs.PinLists.{input_count}
 use Rattle.cpu_opcodes.specs.Decode.{decode_of}
-use Rattle.cpu_opcodes.specs.declared.Decoded.TheVariants.{Defined}
 use Rattle.cpu_opcodes.specs.declared.Entry.{Entry}
 use Rattle.cpu_access.specs.declared.stack.Write.{Write}
 use Rattle.cpu_access.specs.declared.stack.Writes.{Writes}
@@ -59,7 +59,7 @@ module _ (w : World) where
   -- "A store's start": its row is e
   pub start_untold : (e : Entry) → (ready_in w).last.res ≡ true → (ready_in w).cpu.wait ≡ 0
       → (ready_in w).due.reset ≡ false → (ready_in w).due.nmi ≡ false
-      → irq_due (ready_in w) ≡ false → decode_of (opcode_at (ready_in w) w.memory) ≡ Defined e → stores_of e ≡ true
+      → irq_due (ready_in w) ≡ false → decode_of (opcode_at (ready_in w) w.memory) ≡ Some e → stores_of e ≡ true
       → told_by (clock_in w) ≡ no_writes
   start_untold e high over reset nmi irq d store =
       let begun = instruction_begun (ready_in w) w.memory e d in

@@ -4,7 +4,6 @@
 ghost use Rattle.std.specs.Prelude.{◌≡◌, ◌+◌, ◌-◌, ◌≤◌, ◌<◌, length, drop};
 ghost use Rattle.page_sums.specs.PageSums.{sums_after};
 ghost use Rattle.leaps.specs.Leaps.{leap_of, left_after};
-ghost use Rattle.cpu_opcodes.specs.TableInCode.{opcode_table};
 ghost use Rattle.r6501q_events.specs.Gaps.{gap_of, clocks_of};
 ghost use Rattle.r6501q_chip.specs.R6501q.{system};
 ghost use Rattle.r6501q_advance.specs.World.{world_at_entry, world_at_exit};
@@ -67,13 +66,11 @@ fn leap(
     inputcodes: &[u8],
     outputclocks: &mut [u32],
     outputwords: &mut [u32],
-    entries: &[u16],
     halt: Option<u16>,
 ) -> Progress
     requires leaping { Leaping p left.0 inputclocks.now inputcodes.now outputclocks.old outputwords.old }
     requires stop_value { p.stop ≡ 0 }
     requires gap_value { gap ≡ gap_of left.0 p.state (drop p.read inputclocks.now) }
-    requires entries_value { entries.now ≡ opcode_table }
     ensures outputwords_value { world_at_exit result memory inputclocks inputcodes outputclocks outputwords
         ≡ leap_of (system halt) left.0 (world_at_entry p memory inputclocks inputcodes outputclocks outputwords) }
     ensures sums_after { sums.new ≡ sums_after sums.old memory.old memory.new }
@@ -88,7 +85,6 @@ fn leap(
             inputcodes,
             outputclocks,
             outputwords,
-            entries,
             halt,
         );
     }
@@ -104,14 +100,12 @@ pub fn leap_once(
     inputcodes: &[u8],
     outputclocks: &mut [u32],
     outputwords: &mut [u32],
-    entries: &[u16],
     halt: Option<u16>,
 ) -> Leaped
     requires leaping { Leaping at.progress at.left.0 inputclocks.now inputcodes.now outputclocks.old
         outputwords.old }
     requires left_nonzero { (0 < at.left.0) × (at.progress.stop ≡ 0) }
     requires left_bound { at.leaps + at.left.0 ≤ 4294967295 }
-    requires entries_value { entries.now ≡ opcode_table }
     ensures outputwords_value { world_at_exit result.progress memory inputclocks inputcodes outputclocks outputwords
         ≡ leap_of (system halt) at.left.0
         (world_at_entry at.progress memory inputclocks inputcodes outputclocks outputwords) }
@@ -134,7 +128,6 @@ pub fn leap_once(
         inputcodes,
         outputclocks,
         outputwords,
-        entries,
         halt,
     );
     let moved = leaps_from(p.state.clock, q.state.clock);

@@ -2,7 +2,6 @@
 #![tactic(auto)]
 
 ghost use Rattle.std.specs.Prelude.{◌≡◌, ◌<◌};
-ghost use Rattle.cpu_opcodes.specs.TableInCode.{opcode_table};
 ghost use Rattle.r6501q_cpu.specs.Processor.{irq_due, reset_start, nmi_start, irq_start, start_of, without_writes, wait_less};
 ghost use Rattle.r6501q_cpu.specs.Processor.{byte_put, waited_by, processor_of};
 
@@ -52,8 +51,7 @@ fn start_irq(s: State, memory: &[u8]) -> Next
 }
 
 // What starts: an entry that is due, or one whole instruction.
-fn start(s: State, memory: &[u8], entries: &[u16]) -> Processed
-    requires { entries.now ≡ opcode_table }
+fn start(s: State, memory: &[u8]) -> Processed
     ensures { result ≡ start_of s memory.now }
 {
     if s.due.reset {
@@ -65,7 +63,7 @@ fn start(s: State, memory: &[u8], entries: &[u16]) -> Processed
     if irq_due(s) {
         return Processed::Done(start_irq(s, memory));
     }
-    answered_instruction(s, memory, entries)
+    answered_instruction(s, memory)
 }
 
 // Nothing is written.
@@ -117,16 +115,15 @@ fn wait_on(s: State) -> Processed
     }
 }
 
-// The CPU's part of a clock. `entries` is what `cpu_opcodes::opcode_table` gave.
-pub fn process(s: State, memory: &[u8], entries: &[u16]) -> Processed
-    requires { entries.now ≡ opcode_table }
+// The CPU's part of a clock.
+pub fn process(s: State, memory: &[u8]) -> Processed
     ensures { result ≡ processor_of s memory.now }
 {
     if s.last.res {
         if 0 < s.cpu.wait {
             return wait_on(s);
         }
-        return start(s, memory, entries);
+        return start(s, memory);
     }
     without_writes(s)
 }

@@ -6,7 +6,6 @@ ghost use Rattle.page_sums.specs.PageSums.{sums_after};
 ghost use Rattle.leaps.specs.CallLists.{run_of, plain_run_of};
 ghost use Rattle.leaps.specs.Lent.{at_entry};
 ghost use Rattle.leaps.specs.Summed.{with_sums};
-ghost use Rattle.cpu_opcodes.specs.TableInCode.{opcode_table};
 ghost use Rattle.r6501q_chip.specs.R6501q.{machine};
 ghost use Rattle.r6501q_step.specs.Calls.{at_exit};
 ghost use Rattle.r6501q_leap.specs.RunInCode.{goes_on, run_from, run_ended, begin_run, Leaping};
@@ -35,13 +34,11 @@ fn leap_on(
     inputcodes: &[u8],
     outputclocks: &mut [u32],
     outputwords: &mut [u32],
-    entries: &[u16],
     halt: Option<u16>,
 ) -> Leaped
     requires leaping { Leaping start.progress start.left.0 inputclocks.now inputcodes.now outputclocks.old
         outputwords.old }
     requires left_bound { start.leaps + start.left.0 ≤ 4294967295 }
-    requires entries_value { entries.now ≡ opcode_table }
     ensures outputwords_after { run_ended result memory.new inputclocks.now inputcodes.now
         outputclocks.new outputwords.new
         ≡ run_from halt start memory.old inputclocks.now inputcodes.now
@@ -60,14 +57,13 @@ fn leap_on(
             codes,
             outputclocks,
             outputwords,
-            entries,
             halt,
         );
         let from = at.progress.read;
         clocks = &clocks[from..];
         codes = &codes[from..];
         at.progress.read = 0;
-        at = leap_span(at, memory, sums, clocks, entries, halt);
+        at = leap_span(at, memory, sums, clocks, halt);
     }
     let read = inputclocks.len() - clocks.len() + at.progress.read;
     at.progress.read = read;
@@ -115,7 +111,6 @@ fn run_into(
     if number != 0 {
         return refused(number, state);
     }
-    let entries = cpu_opcodes::opcode_table();
     let end = leap_on(
         begin_run(state, n),
         memory,
@@ -124,7 +119,6 @@ fn run_into(
         inputcodes,
         outputclocks,
         outputwords,
-        &entries,
         halt,
     );
     result_of(end.leaps, end.progress)

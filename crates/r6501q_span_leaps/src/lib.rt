@@ -3,7 +3,6 @@
 
 ghost use Rattle.std.specs.Prelude.{◌≡◌, ◌+◌, ◌≤◌, ◌<◌, length};
 ghost use Rattle.page_sums.specs.PageSums.{sums_after};
-ghost use Rattle.cpu_opcodes.specs.TableInCode.{opcode_table};
 ghost use Rattle.cpu.specs.Work.{WithinSpan};
 ghost use Rattle.r6501q_span_leaps.specs.Spanned.{Spanned};
 ghost use Rattle.r6501q_span_leaps.specs.Ticked.{SpanBegun, shared_in, ticked_to, EndFits, StepsOn};
@@ -62,18 +61,16 @@ fn steps_on(
     ticking: Ticking,
     memory: &mut [u8],
     sums: &mut [u16],
-    entries: &[u16],
     halt: Option<u16>,
 ) -> Stepped
     requires within_span { WithinSpan v.work span.0 }
     requires span_bound { (span.0 ≤ 2147483647) × (0 < ticking.period) }
-    requires entries_value { entries.now ≡ opcode_table }
     ensures steps_on { StepsOn halt s span.0 ticking v memory.old result memory.new }
     ensures sums_after { sums.new ≡ sums_after sums.old memory.old memory.new }
 {
     let ran = run_working(v, span, ticking, memory, sums, halt);
     let between = ran.working;
-    let next = work_once(s, between, span, memory, sums, entries, halt);
+    let next = work_once(s, between, span, memory, sums, halt);
     Stepped {
         working: next,
         shared: ran.shared + shared_in(ticking, between, next),
@@ -109,12 +106,10 @@ fn leap_within(
     memory: &mut [u8],
     sums: &mut [u16],
     inputclocks: &[u32],
-    entries: &[u16],
     halt: Option<u16>,
 ) -> Leaped
     requires left_bound { (at.progress.state.clock + at.left.0 ≤ 4294967295) × (at.leaps + at.left.0 ≤ 4294967295) }
     requires span_begun { SpanBegun at inputclocks.now span.0 }
-    requires entries_value { entries.now ≡ opcode_table }
     ensures spanned { Spanned halt at memory.old result memory.new inputclocks.now }
     ensures sums_after { sums.new ≡ sums_after sums.old memory.old memory.new }
 {
@@ -124,7 +119,7 @@ fn leap_within(
     let mut shared = 0u32;
     let mut on = true;
     while on {
-        let stepped = steps_on(before, v, span, ticking, memory, sums, entries, halt);
+        let stepped = steps_on(before, v, span, ticking, memory, sums, halt);
         let next = stepped.working;
         on = v.work.gone.0 < next.work.gone.0;
         shared = shared + stepped.shared;
@@ -139,12 +134,10 @@ pub fn leap_span(
     memory: &mut [u8],
     sums: &mut [u16],
     inputclocks: &[u32],
-    entries: &[u16],
     halt: Option<u16>,
 ) -> Leaped
     requires left_bound { (at.progress.state.clock + at.left.0 ≤ 4294967295) × (at.leaps + at.left.0 ≤ 4294967295) }
     requires read_in_bounds { at.progress.read ≤ length inputclocks.now }
-    requires entries_value { entries.now ≡ opcode_table }
     ensures spanned { Spanned halt at memory.old result memory.new inputclocks.now }
     ensures sums_after { sums.new ≡ sums_after sums.old memory.old memory.new }
 {
@@ -152,5 +145,5 @@ pub fn leap_span(
     if span.0 == 0 {
         return at;
     }
-    leap_within(at, span, memory, sums, inputclocks, entries, halt)
+    leap_within(at, span, memory, sums, inputclocks, halt)
 }

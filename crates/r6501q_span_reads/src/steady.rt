@@ -1,7 +1,6 @@
 // Instructions of a span that read a register of the chip: answered at once where a read has no effect, and what it
 // reads as stays in the span.
 ghost use Rattle.std.specs.Prelude.{◌≡◌};
-ghost use Rattle.cpu_opcodes.specs.TableInCode.{opcode_table};
 ghost use Rattle.r6501q_span_reads.specs.Steady.{steady_at, steady_ask, answered_once, outcome_within};
 ghost use Rattle.cpu.specs.declared.Outcome.TheVariants.{Asked};
 
@@ -26,34 +25,25 @@ fn steady_ask(ask: Ask) -> bool
 }
 
 // The instruction with that question answered.
-fn answered_once(
-    s: State,
-    ask: Ask,
-    registers: CpuRegisters,
-    memory: &[u8],
-    entries: &[u16],
-) -> Outcome
-    requires { entries.now ≡ opcode_table }
+fn answered_once(s: State, ask: Ask, registers: CpuRegisters, memory: &[u8]) -> Outcome
     ensures { result ≡ answered_once s registers memory.now (Asked ask) }
 {
     if steady_ask(ask) {
         let answers = [value(s.peripherals, s.last.ports, ask.modify, ask.address)];
-        return instruction(registers, &answers, memory, entries);
+        return instruction(registers, &answers, memory);
     }
     Outcome::Asked(ask)
 }
 
-// What the next instruction comes to in a span that began with the state s. `entries` is what
-// `cpu_opcodes::opcode_table` gave.
-pub fn outcome_within(s: State, registers: CpuRegisters, memory: &[u8], entries: &[u16]) -> Outcome
-    requires { entries.now ≡ opcode_table }
+// What the next instruction comes to in a span that began with the state s.
+pub fn outcome_within(s: State, registers: CpuRegisters, memory: &[u8]) -> Outcome
     ensures { result ≡ outcome_within s registers memory.now }
 {
     let answers = [0u8; 0];
-    let outcome = instruction(registers, &answers, memory, entries);
+    let outcome = instruction(registers, &answers, memory);
     match outcome {
         Outcome::Stopped(number) => Outcome::Stopped(number),
-        Outcome::Asked(ask) => answered_once(s, ask, registers, memory, entries),
+        Outcome::Asked(ask) => answered_once(s, ask, registers, memory),
         Outcome::Done(worked) => Outcome::Done(worked),
     }
 }

@@ -3,7 +3,6 @@
 
 ghost use Rattle.std.specs.Prelude.{◌≡◌, ◌+◌, ◌≤◌};
 ghost use Rattle.page_sums.specs.PageSums.{sums_after};
-ghost use Rattle.cpu_opcodes.specs.TableInCode.{opcode_table};
 ghost use Rattle.cpu.specs.Work.{WithinSpan};
 ghost use Rattle.r6501q_span_reads.specs.Steady.{outcome_within};
 ghost use Rattle.r6501q_spans.specs.Spans.{next_working};
@@ -47,24 +46,15 @@ fn continue_work(
     }
 }
 
-// The next instruction by the outcome of its accesses one after the other. `entries` is what
-// `cpu_opcodes::opcode_table` gave.
-fn work_outcome(
-    s: State,
-    w: Work,
-    memory: &mut [u8],
-    sums: &mut [u16],
-    entries: &[u16],
-    halt: Option<u16>,
-) -> Working
-    requires wait_bound { (w.gone.0 + w.wait + 1 ≤ 4294967295) × (w.leaps + 1 ≤ 4294967295) }
-    requires entries_value { entries.now ≡ opcode_table }
+// The next instruction by the outcome of its accesses one after the other.
+fn work_outcome(s: State, w: Work, memory: &mut [u8], sums: &mut [u16], halt: Option<u16>) -> Working
+    requires { (w.gone.0 + w.wait + 1 ≤ 4294967295) × (w.leaps + 1 ≤ 4294967295) }
     ensures value { result ≡ work_by halt w (outcome_within s w.registers memory.old) }
     ensures memory_after { memory.new
         ≡ memory_by halt memory.old (outcome_within s w.registers memory.old) }
     ensures sums_after { sums.new ≡ sums_after sums.old memory.old memory.new }
 {
-    let outcome = outcome_within(s, w.registers, memory, entries);
+    let outcome = outcome_within(s, w.registers, memory);
     match outcome {
         Outcome::Stopped(_) => none_waiting(w),
         Outcome::Asked(_) => none_waiting(w),
@@ -86,19 +76,16 @@ fn begin_next(w: Work, worked: Worked) -> Working
 }
 
 // The next instruction, if it starts within the span, reads one register of the chip at most, whose value stays since
-// the span began with the state s, and pushes neither to one nor at the halt address. `entries` is what
-// `cpu_opcodes::opcode_table` gave.
+// the span began with the state s, and pushes neither to one nor at the halt address.
 fn work_instruction(
     s: State,
     w: Work,
     span: Clocks,
     memory: &mut [u8],
     sums: &mut [u16],
-    entries: &[u16],
     halt: Option<u16>,
 ) -> Working
-    requires within_span { WithinSpan w span.0 }
-    requires entries_value { entries.now ≡ opcode_table }
+    requires { WithinSpan w span.0 }
     ensures value { result ≡ work_after halt s span.0 w memory.old }
     ensures memory_after { memory.new ≡ memory_after halt s span.0 w memory.old }
     ensures sums_after { sums.new ≡ sums_after sums.old memory.old memory.new }
@@ -106,11 +93,10 @@ fn work_instruction(
     if span.0 - w.gone.0 <= w.wait as u32 {
         return none_waiting(w);
     }
-    let known = known_outcome(s, w.registers, memory, entries);
-    if known.known {
-        return begin_next(w, known.worked);
+    match known_outcome(s, w.registers, memory) {
+        Some(worked) => begin_next(w, worked),
+        None => work_outcome(s, w, memory, sums, halt),
     }
-    work_outcome(s, w, memory, sums, entries, halt)
 }
 
 // The byte that waits is put, if its clock lies within the span, and it goes neither to a register nor to the halt
@@ -143,24 +129,22 @@ fn put_within(
 }
 
 // The CPU's next step in a span: the byte that waits is put, or an instruction starts; none where neither can be done
-// in it, which began with the state s. `entries` is what `cpu_opcodes::opcode_table` gave.
+// in it, which began with the state s.
 pub fn work_once(
     s: State,
     v: Working,
     span: Clocks,
     memory: &mut [u8],
     sums: &mut [u16],
-    entries: &[u16],
     halt: Option<u16>,
 ) -> Working
-    requires within_span { WithinSpan v.work span.0 }
-    requires entries_value { entries.now ≡ opcode_table }
+    requires { WithinSpan v.work span.0 }
     ensures worked_on { WorkedOn halt s span.0 v.work v.waiting memory.old result memory.new }
     ensures sums_after { sums.new ≡ sums_after sums.old memory.old memory.new }
 {
     let work = v.work;
     match v.waiting {
-        None => work_instruction(s, work, span, memory, sums, entries, halt),
+        None => work_instruction(s, work, span, memory, sums, halt),
         Some(x) => put_within(work, x, span, memory, sums, halt),
     }
 }

@@ -140,7 +140,6 @@ fn step_into(
     if number != 0 {
         return refused(number, state);
     }
-    let entries = cpu_opcodes::opcode_table();
     let end = advance(
         begin(state),
         memory,
@@ -149,7 +148,6 @@ fn step_into(
         inputcodes,
         outputclocks,
         outputwords,
-        &entries,
         halt,
     );
     let leaps = leaps_from(state.clock, end.state.clock);

@@ -72,9 +72,8 @@ pub(crate) fn done_with(res: CallResult, clocks: u8, cpu: Cpu) -> bool
 fn clock_alone(cpu: Cpu, memory: &[u8]) -> Clocked
     ensures { result ≡ clock_of (prepared cpu) (res_high ∷ []) memory.now true }
 {
-    let entries = cpu_opcodes::opcode_table();
     let codes = [RES_HIGH; 1];
-    clock(prepared(cpu), &codes, memory, true, &entries)
+    clock(prepared(cpu), &codes, memory, true)
 }
 
 // What an instruction with this first clock writes, in order: its pushes, or the byte that waits.

@@ -1,7 +1,7 @@
 // What all groups come to.
 use crate::group::Group;
 use crate::tally::{Tally, none};
-use cpu_opcodes::{Decoded, decode};
+use cpu_opcodes::decode;
 use std::io;
 use std::num::wrapping_add_u64;
 
@@ -48,19 +48,11 @@ impl Totals {
     }
 }
 
-fn is_defined(opcode: u8) -> bool {
-    let decoded = decode(opcode);
-    match decoded {
-        Decoded::Undefined => false,
-        Decoded::Defined(_) => true,
-    }
-}
-
 // Of the opcodes that are defined, those with enough cases that agree.
 fn covered(by_opcode: &[u64; 256]) -> Tally {
     let mut tally = none();
     for opcode in 0..=255u8 {
-        if is_defined(opcode) {
+        if decode(opcode).is_some() {
             tally = tally.count(ENOUGH <= by_opcode[opcode as usize]);
         }
     }

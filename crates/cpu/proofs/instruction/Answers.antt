@@ -2,9 +2,9 @@ use mathlib.Core.Path.{◌≡◌, sym, ◌∙◌}
 use mathlib.Core.Bool.{false}
 use mathlib.Core.List.{List}
 use Prim.Native.Nat.{ℕ}
+use Rattle.std.specs.Prelude.{Option, Some, None}
 use Rattle.cpu_opcodes.specs.Decode.{decode_of}
-use Rattle.cpu_opcodes.specs.declared.Decoded.{Decoded}
-use Rattle.cpu_opcodes.specs.declared.Decoded.TheVariants.{Undefined}
+use Rattle.cpu_opcodes.specs.declared.Entry.{Entry}
 use Rattle.cpu_opcodes.proofs.Laws.{length_fits_lem}
 use Rattle.cpu_access.specs.declared.Fetched.{Fetched}
 use Rattle.cpu_access.specs.declared.CpuRegisters.{CpuRegisters}
@@ -13,7 +13,7 @@ use Rattle.cpu.specs.InstructionInCode.{opcode_fetched, decoded_to, instruction_
 use Rattle.cpu.proofs.instruction.Goals as goal
 
 -- an opcode that need not be asked for: what it decodes to decides
-opcodeFetched-as : (answers memory : List ℕ) (r : CpuRegisters) (f : Fetched) (d : Decoded) → f.bus.missing ≡ false
+opcodeFetched-as : (answers memory : List ℕ) (r : CpuRegisters) (f : Fetched) (d : Option Entry) → f.bus.missing ≡ false
     → decode_of f.value ≡ d
     → decoded_to answers memory (with_pc f.pc r) f.bus d ≡ opcode_fetched answers memory r f
 opcodeFetched-as answers memory r f d m e = rw (m, e)
@@ -37,13 +37,13 @@ returns-in_default c =
       ← c.fetch-opcode.ensures,
     )
     (opcodeFetched-as at.answers.now at.memory.now at.registers
-    c.fetch-opcode.result Undefined
+    c.fetch-opcode.result None
     c.if-bus.false
-    (sym c.decode_in-decoded.ensures ∙ c.in_default.is))
+    (sym c.decode.ensures ∙ c.in_default.is))
 
 pub execute-requires : goal.execute-requires
 execute-requires c = (length_fits_lem _ _
-    (sym c.decode_in-decoded.ensures ∙ c.in-Defined.is)).most
+    (sym c.decode.ensures ∙ c.in-Some.is)).most
 
 pub returns : goal.returns
 unfolding instruction_of
@@ -58,5 +58,5 @@ returns c =
     (opcodeFetched-as at.answers.now at.memory.now at.registers
     c.fetch-opcode.result _
     c.if-bus.false
-    (sym c.decode_in-decoded.ensures
-    ∙ c.in-Defined.is))
+    (sym c.decode.ensures
+    ∙ c.in-Some.is))

@@ -1,163 +1,7 @@
 use mathlib.Core.Path.{refl}
+use mathlib.Core.Logic.{inl, inr}
 use Rattle.cpu_operations.specs.Operations.{operate_of}
-use borrow.Author.Rules.{rules}
 use Rattle.cpu_operations.proofs.operate.Goals as goal
-
-pub enum_known-operation : goal.enum_known-operation
-unfolding operate_of
-enum_known-operation c = search rules
-
-pub with_read-requires : goal.with_read-requires
-unfolding operate_of
-with_read-requires c = search rules
-
-pub completed-requires : goal.completed-requires
-unfolding operate_of
-completed-requires c = search rules
-
-pub enum_known-operation-in-Modify-1 : goal.enum_known-operation-in-Modify-1
-unfolding operate_of
-enum_known-operation-in-Modify-1 c = search rules
-
-pub changed-requires : goal.changed-requires
-unfolding operate_of
-changed-requires c = search rules
-
-pub modified-requires : goal.modified-requires
-unfolding operate_of
-modified-requires c = search rules
-
-pub enum_known-operation-in-Store-1 : goal.enum_known-operation-in-Store-1
-unfolding operate_of
-enum_known-operation-in-Store-1 c = search rules
-
-pub byte_to_store-requires : goal.byte_to_store-requires
-unfolding operate_of
-byte_to_store-requires c = search rules
-
-pub stored-requires : goal.stored-requires
-unfolding operate_of
-stored-requires c = search rules
-
-pub enum_known-operation-in-Branch-1 : goal.enum_known-operation-in-Branch-1
-unfolding operate_of
-enum_known-operation-in-Branch-1 c = search rules
-
-pub branch_taken-requires : goal.branch_taken-requires
-unfolding operate_of
-branch_taken-requires c = search rules
-
-pub branched-requires : goal.branched-requires
-unfolding operate_of
-branched-requires c = search rules
-
-pub enum_known-operation-in-BitBranch-1 : goal.enum_known-operation-in-BitBranch-1
-unfolding operate_of
-enum_known-operation-in-BitBranch-1 c = search rules
-
-pub bit_branch_taken-requires : goal.bit_branch_taken-requires
-unfolding operate_of
-bit_branch_taken-requires c = search rules
-
-pub bit_branched-requires : goal.bit_branched-requires
-unfolding operate_of
-bit_branched-requires c = search rules
-
-pub enum_known-operation-in-Push-1 : goal.enum_known-operation-in-Push-1
-unfolding operate_of
-enum_known-operation-in-Push-1 c = search rules
-
-pub byte_to_push-requires : goal.byte_to_push-requires
-unfolding operate_of
-byte_to_push-requires c = search rules
-
-pub pushed_byte-requires : goal.pushed_byte-requires
-unfolding operate_of
-pushed_byte-requires c = search rules
-
-pub enum_known-operation-in-Pull-1 : goal.enum_known-operation-in-Pull-1
-unfolding operate_of
-enum_known-operation-in-Pull-1 c = search rules
-
-pub pulled_byte-requires : goal.pulled_byte-requires
-unfolding operate_of
-pulled_byte-requires c = search rules
-
-pub enum_known-operation-in-Register-1 : goal.enum_known-operation-in-Register-1
-unfolding operate_of
-enum_known-operation-in-Register-1 c = search rules
-
-pub with_register-requires : goal.with_register-requires
-unfolding operate_of
-with_register-requires c = search rules
-
-pub completed-requires-in-Register : goal.completed-requires-in-Register
-unfolding operate_of
-completed-requires-in-Register c = search rules
-
-pub enum_known-operation-in-Flag-1 : goal.enum_known-operation-in-Flag-1
-unfolding operate_of
-enum_known-operation-in-Flag-1 c = search rules
-
-pub with_flag-requires : goal.with_flag-requires
-unfolding operate_of
-with_flag-requires c = search rules
-
-pub with_status-requires : goal.with_status-requires
-unfolding operate_of
-with_status-requires c = search rules
-
-pub completed-requires-in-Flag : goal.completed-requires-in-Flag
-unfolding operate_of
-completed-requires-in-Flag c = search rules
-
-pub enum_told-1 : goal.enum_told-1
-unfolding operate_of
-enum_told-1 c = search rules
-
-pub break_taken-requires : goal.break_taken-requires
-unfolding operate_of
-break_taken-requires c = search rules
-
-pub enum_told-in-Jmp : goal.enum_told-in-Jmp
-unfolding operate_of
-enum_told-in-Jmp c = search rules
-
-pub jumped-requires : goal.jumped-requires
-unfolding operate_of
-jumped-requires c = search rules
-
-pub enum_told-in-Jsr : goal.enum_told-in-Jsr
-unfolding operate_of
-enum_told-in-Jsr c = search rules
-
-pub completed-requires-in-Jsr : goal.completed-requires-in-Jsr
-unfolding operate_of
-completed-requires-in-Jsr c = search rules
-
-pub enum_told-in-Nop : goal.enum_told-in-Nop
-unfolding operate_of
-enum_told-in-Nop c = search rules
-
-pub completed-requires-in-Nop : goal.completed-requires-in-Nop
-unfolding operate_of
-completed-requires-in-Nop c = search rules
-
-pub enum_told-in-Rti : goal.enum_told-in-Rti
-unfolding operate_of
-enum_told-in-Rti c = search rules
-
-pub returned_from_interrupt-requires : goal.returned_from_interrupt-requires
-unfolding operate_of
-returned_from_interrupt-requires c = search rules
-
-pub enum_told-in-Rts : goal.enum_told-in-Rts
-unfolding operate_of
-enum_told-in-Rts c = search rules
-
-pub returned-requires : goal.returned-requires
-unfolding operate_of
-returned-requires c = search rules
 
 pub returns-in-Read : goal.returns-in-Read
 unfolding operate_of
@@ -223,14 +67,6 @@ pub returns-in-Jmp : goal.returns-in-Jmp
 unfolding operate_of
 returns-in-Jmp c = rw (c.jumped.ensures, c.in-Jmp.is) refl
 
-pub returns-in-Jsr : goal.returns-in-Jsr
-unfolding operate_of
-returns-in-Jsr c = rw (c.completed-in-Jsr.ensures, c.in-Jsr.is) refl
-
-pub returns-in-Nop : goal.returns-in-Nop
-unfolding operate_of
-returns-in-Nop c = rw (c.completed-in-Nop.ensures, c.in-Nop.is) refl
-
 pub returns-in-Rti : goal.returns-in-Rti
 unfolding operate_of
 returns-in-Rti c = rw (c.returned_from_interrupt.ensures, c.in-Rti.is) refl
@@ -238,3 +74,7 @@ returns-in-Rti c = rw (c.returned_from_interrupt.ensures, c.in-Rti.is) refl
 pub returns-in-Rts : goal.returns-in-Rts
 unfolding operate_of
 returns-in-Rts c = rw (c.returned.ensures, c.in-Rts.is) refl
+
+pub returns-in-Jsr : goal.returns-in-Jsr
+unfolding operate_of
+returns-in-Jsr c = rw c.completed-in-Jsr.ensures (elim c.in-Jsr.is [ inl p ↦ rw p refl | inr q ↦ rw q refl ])

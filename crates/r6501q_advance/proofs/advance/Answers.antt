@@ -10,20 +10,16 @@ use Rattle.r6501q_advance.proofs.advance.Goals as goal
 
 pub outcome_from-clocked-requires : goal.outcome_from-clocked-requires
 outcome_from-clocked-requires c =
-    let going = c.requires.going in
+    let going = c.requires in
     let clocks = c.args.inputclocks.now in
-    let codes = c.args.inputcodes.now in record {
-      clock_lt_last_clock = (
-        going.clock,
-        rw c.input_count_from-inputs.ensures
-            (input_count_fits _ _ clocks codes going.read going.inputs),
-      );
-      entries_value = c.requires.entries_value;
-    }
+    let codes = c.args.inputcodes.now in (
+      going.clock,
+      rw c.input_count_from-inputs.ensures (input_count_fits _ _ clocks codes going.read going.inputs),
+    )
 
 pub complete-requires : goal.complete-requires
 complete-requires c =
-    let going = c.requires.going in
+    let going = c.requires in
     let clocks = c.args.inputclocks.now in
     let codes = c.args.inputcodes.now in
     let due = c.input_count_from-inputs in
@@ -40,7 +36,7 @@ returns-in-Stopped c =
     ) in
     let outcome =
     sym c.outcome_from-clocked.ensures ∙ c.in-Stopped.is in record {
-      outputwords_value = rw c.stop_at.ensures (plain_stops at.halt _ _ _ c.requires.going.stop
+      outputwords_value = rw c.stop_at.ensures (plain_stops at.halt _ _ _ c.requires.stop
           c.input_count_from-inputs.ensures _ outcome refl);
       sums_after = sums_kept 0 at.sums.now at.memory.now words;
     }
@@ -61,6 +57,6 @@ returns-in-Done c =
         ← clocks,
         ← codes,
       )
-          (plain_moves at.halt _ _ _ c.requires.going.stop due.ensures _ outcome refl);
+          (plain_moves at.halt _ _ _ c.requires.stop due.ensures _ outcome refl);
       sums_after = c.complete.ensures.sums_after;
     }

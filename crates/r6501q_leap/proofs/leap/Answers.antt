@@ -13,10 +13,8 @@ pass_progress-passed-requires c = gap_fits _ _ _ _ _ _ _ c.requires.leaping
 pub advance-requires : goal.advance-requires
 advance-requires c =
     let goes =
-    passed_goes _ _ _ _ _ _ _ c.requires.leaping c.requires.stop_value c.if-gap-left.true in record {
-      going = rw c.pass_progress-passed.ensures goes;
-      entries_value = c.requires.entries_value;
-    }
+    passed_goes _ _ _ _ _ _ _ c.requires.leaping c.requires.stop_value c.if-gap-left.true in
+    rw c.pass_progress-passed.ensures goes
 
 pub returns-then-gap-left : goal.returns-then-gap-left
 returns-then-gap-left c =

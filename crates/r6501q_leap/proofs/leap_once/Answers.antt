@@ -8,7 +8,6 @@ leap-q-requires c = record {
   leaping = c.requires.leaping;
   stop_value = c.requires.left_nonzero.1;
   gap_value = c.gap_from-gap.ensures;
-  entries_value = c.requires.entries_value;
 }
 
 pub overflow_add-result : goal.overflow_add-result

@@ -28,7 +28,6 @@ leap_once-at-requires c =
       leaping = loop.invariant.0.leaping;
       left_nonzero = (goes_some loop.at on, goes_unstopped loop.at on);
       left_bound = loop.invariant.0.bound;
-      entries_value = c.requires.entries_value;
     }
 
 -- after the leap, the lists as they were
@@ -73,8 +72,6 @@ leap_span-at-requires c =
     let rest = handed_on _ _ _ _ _ _ _ (went (goal.at.leap_span-at-requires c).After-leap_once-at).0 in record {
       left_bound = (rest.leaping.clock, rest.bound);
       read_in_bounds = rest.leaping.read;
-      entries_value =
-          c.requires.entries_value;
     }
 
 pub loop-codes-smaller : goal.loop-codes-smaller

@@ -32,7 +32,6 @@ leap_on-end-requires c =
           at.outputclocks.now at.outputwords.now good;
       left_bound = begins_bound at.state at.n at.memory.now at.inputclocks.now at.inputcodes.now
           at.outputclocks.now at.outputwords.now good;
-      entries_value = c.opcode_table-entries.ensures;
     })
 
 pub returns : goal.returns

@@ -18,6 +18,4 @@ leap_within-requires c =
     let some = c.if-span-eq0.false in record {
       left_bound = c.requires.left_bound;
       span_begun = c.span_from-span.ensures (omega (arith, some));
-      entries_value
-          = c.requires.entries_value;
     }

@@ -28,7 +28,6 @@ steps_on-stepped-requires c =
     let ticking = c.ticking_of-ticking in record {
       within_span = i.room;
       span_bound = (i.begun.short, some_period _ _ ticking.result ticking.ensures);
-      entries_value = c.requires.entries_value;
     }
 
 pub overflow_add-shared : goal.overflow_add-shared

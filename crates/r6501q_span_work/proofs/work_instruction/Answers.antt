@@ -1,11 +1,12 @@
 use lib.Dec.{leb}
 use mathlib.Core.Bool.{true}
 use Prim.Native.Nat.{◌-◌}
-use mathlib.Core.Path.{◌≡◌, refl}
+use mathlib.Core.Path.{◌≡◌, refl, subst}
 use native.Mathlib.Omega.{arith}
 use borrow.Author.Tests.{le-leb, lt-leb}
 use Rattle.page_sums.specs.PageSums.{SixteenBits}
 use Rattle.page_sums.proofs.Sums.{sums_kept}
+use Rattle.r6501q_span_reads.specs.Known.{Knows}
 use Rattle.r6501q_span_work.specs.Work.{work_after, memory_after}
 use Rattle.r6501q_span_work.proofs.Ends.{nothing_pushed}
 use Rattle.r6501q_span_work.proofs.work_instruction.Goals as goal
@@ -27,22 +28,21 @@ returns-then-span-w c =
 
 pub begin_next-requires : goal.begin_next-requires
 begin_next-requires c =
-    let room = c.requires.within_span in
+    let room = c.requires in
     let inside = c.if-span-w.false in
     (omega (arith, room.gone, inside), omega (arith, room.gone, room.leaps, inside))
 
-pub returns-then-known : goal.returns-then-known
+pub returns-in-Some : goal.returns-in-Some
 unfolding work_after memory_after
-returns-then-known c =
+returns-in-Some c =
     let at = c.args in
     let words : SixteenBits at.sums.now = λ p. omega (
       arith,
       c.type_inv.sums p,
     ) in
     let e = lt-leb _ _ c.if-span-w.false in
-    let known = c.known_outcome-known.ensures c.if-known.true in
-    let same = nothing_pushed at.halt at.w at.memory.now c.known_outcome-known.result.worked
-    known.1 in record {
+    let known = subst (Knows at.s at.w.registers at.memory.now) c.in-Some.is c.known_outcome.ensures in
+    let same = nothing_pushed at.halt at.w at.memory.now c.in-Some.worked known.1 in record {
       value = rw (e, known.0, same.0) c.begin_next.ensures;
       memory_after = rw (e, known.0, same.1) refl;
       sums_after =
@@ -51,16 +51,13 @@ returns-then-known c =
 
 pub work_outcome-requires : goal.work_outcome-requires
 work_outcome-requires c =
-    let room = c.requires.within_span in
-    let inside = c.if-span-w.false in record {
-      wait_bound = (omega (arith, room.gone, inside), omega (arith, room.gone, room.leaps, inside));
-      entries_value =
-          c.requires.entries_value;
-    }
+    let room = c.requires in
+    let inside = c.if-span-w.false in
+    (omega (arith, room.gone, inside), omega (arith, room.gone, room.leaps, inside))
 
-pub returns : goal.returns
+pub returns-in-None : goal.returns-in-None
 unfolding work_after memory_after
-returns c =
+returns-in-None c =
     let e = lt-leb _ _ c.if-span-w.false in record {
       value = rw e c.work_outcome.ensures.value;
       memory_after = rw e c.work_outcome.ensures.memory_after;

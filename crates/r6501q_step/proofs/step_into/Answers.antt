@@ -22,10 +22,8 @@ pub advance-end-requires : goal.advance-end-requires
 advance-end-requires c =
     let good = sym c.call_refusal-number.ensures
     ∙ c.if-number-ne0.false in
-    let memory = c.args.memory.now in record {
-      going = rw c.begin.ensures (begins _ memory _ _ _ _ good);
-      entries_value = c.opcode_table-entries.ensures;
-    }
+    let memory = c.args.memory.now in
+    rw c.begin.ensures (begins _ memory _ _ _ _ good)
 
 pub returns : goal.returns
 returns c =

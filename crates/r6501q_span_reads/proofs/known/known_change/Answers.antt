@@ -1,11 +1,7 @@
 use mathlib.Core.Path.{refl, sym, ◌∙◌}
-use mathlib.Core.Bool.{false≢true}
 use Rattle.cpu_effects.specs.Effects.{pushes_of}
 use Rattle.r6501q_span_reads.proofs.KnownOutcomes.{change_known}
 use Rattle.r6501q_span_reads.proofs.known.known_change.Goals as goal
-
-pub returns-then-not-steady_at : goal.returns-then-not-steady_at
-returns-then-not-steady_at c = rw c.unknown_work.ensures (λ e. absurd (false≢true e))
 
 pub returns : goal.returns
 unfolding pushes_of
@@ -14,11 +10,10 @@ returns c =
     let p = c.requires in
     let steady = sym c.steady_at.ensures ∙ c.if-not-steady_at.false in
     rw (
-      c.known_work.ensures,
       c.with_status-after.ensures,
       c.with_pc.ensures,
       c.past_two.ensures,
       c.changed-changed.ensures,
       c.value-byte.ensures,
     )
-    (λ _. (change_known at.r _ at.entry at.address p.0.0 at.s at.o p.1 p.0.1 steady, refl))
+    (change_known at.r _ at.entry at.address p.0.0 at.s at.o p.1 p.0.1 steady, refl)

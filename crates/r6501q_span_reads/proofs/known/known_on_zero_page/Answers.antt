@@ -1,4 +1,3 @@
-use mathlib.Core.Bool.{false≢true}
 use Rattle.r6501q_span_reads.proofs.known.known_on_zero_page.Goals as goal
 
 pub known_read-requires : goal.known_read-requires
@@ -6,9 +5,6 @@ known_read-requires c = (c.requires, c.in-Read.is)
 
 pub known_store-requires : goal.known_store-requires
 known_store-requires c = (c.requires, c.in-Store.is)
-
-pub returns-in_default-operation-2 : goal.returns-in_default-operation-2
-returns-in_default-operation-2 c = rw c.unknown_work.ensures (λ e. absurd (false≢true e))
 
 pub known_change-requires : goal.known_change-requires
 known_change-requires c = (c.requires, c.in-Modify.is)

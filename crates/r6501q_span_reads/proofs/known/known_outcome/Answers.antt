@@ -1,17 +1,8 @@
 use mathlib.Core.Path.{sym, ◌∙◌}
-use mathlib.Core.Bool.{◌||◌, false≢true}
+use mathlib.Core.Bool.{◌||◌}
 use Rattle.cpu_opcodes.proofs.Laws.{length_fits_lem}
 use Rattle.bits.proofs.Cond.{either_false}
 use Rattle.r6501q_span_reads.proofs.known.known_outcome.Goals as goal
-
-pub returns-then-is_register : goal.returns-then-is_register
-returns-then-is_register c = rw c.unknown_work.ensures (λ e. absurd (false≢true e))
-
-pub returns-then-not-is_register : goal.returns-then-not-is_register
-returns-then-not-is_register c = rw c.unknown_work-then-not-is_register.ensures (λ e. absurd (false≢true e))
-
-pub returns-in_default : goal.returns-in_default
-returns-in_default c = rw c.unknown_work-in_default.ensures (λ e. absurd (false≢true e))
 
 pub known_entry-requires : goal.known_entry-requires
 known_entry-requires c =
@@ -20,7 +11,7 @@ known_entry-requires c =
     let third = c.next_address.ensures in
     let later = either_false (c.is_register.result || c.is_register-2.result) _ c.if-is_register.false in
     let both = either_false c.is_register.result _ later.0 in
-    let decodes = rw c.memory_byte.ensures at (sym c.decode_in-decoded.ensures ∙ c.in-Defined.is) in
+    let decodes = rw c.memory_byte.ensures at (sym c.decode.ensures ∙ c.in_ok-entry.was) in
     record {
       first = sym c.is_register.ensures ∙ both.0;
       second = rw second at (sym c.is_register-2.ensures ∙ both.1);

@@ -9,9 +9,8 @@ returns c =
     let at = c.args in
     let p = c.requires in
     rw (
-      c.known_work.ensures,
       c.with_pc.ensures,
       c.past_two.ensures,
       c.byte_to_store.ensures,
     )
-    (λ _. (store_known at.r _ at.entry at.address p.0.0 at.s at.o p.1 p.0.1, refl))
+    (store_known at.r _ at.entry at.address p.0.0 at.s at.o p.1 p.0.1, refl)
