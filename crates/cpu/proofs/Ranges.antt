@@ -445,7 +445,7 @@ module _ (answers memory : List ℕ) (given : Bytes answers) (bytes : Bytes memo
       (λ t. ask_lt a false b)
       (λ t. written_lt w a (memory_byte memory a) f (memory_lt a))
 
-  relative_fits : (f : Fetched) → f.pc < 65536 → PlaceFits (relative_to f)
+  relative_fits : (f : Fetched ℕ) → f.pc < 65536 → PlaceFits (relative_to f)
   unfolding relative_to
   relative_fits f h = record { address = address_wraps _ _; pc = h }
 

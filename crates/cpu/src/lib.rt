@@ -63,7 +63,7 @@ fn outcome_of(writes: Writes, executed: Executed) -> Outcome
 }
 
 // The operand's byte, read once.
-fn operand_byte(answers: &[u8], memory: &[u8], access: Access, a: u8, place: Place) -> Got
+fn operand_byte(answers: &[u8], memory: &[u8], access: Access, a: u8, place: Place) -> Got<u8>
     ensures { result ≡ operand_byte answers.now memory.now access a place }
 {
     let bus = place.bus;
@@ -80,7 +80,7 @@ fn operand_byte(answers: &[u8], memory: &[u8], access: Access, a: u8, place: Pla
     }
 }
 
-fn operand_of(length: u8, place: Place, got: Got) -> Operand
+fn operand_of(length: u8, place: Place, got: Got<u8>) -> Operand
     ensures { result ≡ operand_of length place got }
 {
     let bus = got.bus;

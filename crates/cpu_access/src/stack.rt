@@ -22,18 +22,10 @@ pub struct Writes {
     pub third: Write,
 }
 
-// A byte that was pulled, and SP after it.
+// A byte that was pulled, or two as an address, and SP after them.
 #[derive(Clone, Copy)]
-pub struct Pulled {
-    pub value: u8,
-    pub sp: u8,
-    pub bus: Bus,
-}
-
-// Two bytes that were pulled, and SP after them.
-#[derive(Clone, Copy)]
-pub struct PulledAddress {
-    pub value: u16,
+pub struct Pulled<T> {
+    pub value: T,
     pub sp: u8,
     pub bus: Bus,
 }
@@ -151,7 +143,7 @@ pub fn push_interrupt(sp: u8, pc: u16, p: u8) -> Writes
 
 impl Bus {
     // SP goes up first.
-    pub fn pull(self, answers: &[u8], memory: &[u8], sp: u8) -> Pulled
+    pub fn pull(self, answers: &[u8], memory: &[u8], sp: u8) -> Pulled<u8>
         ensures { result ≡ pull_of answers.now memory.now sp self }
     {
         let above = up(sp);
@@ -165,14 +157,14 @@ impl Bus {
     }
 
     // PC pulled, low byte first.
-    pub fn pull_address(self, answers: &[u8], memory: &[u8], sp: u8) -> PulledAddress
+    pub fn pull_address(self, answers: &[u8], memory: &[u8], sp: u8) -> Pulled<u16>
         ensures { result ≡ pull_address answers.now memory.now sp self }
     {
         let lower = self.pull(answers, memory, sp);
         let between = lower.bus;
         let upper = between.pull(answers, memory, lower.sp);
         let after = upper.bus;
-        PulledAddress {
+        Pulled {
             value: bits::word16(upper.value, lower.value),
             sp: upper.sp,
             bus: after,
@@ -180,7 +172,7 @@ impl Bus {
     }
 
     // A read at any address after writes that are not yet in memory.
-    pub fn read_after(self, answers: &[u8], memory: &[u8], writes: Writes, address: u16) -> Got
+    pub fn read_after(self, answers: &[u8], memory: &[u8], writes: Writes, address: u16) -> Got<u8>
         ensures { result ≡ read_after answers.now memory.now writes address self }
     {
         if is_register(address) {

@@ -10,7 +10,6 @@ use Rattle.cpu_access.specs.declared.CpuRegisters.{CpuRegisters}
 use Rattle.cpu_modes.specs.declared.Place.{Place}
 use Rattle.cpu_access.specs.declared.stack.Writes.{Writes}
 use Rattle.cpu_access.specs.declared.stack.Pulled.{Pulled}
-use Rattle.cpu_access.specs.declared.stack.PulledAddress.{PulledAddress}
 use Rattle.cpu_access.specs.declared.waiting.Waiting.{Waiting}
 use Rattle.cpu_access.specs.declared.waiting.Waiting.TheVariants as waiting
 use Rattle.cpu_access.specs.Bus.{irq_vector, next_address, vector_of, fetch_of}
@@ -88,24 +87,24 @@ unfoldable pub pushed_byte : Operand → CpuRegisters → ℕ → Executed
 pushed_byte o r v = executed (with_sp (down r.sp) r) (Pushed (one_write (push_at r.sp v))) o.length o.bus
 
 -- PLA and PLP: SP goes up, and the byte there is pulled
-abbrev pub pulled_to : PullOperation → Operand → CpuRegisters → Pulled → Executed
+abbrev pub pulled_to : PullOperation → Operand → CpuRegisters → Pulled ℕ → Executed
 pulled_to operation o r p = read_only (with_pulled operation (with_sp p.sp r) p.value) o.length p.bus
 
 unfoldable pub pulled_byte : List ℕ → List ℕ → PullOperation → Operand → CpuRegisters → Executed
 pulled_byte answers memory operation o r = pulled_to operation o r (pull_of answers memory r.sp o.bus)
 
 -- RTS: PC is what was pulled, plus 1
-abbrev pub return_to : Operand → CpuRegisters → PulledAddress → Executed
+abbrev pub return_to : Operand → CpuRegisters → Pulled ℕ → Executed
 return_to o r w = read_only (with_pc (next_address w.value) (with_sp w.sp r)) o.length w.bus
 
 unfoldable pub returned : List ℕ → List ℕ → Operand → CpuRegisters → Executed
 returned answers memory o r = return_to o r (pull_address answers memory r.sp o.bus)
 
 -- RTI: the status is pulled, then PC
-abbrev pub resume_at : Operand → CpuRegisters → Status → PulledAddress → Executed
+abbrev pub resume_at : Operand → CpuRegisters → Status → Pulled ℕ → Executed
 resume_at o r s w = read_only (with_pc w.value (with_status s (with_sp w.sp r))) o.length w.bus
 
-abbrev pub resume_with : List ℕ → List ℕ → Operand → CpuRegisters → Pulled → Executed
+abbrev pub resume_with : List ℕ → List ℕ → Operand → CpuRegisters → Pulled ℕ → Executed
 resume_with answers memory o r p = resume_at o r (unpacked p.value) (pull_address answers memory p.sp p.bus)
 
 unfoldable pub returned_from_interrupt : List ℕ → List ℕ → Operand → CpuRegisters → Executed

@@ -7,7 +7,7 @@ ghost use Rattle.cpu_modes.specs.Modes.{at_zero_page_indexed, at_absolute, at_in
 ghost use Rattle.cpu_modes.specs.Modes.{at_indirect_indexed, at_indirect, crossing, indexed_by, zero_page_pointer};
 ghost use Rattle.cpu_modes.specs.Modes.{second_address, displacement, relative_to, locate_of};
 
-use cpu_access::{Bus, CpuRegisters, Fetched, FetchedAddress, GotAddress, next_address};
+use cpu_access::{Bus, CpuRegisters, Fetched, Got, next_address};
 use cpu_opcodes::Mode;
 
 // Where an operand is; of a branch, its target.
@@ -82,7 +82,7 @@ fn zero_page_address(z: u8, index: u8) -> u8
 }
 
 // The pointer in the zero page at z.
-fn zero_page_pointer(answers: &[u8], memory: &[u8], z: u8, bus: Bus) -> GotAddress
+fn zero_page_pointer(answers: &[u8], memory: &[u8], z: u8, bus: Bus) -> Got<u16>
     ensures { result ≡ zero_page_pointer answers.now memory.now z bus }
 {
     let high = std::num::wrapping_add_u8(z, 1);
@@ -109,7 +109,7 @@ fn displacement(offset: u8) -> u16
 }
 
 // A branch's target, by its offset, which was just fetched.
-pub fn relative(offset: Fetched) -> Place
+pub fn relative(offset: Fetched<u8>) -> Place
     ensures { result ≡ relative_to offset }
 {
     let bus = offset.bus;
@@ -117,14 +117,14 @@ pub fn relative(offset: Fetched) -> Place
     crossing(offset.pc, target, offset.pc, bus)
 }
 
-pub fn at_zero_page(operand: Fetched) -> Place
+pub fn at_zero_page(operand: Fetched<u8>) -> Place
     ensures { result ≡ at_zero_page operand }
 {
     let bus = operand.bus;
     place_at(operand.value as u16, operand.pc, bus)
 }
 
-pub fn at_zero_page_indexed(index: u8, operand: Fetched) -> Place
+pub fn at_zero_page_indexed(index: u8, operand: Fetched<u8>) -> Place
     ensures { result ≡ at_zero_page_indexed index operand }
 {
     let bus = operand.bus;
@@ -132,21 +132,21 @@ pub fn at_zero_page_indexed(index: u8, operand: Fetched) -> Place
     place_at(z as u16, operand.pc, bus)
 }
 
-pub fn at_absolute(operand: FetchedAddress) -> Place
+pub fn at_absolute(operand: Fetched<u16>) -> Place
     ensures { result ≡ at_absolute operand }
 {
     let bus = operand.bus;
     place_at(operand.value, operand.pc, bus)
 }
 
-pub fn at_indexed(index: u8, operand: FetchedAddress) -> Place
+pub fn at_indexed(index: u8, operand: Fetched<u16>) -> Place
     ensures { result ≡ at_indexed index operand }
 {
     let bus = operand.bus;
     indexed_by(index, operand.value, operand.pc, bus)
 }
 
-pub fn at_indexed_indirect(answers: &[u8], memory: &[u8], x: u8, operand: Fetched) -> Place
+pub fn at_indexed_indirect(answers: &[u8], memory: &[u8], x: u8, operand: Fetched<u8>) -> Place
     ensures { result ≡ at_indexed_indirect answers.now memory.now x operand }
 {
     let before = operand.bus;
@@ -156,7 +156,7 @@ pub fn at_indexed_indirect(answers: &[u8], memory: &[u8], x: u8, operand: Fetche
     place_at(pointer.value, operand.pc, bus)
 }
 
-pub fn at_indirect_indexed(answers: &[u8], memory: &[u8], y: u8, operand: Fetched) -> Place
+pub fn at_indirect_indexed(answers: &[u8], memory: &[u8], y: u8, operand: Fetched<u8>) -> Place
     ensures { result ≡ at_indirect_indexed answers.now memory.now y operand }
 {
     let before = operand.bus;
@@ -165,7 +165,7 @@ pub fn at_indirect_indexed(answers: &[u8], memory: &[u8], y: u8, operand: Fetche
     indexed_by(y, pointer.value, operand.pc, bus)
 }
 
-pub fn at_indirect(answers: &[u8], memory: &[u8], operand: FetchedAddress) -> Place
+pub fn at_indirect(answers: &[u8], memory: &[u8], operand: Fetched<u16>) -> Place
     ensures { result ≡ at_indirect answers.now memory.now operand }
 {
     let before = operand.bus;
