@@ -116,7 +116,7 @@ pub fn next_state(s: State, due: Due, p: Peripherals, w: Worked) -> Next
     ensures { result ≡ next_of s due p w }
 {
     let writing = w.writing;
-    let cpu = cpu_of(w.registers, bits::one_less(w.length), waiting_of(writing));
+    let cpu = cpu_of(w.registers, w.length.saturating_sub(1), waiting_of(writing));
     let writes = pushes_of(writing);
     let peripherals = registers_after(p, writes);
     let mut state = s;

@@ -82,7 +82,7 @@ fn until_cpu(c: Cpu) -> u8
 {
     let waiting = c.waiting;
     if byte_waits(waiting) {
-        return bits::one_less(c.wait);
+        return c.wait.saturating_sub(1);
     }
     c.wait
 }

@@ -5,7 +5,7 @@ use Rattle.r6501q_gaps.proofs.distances.until_cpu.Goals as goal
 
 pub returns-then-byte_waits : goal.returns-then-byte_waits
 unfolding until_cpu
-returns-then-byte_waits c = rw (← c.byte_waits.ensures, c.if-byte_waits.true) c.one_less.ensures
+returns-then-byte_waits c = rw (← c.byte_waits.ensures, c.if-byte_waits.true) c.saturating_sub.ensures
 
 pub returns : goal.returns
 unfolding until_cpu
