@@ -46,7 +46,7 @@ fn ask_with(writes: Writes, bus: Bus) -> Ask
     Ask {
         address: bus.address,
         modify: bus.modify,
-        writes: writes,
+        writes,
     }
 }
 
@@ -68,15 +68,15 @@ fn operand_byte(answers: &[u8], memory: &[u8], access: Access, a: u8, place: Pla
 {
     let bus = place.bus;
     match access {
-        Access::Nothing => Got { value: 0, bus: bus },
+        Access::Nothing => Got { value: 0, bus },
         Access::Read => bus.read(answers, memory, place.address, false),
         Access::Modify => {
             if place.accumulator {
-                return Got { value: a, bus: bus };
+                return Got { value: a, bus };
             }
             bus.read(answers, memory, place.address, true)
         }
-        Access::Jsr => Got { value: 0, bus: bus },
+        Access::Jsr => Got { value: 0, bus },
     }
 }
 
@@ -89,8 +89,8 @@ fn operand_of(length: u8, place: Place, got: Got<u8>) -> Operand
         value: got.value,
         crossed: place.crossed,
         accumulator: place.accumulator,
-        length: length,
-        bus: bus,
+        length,
+        bus,
     }
 }
 

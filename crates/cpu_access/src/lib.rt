@@ -112,9 +112,7 @@ impl Bus {
                 value: answers[used],
                 bus: Bus {
                     used: used + 1,
-                    missing: self.missing,
-                    modify: self.modify,
-                    address: self.address,
+                    ..self
                 },
             };
         }
@@ -127,10 +125,10 @@ impl Bus {
         Got {
             value: 0,
             bus: Bus {
-                used: used,
                 missing: true,
-                modify: modify,
-                address: address,
+                modify,
+                address,
+                ..self
             },
         }
     }
@@ -153,12 +151,10 @@ impl Bus {
         ensures { result ≡ read_address answers.now memory.now low high self }
     {
         let lower = self.read(answers, memory, low, false);
-        let between = lower.bus;
-        let upper = between.read(answers, memory, high, false);
-        let after = upper.bus;
+        let upper = lower.bus.read(answers, memory, high, false);
         Got {
             value: bits::word16(upper.value, lower.value),
-            bus: after,
+            bus: upper.bus,
         }
     }
 
@@ -167,11 +163,10 @@ impl Bus {
         ensures { result ≡ fetch_of answers.now memory.now pc self }
     {
         let got = self.read(answers, memory, pc, false);
-        let after = got.bus;
         Fetched {
             value: got.value,
             pc: next_address(pc),
-            bus: after,
+            bus: got.bus,
         }
     }
 
@@ -180,13 +175,11 @@ impl Bus {
         ensures { result ≡ fetch_address answers.now memory.now pc self }
     {
         let lower = self.fetch(answers, memory, pc);
-        let between = lower.bus;
-        let upper = between.fetch(answers, memory, lower.pc);
-        let after = upper.bus;
+        let upper = lower.bus.fetch(answers, memory, lower.pc);
         Fetched {
             value: bits::word16(upper.value, lower.value),
             pc: upper.pc,
-            bus: after,
+            bus: upper.bus,
         }
     }
 }

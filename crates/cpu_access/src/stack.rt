@@ -55,13 +55,9 @@ pub fn one_write(address: u16, value: u8) -> Writes
     ensures { result ≡ one_write (write_at address value) }
 {
     let none = no_write();
-    let first = Write {
-        address: address,
-        value: value,
-    };
     Writes {
         count: 1,
-        first: first,
+        first: Write { address, value },
         second: none,
         third: none,
     }
@@ -92,10 +88,9 @@ pub fn up(sp: u8) -> u8
 pub fn push(sp: u8, value: u8) -> Write
     ensures { result ≡ push_at sp value }
 {
-    let address = stack_address(sp);
     Write {
-        address: address,
-        value: value,
+        address: stack_address(sp),
+        value,
     }
 }
 
@@ -148,11 +143,10 @@ impl Bus {
     {
         let above = up(sp);
         let got = self.read(answers, memory, stack_address(above), false);
-        let after = got.bus;
         Pulled {
             value: got.value,
             sp: above,
-            bus: after,
+            bus: got.bus,
         }
     }
 
@@ -161,13 +155,11 @@ impl Bus {
         ensures { result ≡ pull_address answers.now memory.now sp self }
     {
         let lower = self.pull(answers, memory, sp);
-        let between = lower.bus;
-        let upper = between.pull(answers, memory, lower.sp);
-        let after = upper.bus;
+        let upper = lower.bus.pull(answers, memory, lower.sp);
         Pulled {
             value: bits::word16(upper.value, lower.value),
             sp: upper.sp,
-            bus: after,
+            bus: upper.bus,
         }
     }
 

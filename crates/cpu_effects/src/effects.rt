@@ -15,14 +15,13 @@ use cpu_opcodes::operation::PullOperation;
 pub fn executed_with(registers: CpuRegisters, writing: Writing, length: u8, bus: Bus) -> Executed
     ensures { result ≡ executed registers writing length bus }
 {
-    let worked = Worked {
-        registers: registers,
-        writing: writing,
-        length: length,
-    };
     Executed {
-        worked: worked,
-        bus: bus,
+        worked: Worked {
+            registers,
+            writing,
+            length,
+        },
+        bus,
     }
 }
 
@@ -38,20 +37,18 @@ pub fn completed(o: Operand, registers: CpuRegisters) -> Executed
     requires { o.length ≤ 7 }
     ensures { result ≡ completed o registers }
 {
-    let bus = o.bus;
-    read_only(registers, o.length + bits::one_where(o.crossed), bus)
+    read_only(registers, o.length + bits::one_where(o.crossed), o.bus)
 }
 
 // A byte is stored at the operand's address.
 pub fn stored(o: Operand, registers: CpuRegisters, value: u8) -> Executed
     ensures { result ≡ stored o registers value }
 {
-    let bus = o.bus;
     let store = Write {
         address: o.address,
-        value: value,
+        value,
     };
-    executed_with(registers, Writing::Stored(store), o.length, bus)
+    executed_with(registers, Writing::Stored(store), o.length, o.bus)
 }
 
 // A byte that was read and changed goes back to where it came from.
@@ -59,11 +56,9 @@ pub fn modified(o: Operand, registers: CpuRegisters, computed: Computed) -> Exec
     ensures { result ≡ modified o registers computed }
 {
     if o.accumulator {
-        let bus = o.bus;
-        return read_only(into_a(registers, computed), o.length, bus);
+        return read_only(into_a(registers, computed), o.length, o.bus);
     }
-    let status = computed.status;
-    stored(o, with_status(registers, status), computed.value)
+    stored(o, with_status(registers, computed.status), computed.value)
 }
 
 // A branch: one clock more where it is taken, two where its target lies in another page.
@@ -71,12 +66,11 @@ pub fn branched(o: Operand, registers: CpuRegisters, taken: bool) -> Executed
     requires { o.length ≤ 7 }
     ensures { result ≡ branched o registers taken }
 {
-    let bus = o.bus;
     if taken {
         let length = o.length + 1 + bits::one_where(o.crossed);
-        return read_only(with_pc(registers, o.address), length, bus);
+        return read_only(with_pc(registers, o.address), length, o.bus);
     }
-    read_only(registers, o.length, bus)
+    read_only(registers, o.length, o.bus)
 }
 
 // BBR and BBS: the offset is fetched after the tested byte.
@@ -90,16 +84,13 @@ pub fn bit_branched(
     requires { o.length ≤ 7 }
     ensures { result ≡ bit_branched answers.now memory.now o registers taken }
 {
-    let before = o.bus;
-    let place = cpu_modes::relative(before.fetch(answers, memory, registers.pc));
-    let after = place.bus;
+    let place = cpu_modes::relative(o.bus.fetch(answers, memory, registers.pc));
     let branch = Operand {
         address: place.address,
-        value: o.value,
         crossed: place.crossed,
         accumulator: false,
-        length: o.length,
-        bus: after,
+        bus: place.bus,
+        ..o
     };
     branched(branch, with_pc(registers, place.pc), taken)
 }
@@ -107,22 +98,20 @@ pub fn bit_branched(
 pub fn jumped(o: Operand, registers: CpuRegisters) -> Executed
     ensures { result ≡ jumped o registers }
 {
-    let bus = o.bus;
-    read_only(with_pc(registers, o.address), o.length, bus)
+    read_only(with_pc(registers, o.address), o.length, o.bus)
 }
 
 // PHA and PHP.
 pub fn pushed_byte(o: Operand, registers: CpuRegisters, value: u8) -> Executed
     ensures { result ≡ pushed_byte o registers value }
 {
-    let bus = o.bus;
     let sp = registers.sp;
     let pushes = one_write(cpu_access::stack::stack_address(sp), value);
     executed_with(
         with_sp(registers, down(sp)),
         Writing::Pushed(pushes),
         o.length,
-        bus,
+        o.bus,
     )
 }
 
@@ -136,14 +125,12 @@ pub fn pulled_byte(
 ) -> Executed
     ensures { result ≡ pulled_byte answers.now memory.now operation o registers }
 {
-    let before = o.bus;
-    let pulled = before.pull(answers, memory, registers.sp);
-    let after = pulled.bus;
+    let pulled = o.bus.pull(answers, memory, registers.sp);
     let stacked = with_sp(registers, pulled.sp);
     read_only(
         with_pulled(operation, stacked, pulled.value),
         o.length,
-        after,
+        pulled.bus,
     )
 }
 
@@ -151,11 +138,13 @@ pub fn pulled_byte(
 pub fn returned(answers: &[u8], memory: &[u8], o: Operand, registers: CpuRegisters) -> Executed
     ensures { result ≡ returned answers.now memory.now o registers }
 {
-    let before = o.bus;
-    let pulled = before.pull_address(answers, memory, registers.sp);
-    let after = pulled.bus;
+    let pulled = o.bus.pull_address(answers, memory, registers.sp);
     let pc = cpu_access::next_address(pulled.value);
-    read_only(with_pc(with_sp(registers, pulled.sp), pc), o.length, after)
+    read_only(
+        with_pc(with_sp(registers, pulled.sp), pc),
+        o.length,
+        pulled.bus,
+    )
 }
 
 // RTI.
@@ -167,14 +156,11 @@ pub fn returned_from_interrupt(
 ) -> Executed
     ensures { result ≡ returned_from_interrupt answers.now memory.now o registers }
 {
-    let before = o.bus;
-    let p = before.pull(answers, memory, registers.sp);
-    let between = p.bus;
-    let status = Status::unpack(p.value);
-    let pulled = between.pull_address(answers, memory, p.sp);
-    let after = pulled.bus;
+    let p = o.bus.pull(answers, memory, registers.sp);
+    let status = Status::from(p.value);
+    let pulled = p.bus.pull_address(answers, memory, p.sp);
     let back = with_status(with_sp(registers, pulled.sp), status);
-    read_only(with_pc(back, pulled.value), o.length, after)
+    read_only(with_pc(back, pulled.value), o.length, pulled.bus)
 }
 
 // PC and P are pushed, I is set, and PC comes from the vector: BRK, NMI and IRQ. `p` is P as it is pushed.
@@ -183,8 +169,7 @@ pub fn interrupted(memory: &[u8], vector: u16, p: u8, registers: CpuRegisters) -
 {
     let sp = registers.sp;
     let pushes = cpu_access::stack::push_interrupt(sp, registers.pc, p);
-    let before = registers.status;
-    let masked = with_status(registers, before.sei());
+    let masked = with_status(registers, registers.status.with_i(true));
     let stacked = with_sp(masked, down(down(down(sp))));
     let entered = with_pc(stacked, cpu_access::vector(memory, vector));
     Worked {
@@ -198,12 +183,12 @@ pub fn interrupted(memory: &[u8], vector: u16, p: u8, registers: CpuRegisters) -
 pub fn break_taken(memory: &[u8], o: Operand, registers: CpuRegisters) -> Executed
     ensures { result ≡ break_taken memory.now o registers }
 {
-    let bus = o.bus;
-    let status = registers.status;
     let skipped = with_pc(registers, cpu_access::next_address(registers.pc));
-    let worked = interrupted(memory, cpu_access::IRQ_VECTOR, status.pushed(true), skipped);
-    Executed {
-        worked: worked,
-        bus: bus,
-    }
+    let worked = interrupted(
+        memory,
+        cpu_access::IRQ_VECTOR,
+        registers.status.pushed(true),
+        skipped,
+    );
+    Executed { worked, bus: o.bus }
 }

@@ -54,7 +54,7 @@ pub fn registers_of(c: Cpu) -> CpuRegisters
         y: c.y,
         sp: c.sp,
         pc: c.pc,
-        status: Status::unpack(c.p),
+        status: Status::from(c.p),
     }
 }
 
@@ -67,7 +67,7 @@ pub fn cpu_of(r: CpuRegisters, wait: u8, waiting: Waiting) -> Cpu
         x: r.x,
         y: r.y,
         sp: r.sp,
-        p: r.status.pack(),
+        p: u8::from(r.status),
         pc: r.pc,
         wait: wait,
         waiting: waiting,
