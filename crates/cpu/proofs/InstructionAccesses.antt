@@ -40,7 +40,7 @@ use Rattle.cpu_access.proofs.Asked.{Reply, asks, over, asked, onwards, onwards_u
 use Rattle.cpu_modes.proofs.Follows.{then_then, located_at, read_on, read_after_on, fetch_on, pull_on, pull_address_on}
 use Rattle.cpu_modes.proofs.Follows.{locate_on}
 use Rattle.cpu_effects.specs.declared.Worked.{Worked}
-use Rattle.cpu_effects.specs.declared.Operand.{Operand}
+use Rattle.cpu_effects.specs.Operand.{Operand}
 use Rattle.cpu_effects.specs.declared.Writing.{Writing}
 use Rattle.cpu_effects.specs.declared.Writing.TheVariants as writing
 use Rattle.cpu_kinds.specs.Updates.{with_sp, with_pc, with_status, into_a}

@@ -62,7 +62,7 @@ use Rattle.cpu_operations.specs.declared.Access.TheVariants.{Nothing, Read, Modi
 use Rattle.cpu_effects.specs.declared.Worked.{Worked}
 use Rattle.cpu_effects.specs.declared.Writing.{Writing}
 use Rattle.cpu_effects.specs.declared.Writing.TheVariants as writing
-use Rattle.cpu_effects.specs.declared.Operand.{Operand}
+use Rattle.cpu_effects.specs.Operand.{Operand}
 use Rattle.cpu_effects.specs.declared.Executed.{Executed}
 use Rattle.cpu_effects.specs.Effects.{with_pc, with_sp, with_status, into_a, into_x, into_y, load_a, load_x, load_y, read_only}
 use Rattle.cpu_effects.specs.Effects.{completed, stored, modified, branched, branch_operand, bit_branched, jumped}

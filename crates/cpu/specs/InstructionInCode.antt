@@ -21,7 +21,7 @@ use Rattle.cpu.specs.declared.Outcome.{Outcome}
 use Rattle.cpu.specs.declared.Outcome.TheVariants.{Stopped, Asked, Done}
 use Rattle.cpu.specs.InstructionAccesses.{undefined_stop}
 use Rattle.cpu_effects.specs.declared.Writing.TheVariants.{Pushed}
-use Rattle.cpu_effects.specs.declared.Operand.{Operand}
+use Rattle.cpu_effects.specs.Operand.{Operand}
 use Rattle.cpu_effects.specs.declared.Executed.{Executed}
 use Rattle.cpu_operations.specs.declared.Access.{Access}
 use Rattle.cpu_operations.specs.declared.Access.TheVariants.{Nothing, Read, Modify, Jsr}

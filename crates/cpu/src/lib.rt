@@ -4,6 +4,7 @@
 
 ghost use Rattle.std.specs.Prelude.{◌≡◌, ◌≤◌};
 ghost use Rattle.cpu_opcodes.specs.TableInCode.{opcode_table};
+ghost use Rattle.cpu_effects.specs.Operand.{operand};
 ghost use Rattle.cpu_operations.specs.Operations.{access_of};
 ghost use Rattle.cpu.specs.InstructionInCode.{ask_with, outcome_of, operand_byte, operand_of, carried_out};
 ghost use Rattle.cpu.specs.InstructionInCode.{writes_asked};
@@ -81,7 +82,8 @@ fn operand_byte(answers: &[u8], memory: &[u8], access: Access, a: u8, place: Pla
 }
 
 fn operand_of(length: u8, place: Place, got: Got<u8>) -> Operand
-    ensures { result ≡ operand_of length place got }
+    requires { length ≤ 7 }
+    ensures { operand result ≡ operand_of length place got }
 {
     let bus = got.bus;
     Operand {

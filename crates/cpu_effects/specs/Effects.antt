@@ -18,7 +18,7 @@ use Rattle.cpu_modes.specs.Modes.{relative_to}
 use Rattle.cpu_effects.specs.declared.Worked.{Worked}
 use Rattle.cpu_effects.specs.declared.Writing.{Writing}
 use Rattle.cpu_effects.specs.declared.Writing.TheVariants.{Nothing, Pushed, Stored}
-use Rattle.cpu_effects.specs.declared.Operand.{Operand}
+use Rattle.cpu_effects.specs.Operand.{Operand}
 use Rattle.cpu_effects.specs.declared.Executed.{Executed}
 -- with what is left go the registers set anew
 pub use Rattle.cpu_kinds.specs.Updates.{with_sp, with_pc, with_status, into_a, into_x, into_y, load_a, load_x, load_y}

@@ -1,8 +1,9 @@
 // What an instruction leaves, by kind: the registers, what it writes, and the clocks that it takes.
-ghost use Rattle.std.specs.Prelude.{◌≡◌, ◌≤◌};
+ghost use Rattle.std.specs.Prelude.{◌≡◌};
 ghost use Rattle.cpu_effects.specs.Effects.{executed, read_only, completed, stored, modified, branched};
 ghost use Rattle.cpu_effects.specs.Effects.{bit_branched, jumped, pushed_byte, pulled_byte, returned};
 ghost use Rattle.cpu_effects.specs.Effects.{returned_from_interrupt, interrupted, break_taken};
+ghost use Rattle.cpu_effects.specs.Operand.{operand};
 
 use crate::{Executed, Operand, Worked, Writing};
 use cpu_access::stack::{Write, down, one_write};
@@ -34,15 +35,14 @@ fn read_only(registers: CpuRegisters, length: u8, bus: Bus) -> Executed
 
 // A byte was read, or none: one clock more where indexing crossed a page.
 pub fn completed(o: Operand, registers: CpuRegisters) -> Executed
-    requires { o.length ≤ 7 }
-    ensures { result ≡ completed o registers }
+    ensures { result ≡ completed (operand o) registers }
 {
     read_only(registers, o.length + bits::one_where(o.crossed), o.bus)
 }
 
 // A byte is stored at the operand's address.
 pub fn stored(o: Operand, registers: CpuRegisters, value: u8) -> Executed
-    ensures { result ≡ stored o registers value }
+    ensures { result ≡ stored (operand o) registers value }
 {
     let store = Write {
         address: o.address,
@@ -53,7 +53,7 @@ pub fn stored(o: Operand, registers: CpuRegisters, value: u8) -> Executed
 
 // A byte that was read and changed goes back to where it came from.
 pub fn modified(o: Operand, registers: CpuRegisters, computed: Computed) -> Executed
-    ensures { result ≡ modified o registers computed }
+    ensures { result ≡ modified (operand o) registers computed }
 {
     if o.accumulator {
         return read_only(into_a(registers, computed), o.length, o.bus);
@@ -63,8 +63,7 @@ pub fn modified(o: Operand, registers: CpuRegisters, computed: Computed) -> Exec
 
 // A branch: one clock more where it is taken, two where its target lies in another page.
 pub fn branched(o: Operand, registers: CpuRegisters, taken: bool) -> Executed
-    requires { o.length ≤ 7 }
-    ensures { result ≡ branched o registers taken }
+    ensures { result ≡ branched (operand o) registers taken }
 {
     if taken {
         let length = o.length + 1 + bits::one_where(o.crossed);
@@ -81,29 +80,29 @@ pub fn bit_branched(
     registers: CpuRegisters,
     taken: bool,
 ) -> Executed
-    requires { o.length ≤ 7 }
-    ensures { result ≡ bit_branched answers.now memory.now o registers taken }
+    ensures { result ≡ bit_branched answers.now memory.now (operand o) registers taken }
 {
     let place = cpu_modes::relative(o.bus.fetch(answers, memory, registers.pc));
     let branch = Operand {
         address: place.address,
+        value: o.value,
         crossed: place.crossed,
         accumulator: false,
+        length: o.length,
         bus: place.bus,
-        ..o
     };
     branched(branch, with_pc(registers, place.pc), taken)
 }
 
 pub fn jumped(o: Operand, registers: CpuRegisters) -> Executed
-    ensures { result ≡ jumped o registers }
+    ensures { result ≡ jumped (operand o) registers }
 {
     read_only(with_pc(registers, o.address), o.length, o.bus)
 }
 
 // PHA and PHP.
 pub fn pushed_byte(o: Operand, registers: CpuRegisters, value: u8) -> Executed
-    ensures { result ≡ pushed_byte o registers value }
+    ensures { result ≡ pushed_byte (operand o) registers value }
 {
     let sp = registers.sp;
     let pushes = one_write(cpu_access::stack::stack_address(sp), value);
@@ -123,7 +122,7 @@ pub fn pulled_byte(
     o: Operand,
     registers: CpuRegisters,
 ) -> Executed
-    ensures { result ≡ pulled_byte answers.now memory.now operation o registers }
+    ensures { result ≡ pulled_byte answers.now memory.now operation (operand o) registers }
 {
     let pulled = o.bus.pull(answers, memory, registers.sp);
     let stacked = with_sp(registers, pulled.sp);
@@ -136,7 +135,7 @@ pub fn pulled_byte(
 
 // RTS.
 pub fn returned(answers: &[u8], memory: &[u8], o: Operand, registers: CpuRegisters) -> Executed
-    ensures { result ≡ returned answers.now memory.now o registers }
+    ensures { result ≡ returned answers.now memory.now (operand o) registers }
 {
     let pulled = o.bus.pull_address(answers, memory, registers.sp);
     let pc = cpu_access::next_address(pulled.value);
@@ -154,7 +153,7 @@ pub fn returned_from_interrupt(
     o: Operand,
     registers: CpuRegisters,
 ) -> Executed
-    ensures { result ≡ returned_from_interrupt answers.now memory.now o registers }
+    ensures { result ≡ returned_from_interrupt answers.now memory.now (operand o) registers }
 {
     let p = o.bus.pull(answers, memory, registers.sp);
     let status = Status::from(p.value);
@@ -181,7 +180,7 @@ pub fn interrupted(memory: &[u8], vector: u16, p: u8, registers: CpuRegisters) -
 
 // BRK: it skips a byte that it does not read.
 pub fn break_taken(memory: &[u8], o: Operand, registers: CpuRegisters) -> Executed
-    ensures { result ≡ break_taken memory.now o registers }
+    ensures { result ≡ break_taken memory.now (operand o) registers }
 {
     let skipped = with_pc(registers, cpu_access::next_address(registers.pc));
     let worked = interrupted(

@@ -26,8 +26,8 @@ pub struct Transmitter {
     pub register: u16,
 }
 
-// The transmitter and the status register after a clock. The methods that make it have both as parameters: as methods of
-// this struct they took a fifth more host instructions a clock.
+// The transmitter and the status register after a clock. The methods that make it have both as parameters: as methods
+// of this struct they took a fifth more host instructions a clock.
 #[derive(Clone, Copy)]
 pub struct Sending {
     pub transmitter: Transmitter,

@@ -1,5 +1,4 @@
 use Rattle.serial_transmitter.specs.Transmitter.{frame_end}
-use borrow.Author.Tests.{eq-eqb, ne_eqb}
 use Rattle.serial_transmitter.proofs.Transmitter.frame_end.Goals as goal
 
 pub returns-then-bit8 : goal.returns-then-bit8

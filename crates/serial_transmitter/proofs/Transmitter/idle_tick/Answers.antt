@@ -1,5 +1,4 @@
 use Rattle.serial_transmitter.specs.Transmitter.{idle_tick}
-use borrow.Author.Tests.{eq-eqb, ne_eqb}
 use Rattle.serial_transmitter.proofs.Transmitter.idle_tick.Goals as goal
 
 pub returns-then-bit8 : goal.returns-then-bit8
