@@ -44,6 +44,12 @@ bit_room n k x h l =
     let s : (m + m) * w ≡ m * w + m * w = add-mul m m w in
     omega (arith, parts k x, one-mul w)
 
+-- a number of n bits has n bits with bit k as given
+pub with_bit_lt : (n k x : ℕ) (on : Bool) → k < n → x < 2 ^ n → with_bit k on x < 2 ^ n
+unfolding with_bit
+with_bit_lt n k x true h l = bit_room n k x h l
+with_bit_lt n k x false h l = let r = bit_room n k x h l in omega arith
+
 -- x with bit k as given, taken apart: what is above bit k, the bit, what is below it
 put_parts : (k x : ℕ) (on : Bool) → with_bit k on x ≡ x % 2 ^ k + (x / 2 ^ k / 2 + x / 2 ^ k / 2 + one_where on) * 2 ^ k
 unfolding with_bit

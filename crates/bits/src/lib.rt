@@ -1,7 +1,7 @@
 // Bits and bytes of numbers.
 #![tactic(auto)]
 
-ghost use Rattle.std.specs.Prelude.{◌≡◌, ◌-◌, ◌<◌};
+ghost use Rattle.std.specs.Prelude.{◌≡◌, ◌<◌};
 ghost use Rattle.bits.specs.Bits.{bit, one_where, with_bit, set_where, flip_where, low_byte, high_byte, word16};
 
 // Whether bit k of a byte is set.
@@ -9,7 +9,7 @@ pub fn bit8(x: u8, k: u8) -> bool
     requires { k < 8 }
     ensures { result ≡ bit k x }
 {
-    (x >> k) % 2 == 1
+    bit32(x as u32, k as u32)
 }
 
 // Whether bit k of a 32-bit number is set.
@@ -24,7 +24,7 @@ pub fn bit32(x: u32, k: u32) -> bool
 pub fn one_where(on: bool) -> u8
     ensures { result ≡ one_where on }
 {
-    if on { 1 } else { 0 }
+    u8::from(on)
 }
 
 // A byte with bit k as given.
@@ -32,9 +32,7 @@ pub fn with_bit(x: u8, k: u8, on: bool) -> u8
     requires { k < 8 }
     ensures { result ≡ with_bit k on x }
 {
-    let weight: u8 = 1 << k;
-    let cleared = x - (x >> k) % 2 * weight;
-    if on { cleared + weight } else { cleared }
+    with_bit32(x as u32, k as u32, on) as u8
 }
 
 // A 32-bit number with bit k as given.
@@ -82,11 +80,4 @@ pub fn word16(upper: u8, lower: u8) -> u16
     ensures { result ≡ word16 upper lower }
 {
     upper as u16 * 256 + lower as u16
-}
-
-// A number less 1, and 0 of 0.
-pub fn one_less(x: u8) -> u8
-    ensures { result ≡ x - 1 }
-{
-    if x == 0 { 0 } else { x - 1 }
 }

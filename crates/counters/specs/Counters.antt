@@ -4,9 +4,8 @@ use Rattle.bits.specs.Bits.{low_byte, high_byte, word16, one_where}
 use Rattle.counters.specs.declared.time.Clocks.{Clocks}
 use Rattle.counters.specs.declared.time.Ticks.{Ticks}
 use Rattle.counters.specs.declared.a.CounterA.{CounterA}
-use Rattle.counters.specs.declared.a.CountedA.{CountedA}
 use Rattle.counters.specs.declared.b.CounterB.{CounterB}
-use Rattle.counters.specs.declared.b.CountedB.{CountedB}
+use Rattle.counters.specs.declared.Counted.{Counted}
 
 -- 01, One clock, 3: "at each underflow of A; that is a tick"
 unfoldable pub ticks_of : Bool → Ticks
@@ -19,6 +18,13 @@ in_force held mode = cond held 0 mode
 -- "01 pulse, .. each underflow inverting PA4's (A) or PA5's latch (B)"
 abbrev pub toggles : ℕ → Bool → Bool
 toggles mode underflow = underflow && eqb mode 1
+
+-- a counter after a clock, and whether it underflowed
+abbrev pub CountedA : Type 0
+CountedA = Counted CounterA
+
+abbrev pub CountedB : Type 0
+CountedB = Counted CounterB
 
 abbrev pub counted_a : CounterA → Bool → CountedA
 counted_a c u = record { counter = c; underflow = u }

@@ -3,6 +3,7 @@ ghost use Rattle.std.specs.Prelude.{◌≡◌};
 ghost use Rattle.counters.specs.Counters.{down_a, counts_a, clock_a, counts_through_a, pass_a, lower_a, upper_a};
 ghost use Rattle.counters.specs.Counters.{load_counter_a};
 
+use crate::Counted;
 use crate::time::{Clocks, count_after_gap};
 
 // The counter and its latch.
@@ -11,13 +12,6 @@ use crate::time::{Clocks, count_after_gap};
 pub struct CounterA {
     pub count: u16,
     pub latch: u16,
-}
-
-// The counter after one clock, and whether it underflowed.
-#[derive(Clone, Copy)]
-pub struct CountedA {
-    pub counter: CounterA,
-    pub underflow: bool,
 }
 
 // Whether it counts on this clock: each clock in modes 00 and 01, at a rise in 10, with its pin low in 11.
@@ -42,31 +36,31 @@ pub fn counts_through(mode: u8, low: bool) -> bool
 
 impl CounterA {
     // Down by one; from 0000h an underflow, with a reload from the latch.
-    pub fn down(mut self) -> CountedA
+    pub fn down(mut self) -> Counted<CounterA>
         ensures { result ≡ down_a self }
     {
         if self.count == 0 {
             self.count = self.latch;
-            return CountedA {
+            return Counted {
                 counter: self,
                 underflow: true,
             };
         }
         self.count -= 1;
-        CountedA {
+        Counted {
             counter: self,
             underflow: false,
         }
     }
 
     // One clock, given the mode in force and its pin's rise and level.
-    pub fn clock(mut self, mode: u8, rise: bool, low: bool) -> CountedA
+    pub fn clock(mut self, mode: u8, rise: bool, low: bool) -> Counted<CounterA>
         ensures { result ≡ clock_a self mode rise low }
     {
         if counts(mode, rise, low) {
             return self.down();
         }
-        CountedA {
+        Counted {
             counter: self,
             underflow: false,
         }

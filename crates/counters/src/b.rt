@@ -3,6 +3,7 @@ ghost use Rattle.std.specs.Prelude.{◌≡◌};
 ghost use Rattle.counters.specs.Counters.{reload_b, down_b, clock_b, counts_through_b, pass_b, lower_b, upper_b, copy_b};
 ghost use Rattle.counters.specs.Counters.{load_counter_b, turn_to_c};
 
+use crate::Counted;
 use crate::time::{Clocks, count_after_gap};
 
 // The counter, latches B and C, and whether the next reload in mode 01 takes latch C.
@@ -13,13 +14,6 @@ pub struct CounterB {
     pub latchb: u16,
     pub latchc: u16,
     pub turnc: bool,
-}
-
-// The counter after one clock, and whether it underflowed.
-#[derive(Clone, Copy)]
-pub struct CountedB {
-    pub counter: CounterB,
-    pub underflow: bool,
 }
 
 // Whether it counts in every clock of a gap, where no pin changes: in all modes but 10.
@@ -49,25 +43,25 @@ impl CounterB {
     }
 
     // Down by one; from 0000h an underflow, with a reload.
-    pub fn down(mut self, mode: u8) -> CountedB
+    pub fn down(mut self, mode: u8) -> Counted<CounterB>
         ensures { result ≡ down_b self mode }
     {
         if self.count == 0 {
             let counter = self.reload(mode);
-            return CountedB {
-                counter: counter,
+            return Counted {
+                counter,
                 underflow: true,
             };
         }
         self.count -= 1;
-        CountedB {
+        Counted {
             counter: self,
             underflow: false,
         }
     }
 
     // One clock: it counts in modes 00 and 01, at a rise in 10; in 11 a rise reloads it and it does not count.
-    pub fn clock(mut self, mode: u8, rise: bool) -> CountedB
+    pub fn clock(mut self, mode: u8, rise: bool) -> Counted<CounterB>
         ensures { result ≡ clock_b self mode rise }
     {
         if mode < 2 {
@@ -77,15 +71,15 @@ impl CounterB {
             if rise {
                 return self.down(mode);
             }
-            return CountedB {
+            return Counted {
                 counter: self,
                 underflow: false,
             };
         }
         if rise {
             let counter = self.reload(mode);
-            return CountedB {
-                counter: counter,
+            return Counted {
+                counter,
                 underflow: false,
             };
         }

@@ -10,3 +10,10 @@ pub mod a;
 
 // A counter with two latches.
 pub mod b;
+
+// A counter after one clock, and whether it underflowed.
+#[derive(Clone, Copy)]
+pub struct Counted<C> {
+    pub counter: C,
+    pub underflow: bool,
+}

@@ -38,7 +38,7 @@ use Rattle.cpu_access.proofs.Asked.{Reply, asks, over, asked, onwards, onwards_u
 use Rattle.cpu_modes.proofs.Follows.{then_then, located_at, read_on, read_after_on, fetch_on, pull_on, pull_address_on}
 use Rattle.cpu_modes.proofs.Follows.{locate_on}
 use Rattle.cpu_effects.specs.declared.Worked.{Worked}
-use Rattle.cpu_effects.specs.declared.Operand.{Operand}
+use Rattle.cpu_effects.specs.Operand.{Operand}
 use Rattle.cpu_effects.specs.declared.Writing.{Writing}
 use Rattle.cpu_effects.specs.declared.Writing.TheVariants as writing
 use Rattle.cpu_kinds.specs.Updates.{with_sp, with_pc, with_status, into_a}
@@ -214,14 +214,14 @@ module _ (answers memory : List ℕ) where
 
   -- the accumulator, or a byte in memory
   modified_on : (operation : ModifyOperation) (n : ℕ) (r : CpuRegisters) (p : Place)
-      → (let g : Got = cond p.accumulator (got r.a p.bus) (read_of answers memory p.address true p.bus) in
+      → (let g : Got ℕ = cond p.accumulator (got r.a p.bus) (read_of answers memory p.address true p.bus) in
       Same p.bus (left (modify_accesses operation n (located_at p) r))
       (outcome_of no_writes (modified (operand_of n p g) r (changed_by operation g.value r.status))))
   unfolding modify_accesses modified
   modified_on operation n r p = by_test p.accumulator
     where
       by_test : (t : Bool)
-          → (let g : Got = cond t (got r.a p.bus) (read_of answers memory p.address true p.bus) in
+          → (let g : Got ℕ = cond t (got r.a p.bus) (read_of answers memory p.address true p.bus) in
           Same p.bus
           (left (cond t (ends (conclusion (into_a (changed_by operation r.a r.status) r) n))
           (reads true p.address (λ v. store_back n (located_at p) r (changed_by operation v r.status)))))
@@ -267,7 +267,7 @@ module _ (answers memory : List ℕ) where
 
   -- the pushes, and the high byte after them
   pushed_jsr : (r : CpuRegisters) (n l next : ℕ) (b : Bus)
-      → (let w : Writes = push_address r.sp next in let h : Got = read_after answers memory w next b in
+      → (let w : Writes = push_address r.sp next in let h : Got ℕ = read_after answers memory w next b in
       Same b
       (writes (stack_address r.sp) (high_byte next) (writes (stack_address (down r.sp)) (low_byte next)
       (reads false next (λ v. ends (leaves (conclusion (with_pc (word16 v l) (with_sp (down (down r.sp)) r)) n))))))
@@ -277,7 +277,7 @@ module _ (answers memory : List ℕ) where
   pushed_jsr r n l next b = by_answer b.missing refl
     where
       by_answer : (t : Bool) → b.missing ≡ t
-          → (let w : Writes = push_address r.sp next in let h : Got = read_after answers memory w next b in
+          → (let w : Writes = push_address r.sp next in let h : Got ℕ = read_after answers memory w next b in
           outcome_from (cond t (asks b.modify b.address [])
           (asked memory (drop b.used answers) (push_high r.sp next ∷ push_low r.sp next ∷ [])
           (reads false next

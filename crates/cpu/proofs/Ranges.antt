@@ -61,7 +61,7 @@ use Rattle.cpu_operations.specs.declared.Access.TheVariants.{Nothing, Read, Modi
 use Rattle.cpu_effects.specs.declared.Worked.{Worked}
 use Rattle.cpu_effects.specs.declared.Writing.{Writing}
 use Rattle.cpu_effects.specs.declared.Writing.TheVariants as writing
-use Rattle.cpu_effects.specs.declared.Operand.{Operand}
+use Rattle.cpu_effects.specs.Operand.{Operand}
 use Rattle.cpu_effects.specs.declared.Executed.{Executed}
 use Rattle.cpu_effects.specs.Effects.{with_pc, with_sp, with_status, into_a, into_x, into_y, load_a, load_x, load_y, read_only}
 use Rattle.cpu_effects.specs.Effects.{completed, stored, modified, branched, branch_operand, bit_branched, jumped}
@@ -444,7 +444,7 @@ module _ (answers memory : List ℕ) (given : Bytes answers) (bytes : Bytes memo
       (λ t. ask_lt a false b)
       (λ t. written_lt w a (memory_byte memory a) f (memory_lt a))
 
-  relative_fits : (f : Fetched) → f.pc < 65536 → PlaceFits (relative_to f)
+  relative_fits : (f : Fetched ℕ) → f.pc < 65536 → PlaceFits (relative_to f)
   unfolding relative_to
   relative_fits f h = record { address = address_wraps _ _; pc = h }
 

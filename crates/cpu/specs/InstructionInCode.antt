@@ -19,7 +19,7 @@ use Rattle.cpu.specs.declared.Outcome.{Outcome}
 use Rattle.cpu.specs.declared.Outcome.TheVariants.{Stopped, Asked, Done}
 use Rattle.cpu.specs.InstructionAccesses.{undefined_stop}
 use Rattle.cpu_effects.specs.declared.Writing.TheVariants.{Pushed}
-use Rattle.cpu_effects.specs.declared.Operand.{Operand}
+use Rattle.cpu_effects.specs.Operand.{Operand}
 use Rattle.cpu_effects.specs.declared.Executed.{Executed}
 use Rattle.cpu_operations.specs.declared.Access.{Access}
 use Rattle.cpu_operations.specs.declared.Access.TheVariants.{Nothing, Read, Modify, Jsr}
@@ -35,14 +35,14 @@ unfoldable pub outcome_of : Writes → Executed → Outcome
 outcome_of w e = cond e.bus.missing (Asked (ask_with w e.bus)) (Done e.worked)
 
 -- the operand's byte: read once, by a read-modify-write instruction from a port's latch (001, 4.1)
-unfoldable pub operand_byte : List ℕ → List ℕ → Access → ℕ → Place → Got
+unfoldable pub operand_byte : List ℕ → List ℕ → Access → ℕ → Place → Got ℕ
 operand_byte answers memory Nothing a p = got 0 p.bus
 operand_byte answers memory Read a p = read_of answers memory p.address false p.bus
 operand_byte answers memory Modify a p =
     cond p.accumulator (got a p.bus) (read_of answers memory p.address true p.bus)
 operand_byte answers memory Jsr a p = got 0 p.bus
 
-abbrev pub operand_of : ℕ → Place → Got → Operand
+abbrev pub operand_of : ℕ → Place → Got ℕ → Operand
 operand_of n p g = record {
   address = p.address;
   value = g.value;
@@ -62,7 +62,7 @@ carried_out answers memory e r b = operate_at answers memory e r (locate_of answ
 
 -- JSR: the low byte of the target is read, the address of its own last byte is pushed, and only then the high byte is
 -- read
-abbrev pub jsr_to : CpuRegisters → ℕ → Fetched → Writes → Got → Executed
+abbrev pub jsr_to : CpuRegisters → ℕ → Fetched ℕ → Writes → Got ℕ → Executed
 jsr_to r n l w h =
     executed (with_pc (word16 h.value l.value) (with_sp (down (down r.sp)) r)) (Pushed w) n h.bus
 
@@ -70,11 +70,11 @@ jsr_to r n l w h =
 unfoldable pub writes_asked : Bus → Writes → Writes
 writes_asked b w = cond b.missing no_writes w
 
-abbrev pub jsr_pushed : List ℕ → List ℕ → CpuRegisters → ℕ → Fetched → Writes → Outcome
+abbrev pub jsr_pushed : List ℕ → List ℕ → CpuRegisters → ℕ → Fetched ℕ → Writes → Outcome
 jsr_pushed answers memory r n l w =
     outcome_of (writes_asked l.bus w) (jsr_to r n l w (read_after answers memory w l.pc l.bus))
 
-abbrev pub jsr_after : List ℕ → List ℕ → CpuRegisters → ℕ → Fetched → Outcome
+abbrev pub jsr_after : List ℕ → List ℕ → CpuRegisters → ℕ → Fetched ℕ → Outcome
 jsr_after answers memory r n l = jsr_pushed answers memory r n l (push_address r.sp l.pc)
 
 unfoldable pub jsr_outcome : List ℕ → List ℕ → CpuRegisters → ℕ → Bus → Outcome
@@ -91,7 +91,7 @@ decoded_to answers memory r b None = Stopped undefined_stop
 decoded_to answers memory r b (Some e) = execute_of answers memory e r b
 
 -- an opcode that has to be asked for is no opcode yet
-abbrev pub opcode_fetched : List ℕ → List ℕ → CpuRegisters → Fetched → Outcome
+abbrev pub opcode_fetched : List ℕ → List ℕ → CpuRegisters → Fetched ℕ → Outcome
 opcode_fetched answers memory r f =
     cond f.bus.missing (Asked (ask_with no_writes f.bus))
     (decoded_to answers memory (with_pc f.pc r) f.bus (decode_of f.value))

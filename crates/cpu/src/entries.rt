@@ -11,8 +11,7 @@ use cpu_kinds::updates::{with_pc, with_status};
 pub fn reset_entry(memory: &[u8], registers: CpuRegisters) -> Worked
     ensures { result ≡ reset_entry memory.now registers }
 {
-    let status = registers.status;
-    let masked = with_status(registers, status.sei());
+    let masked = with_status(registers, registers.status.with_i(true));
     let entered = with_pc(masked, cpu_access::vector(memory, RESET_VECTOR));
     Worked {
         registers: entered,
@@ -25,6 +24,5 @@ pub fn reset_entry(memory: &[u8], registers: CpuRegisters) -> Worked
 pub fn interrupt_entry(memory: &[u8], vector: u16, registers: CpuRegisters) -> Worked
     ensures { result ≡ interrupt_entry memory.now vector registers }
 {
-    let status = registers.status;
-    interrupted(memory, vector, status.pushed(false), registers)
+    interrupted(memory, vector, registers.status.pushed(false), registers)
 }

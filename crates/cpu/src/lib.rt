@@ -3,6 +3,7 @@
 #![tactic(auto)]
 
 ghost use Rattle.std.specs.Prelude.{◌≡◌, ◌≤◌};
+ghost use Rattle.cpu_effects.specs.Operand.{operand};
 ghost use Rattle.cpu_operations.specs.Operations.{access_of};
 ghost use Rattle.cpu.specs.InstructionInCode.{ask_with, outcome_of, operand_byte, operand_of, carried_out};
 ghost use Rattle.cpu.specs.InstructionInCode.{writes_asked};
@@ -45,7 +46,7 @@ fn ask_with(writes: Writes, bus: Bus) -> Ask
     Ask {
         address: bus.address,
         modify: bus.modify,
-        writes: writes,
+        writes,
     }
 }
 
@@ -62,25 +63,26 @@ fn outcome_of(writes: Writes, executed: Executed) -> Outcome
 }
 
 // The operand's byte, read once.
-fn operand_byte(answers: &[u8], memory: &[u8], access: Access, a: u8, place: Place) -> Got
+fn operand_byte(answers: &[u8], memory: &[u8], access: Access, a: u8, place: Place) -> Got<u8>
     ensures { result ≡ operand_byte answers.now memory.now access a place }
 {
     let bus = place.bus;
     match access {
-        Access::Nothing => Got { value: 0, bus: bus },
+        Access::Nothing => Got { value: 0, bus },
         Access::Read => bus.read(answers, memory, place.address, false),
         Access::Modify => {
             if place.accumulator {
-                return Got { value: a, bus: bus };
+                return Got { value: a, bus };
             }
             bus.read(answers, memory, place.address, true)
         }
-        Access::Jsr => Got { value: 0, bus: bus },
+        Access::Jsr => Got { value: 0, bus },
     }
 }
 
-fn operand_of(length: u8, place: Place, got: Got) -> Operand
-    ensures { result ≡ operand_of length place got }
+fn operand_of(length: u8, place: Place, got: Got<u8>) -> Operand
+    requires { length ≤ 7 }
+    ensures { operand result ≡ operand_of length place got }
 {
     let bus = got.bus;
     Operand {
@@ -88,8 +90,8 @@ fn operand_of(length: u8, place: Place, got: Got) -> Operand
         value: got.value,
         crossed: place.crossed,
         accumulator: place.accumulator,
-        length: length,
-        bus: bus,
+        length,
+        bus,
     }
 }
 

@@ -23,8 +23,8 @@ pub fn next_work(w: Work, worked: Worked) -> Work
 {
     let registers = worked.registers;
     Work {
-        registers: registers,
-        wait: bits::one_less(worked.length),
+        registers,
+        wait: worked.length.saturating_sub(1),
         gone: Clocks(w.gone.0 + w.wait as u32 + 1),
         leaps: w.leaps + 1,
     }

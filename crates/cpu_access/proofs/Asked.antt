@@ -42,7 +42,7 @@ module _ {A : Type 0} (answers memory : List ℕ) (before : List Write) (modify 
       by_answer : (t : Bool) → ltb b.used (length answers) ≡ t → (m : Bool) → b.missing ≡ m
           → cond m (asks b.modify b.address before)
           (next_answer (λ v rest. asked memory rest before (go v)) (asks modify a before) (drop b.used answers))
-          ≡ (let g : Got = cond t (answered answers b) (got 0 (asking a modify b)) in
+          ≡ (let g : Got ℕ = cond t (answered answers b) (got 0 (asking a modify b)) in
           onwards answers memory before g.bus (go g.value))
       by_answer true l true m = rw m
       by_answer true l false m =
@@ -52,13 +52,13 @@ module _ {A : Type 0} (answers memory : List ℕ) (before : List Write) (modify 
 
   -- a read, by the bus and by itself
   pub read_follows : (v : ℕ) → v ≡ byte_after before a (memory_byte memory a)
-      → (let g : Got = cond (is_register a) (ask_of answers a modify b) (got v b) in
+      → (let g : Got ℕ = cond (is_register a) (ask_of answers a modify b) (got v b) in
       onwards answers memory before b (reads modify a go) ≡ onwards answers memory before g.bus (go g.value))
   unfolding onwards asked
   read_follows v h = by_place (is_register a) refl
     where
       by_place : (t : Bool) → is_register a ≡ t
-          → (let g : Got = cond t (ask_of answers a modify b) (got v b) in
+          → (let g : Got ℕ = cond t (ask_of answers a modify b) (got v b) in
           onwards answers memory before b (reads modify a go) ≡ onwards answers memory before g.bus (go g.value))
       by_place true e = ask_follows e
       by_place false e = rw (e, h)

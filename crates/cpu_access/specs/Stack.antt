@@ -7,7 +7,6 @@ use Rattle.cpu_access.specs.declared.Got.{Got}
 use Rattle.cpu_access.specs.declared.stack.Write.{Write}
 use Rattle.cpu_access.specs.declared.stack.Writes.{Writes}
 use Rattle.cpu_access.specs.declared.stack.Pulled.{Pulled}
-use Rattle.cpu_access.specs.declared.stack.PulledAddress.{PulledAddress}
 use Rattle.cpu_access.specs.Bus.{ask_of, read_of, memory_byte, got}
 use Rattle.memory.specs.Memory.{is_register}
 
@@ -65,23 +64,23 @@ unfoldable pub push_interrupt : ℕ → ℕ → ℕ → Writes
 push_interrupt sp pc p = three_writes (push_high sp pc) (push_low sp pc) (push_at (down (down sp)) p)
 
 -- SP goes up, and the pull reads there
-abbrev pub pulled_at : ℕ → Got → Pulled
+abbrev pub pulled_at : ℕ → Got ℕ → Pulled ℕ
 pulled_at sp g = record { value = g.value; sp = sp; bus = g.bus }
 
-abbrev pub pull_from : List ℕ → List ℕ → ℕ → Bus → Pulled
+abbrev pub pull_from : List ℕ → List ℕ → ℕ → Bus → Pulled ℕ
 pull_from answers memory sp b = pulled_at sp (read_of answers memory (stack_address sp) false b)
 
-unfoldable pub pull_of : List ℕ → List ℕ → ℕ → Bus → Pulled
+unfoldable pub pull_of : List ℕ → List ℕ → ℕ → Bus → Pulled ℕ
 pull_of answers memory sp b = pull_from answers memory (up sp) b
 
 -- PC pulled, low byte first
-abbrev pub address_pulled : ℕ → Pulled → PulledAddress
+abbrev pub address_pulled : ℕ → Pulled ℕ → Pulled ℕ
 address_pulled l p = record { value = word16 p.value l; sp = p.sp; bus = p.bus }
 
-abbrev pub second_pulled : List ℕ → List ℕ → Pulled → PulledAddress
+abbrev pub second_pulled : List ℕ → List ℕ → Pulled ℕ → Pulled ℕ
 second_pulled answers memory p = address_pulled p.value (pull_of answers memory p.sp p.bus)
 
-unfoldable pub pull_address : List ℕ → List ℕ → ℕ → Bus → PulledAddress
+unfoldable pub pull_address : List ℕ → List ℕ → ℕ → Bus → Pulled ℕ
 pull_address answers memory sp b = second_pulled answers memory (pull_of answers memory sp b)
 
 -- what stands at address a after the writes, where v stood before
@@ -90,6 +89,6 @@ written_over w a v =
     each_write (λ (there : Bool) (x : Write) (before : ℕ). cond (there && x.address == a) x.value before) w v
 
 -- a read at any address after writes: a register is asked for, with those writes; of memory they are seen
-unfoldable pub read_after : List ℕ → List ℕ → Writes → ℕ → Bus → Got
+unfoldable pub read_after : List ℕ → List ℕ → Writes → ℕ → Bus → Got ℕ
 read_after answers memory w a b =
     cond (is_register a) (ask_of answers a false b) (got (written_over w a (memory_byte memory a)) b)

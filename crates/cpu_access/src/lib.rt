@@ -46,32 +46,17 @@ pub struct Bus {
     pub address: u16,
 }
 
-// A byte that was read.
+// A byte that was read, or two as an address.
 #[derive(Clone, Copy)]
-pub struct Got {
-    pub value: u8,
+pub struct Got<T> {
+    pub value: T,
     pub bus: Bus,
 }
 
-// Two bytes that were read, as an address.
+// A byte of the instruction, or two as an address, and PC past them.
 #[derive(Clone, Copy)]
-pub struct GotAddress {
-    pub value: u16,
-    pub bus: Bus,
-}
-
-// A byte of the instruction, and PC past it.
-#[derive(Clone, Copy)]
-pub struct Fetched {
-    pub value: u8,
-    pub pc: u16,
-    pub bus: Bus,
-}
-
-// Two bytes of the instruction, and PC past them.
-#[derive(Clone, Copy)]
-pub struct FetchedAddress {
-    pub value: u16,
+pub struct Fetched<T> {
+    pub value: T,
     pub pc: u16,
     pub bus: Bus,
 }
@@ -117,7 +102,7 @@ impl Bus {
     }
 
     // A read of a register: the next answer, or the question.
-    pub fn ask(self, answers: &[u8], address: u16, modify: bool) -> Got
+    pub fn ask(self, answers: &[u8], address: u16, modify: bool) -> Got<u8>
         ensures { result ≡ ask_of answers.now address modify self }
     {
         let used = self.used;
@@ -126,9 +111,7 @@ impl Bus {
                 value: answers[used],
                 bus: Bus {
                     used: used + 1,
-                    missing: self.missing,
-                    modify: self.modify,
-                    address: self.address,
+                    ..self
                 },
             };
         }
@@ -141,16 +124,16 @@ impl Bus {
         Got {
             value: 0,
             bus: Bus {
-                used: used,
                 missing: true,
-                modify: modify,
-                address: address,
+                modify,
+                address,
+                ..self
             },
         }
     }
 
     // A read at any address.
-    pub fn read(self, answers: &[u8], memory: &[u8], address: u16, modify: bool) -> Got
+    pub fn read(self, answers: &[u8], memory: &[u8], address: u16, modify: bool) -> Got<u8>
         ensures { result ≡ read_of answers.now memory.now address modify self }
     {
         if is_register(address) {
@@ -163,44 +146,39 @@ impl Bus {
     }
 
     // A low byte, then a high byte.
-    pub fn read_address(self, answers: &[u8], memory: &[u8], low: u16, high: u16) -> GotAddress
+    pub fn read_address(self, answers: &[u8], memory: &[u8], low: u16, high: u16) -> Got<u16>
         ensures { result ≡ read_address answers.now memory.now low high self }
     {
         let lower = self.read(answers, memory, low, false);
-        let between = lower.bus;
-        let upper = between.read(answers, memory, high, false);
-        let after = upper.bus;
-        GotAddress {
+        let upper = lower.bus.read(answers, memory, high, false);
+        Got {
             value: bits::word16(upper.value, lower.value),
-            bus: after,
+            bus: upper.bus,
         }
     }
 
     // The byte at PC.
-    pub fn fetch(self, answers: &[u8], memory: &[u8], pc: u16) -> Fetched
+    pub fn fetch(self, answers: &[u8], memory: &[u8], pc: u16) -> Fetched<u8>
         ensures { result ≡ fetch_of answers.now memory.now pc self }
     {
         let got = self.read(answers, memory, pc, false);
-        let after = got.bus;
         Fetched {
             value: got.value,
             pc: next_address(pc),
-            bus: after,
+            bus: got.bus,
         }
     }
 
     // The two bytes at PC, low byte first.
-    pub fn fetch_address(self, answers: &[u8], memory: &[u8], pc: u16) -> FetchedAddress
+    pub fn fetch_address(self, answers: &[u8], memory: &[u8], pc: u16) -> Fetched<u16>
         ensures { result ≡ fetch_address answers.now memory.now pc self }
     {
         let lower = self.fetch(answers, memory, pc);
-        let between = lower.bus;
-        let upper = between.fetch(answers, memory, lower.pc);
-        let after = upper.bus;
-        FetchedAddress {
+        let upper = lower.bus.fetch(answers, memory, lower.pc);
+        Fetched {
             value: bits::word16(upper.value, lower.value),
             pc: upper.pc,
-            bus: after,
+            bus: upper.bus,
         }
     }
 }

@@ -22,18 +22,10 @@ pub struct Writes {
     pub third: Write,
 }
 
-// A byte that was pulled, and SP after it.
+// A byte that was pulled, or two as an address, and SP after them.
 #[derive(Clone, Copy)]
-pub struct Pulled {
-    pub value: u8,
-    pub sp: u8,
-    pub bus: Bus,
-}
-
-// Two bytes that were pulled, and SP after them.
-#[derive(Clone, Copy)]
-pub struct PulledAddress {
-    pub value: u16,
+pub struct Pulled<T> {
+    pub value: T,
     pub sp: u8,
     pub bus: Bus,
 }
@@ -63,13 +55,9 @@ pub fn one_write(address: u16, value: u8) -> Writes
     ensures { result ≡ one_write (write_at address value) }
 {
     let none = no_write();
-    let first = Write {
-        address: address,
-        value: value,
-    };
     Writes {
         count: 1,
-        first: first,
+        first: Write { address, value },
         second: none,
         third: none,
     }
@@ -100,10 +88,9 @@ pub fn up(sp: u8) -> u8
 pub fn push(sp: u8, value: u8) -> Write
     ensures { result ≡ push_at sp value }
 {
-    let address = stack_address(sp);
     Write {
-        address: address,
-        value: value,
+        address: stack_address(sp),
+        value,
     }
 }
 
@@ -151,36 +138,33 @@ pub fn push_interrupt(sp: u8, pc: u16, p: u8) -> Writes
 
 impl Bus {
     // SP goes up first.
-    pub fn pull(self, answers: &[u8], memory: &[u8], sp: u8) -> Pulled
+    pub fn pull(self, answers: &[u8], memory: &[u8], sp: u8) -> Pulled<u8>
         ensures { result ≡ pull_of answers.now memory.now sp self }
     {
         let above = up(sp);
         let got = self.read(answers, memory, stack_address(above), false);
-        let after = got.bus;
         Pulled {
             value: got.value,
             sp: above,
-            bus: after,
+            bus: got.bus,
         }
     }
 
     // PC pulled, low byte first.
-    pub fn pull_address(self, answers: &[u8], memory: &[u8], sp: u8) -> PulledAddress
+    pub fn pull_address(self, answers: &[u8], memory: &[u8], sp: u8) -> Pulled<u16>
         ensures { result ≡ pull_address answers.now memory.now sp self }
     {
         let lower = self.pull(answers, memory, sp);
-        let between = lower.bus;
-        let upper = between.pull(answers, memory, lower.sp);
-        let after = upper.bus;
-        PulledAddress {
+        let upper = lower.bus.pull(answers, memory, lower.sp);
+        Pulled {
             value: bits::word16(upper.value, lower.value),
             sp: upper.sp,
-            bus: after,
+            bus: upper.bus,
         }
     }
 
     // A read at any address after writes that are not yet in memory.
-    pub fn read_after(self, answers: &[u8], memory: &[u8], writes: Writes, address: u16) -> Got
+    pub fn read_after(self, answers: &[u8], memory: &[u8], writes: Writes, address: u16) -> Got<u8>
         ensures { result ≡ read_after answers.now memory.now writes address self }
     {
         if is_register(address) {

@@ -5,15 +5,15 @@ ghost use Rattle.cpu_alu.specs.Arithmetic.{overflow, add_binary, low_sum, correc
 ghost use Rattle.cpu_alu.specs.Arithmetic.{low_difference, borrowed, decimal_difference, sbc_of, compare_of};
 
 use crate::{Computed, Status};
-use bits::one_where;
+use bits::{bit8, one_where};
 
 // V: operands of one sign and a result of the other.
 fn overflow(a: u8, m: u8, res: u8) -> bool
     ensures { result ≡ overflow a m res }
 {
-    let x = a / 128 % 2 == 1;
-    let y = m / 128 % 2 == 1;
-    let z = res / 128 % 2 == 1;
+    let x = bit8(a, 7);
+    let y = bit8(m, 7);
+    let z = bit8(res, 7);
     (x == y) & (x != z)
 }
 
@@ -24,14 +24,13 @@ fn add_binary(a: u8, m: u8, status: Status) -> Computed
     let value = (sum % 256) as u8;
     let v = overflow(a, m, value);
     Computed {
-        value: value,
+        value,
         status: Status {
-            n: value / 128 % 2 == 1,
-            v: v,
-            d: status.d,
-            i: status.i,
+            n: bit8(value, 7),
+            v,
             z: value == 0,
             c: 256 <= sum,
+            ..status
         },
     }
 }
@@ -63,12 +62,11 @@ fn add_decimal(a: u8, m: u8, status: Status) -> Computed
     Computed {
         value: (total % 256) as u8,
         status: Status {
-            n: seen / 128 % 2 == 1,
-            v: v,
-            d: status.d,
-            i: status.i,
-            z: z,
+            n: bit8(seen, 7),
+            v,
+            z,
             c: 0x100 <= total,
+            ..status
         },
     }
 }
@@ -114,10 +112,9 @@ pub fn sbc(a: u8, m: u8, status: Status) -> Computed
 {
     let binary = add_binary(a, 255 - m, status);
     if status.d {
-        let flags = binary.status;
         Computed {
             value: subtract_decimal(a, m, status.c),
-            status: flags,
+            ..binary
         }
     } else {
         binary
@@ -128,13 +125,11 @@ pub fn sbc(a: u8, m: u8, status: Status) -> Computed
 pub fn compare(register: u8, m: u8, status: Status) -> Status
     ensures { result ≡ compare_of register m status }
 {
-    let difference = ((register as u16 + (256 - m as u16)) % 256) as u8;
+    let difference = register.wrapping_sub(m);
     Status {
-        n: difference / 128 % 2 == 1,
-        v: status.v,
-        d: status.d,
-        i: status.i,
+        n: bit8(difference, 7),
         z: difference == 0,
         c: m <= register,
+        ..status
     }
 }

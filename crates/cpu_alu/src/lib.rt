@@ -1,10 +1,10 @@
 // The arithmetic and logic unit: what an instruction computes of bytes and flags. Pure functions, one equation each.
 #![tactic(auto)]
 
-ghost use Rattle.std.specs.Prelude.{◌≡◌, true, false};
+ghost use Rattle.std.specs.Prelude.{◌≡◌};
 ghost use Rattle.cpu_alu.specs.Status.{packed, unpacked, pushed, with_nz, with_v, with_d, with_i, with_c, computed};
 
-use bits::one_where;
+use bits::{bit8, one_where};
 
 pub mod arithmetic; // arithmetic.rt: ADC, SBC and the compares
 pub mod logic; // logic.rt: AND, ORA, EOR and BIT
@@ -28,38 +28,42 @@ pub struct Computed {
     pub status: Status,
 }
 
-impl Status {
-    // The byte P of the machine's state.
-    pub fn pack(self) -> u8
-        ensures { result ≡ packed self }
-    {
-        one_where(self.n) * 128
-            + one_where(self.v) * 64
-            + one_where(self.d) * 8
-            + one_where(self.i) * 4
-            + one_where(self.z) * 2
-            + one_where(self.c)
-    }
+// The byte P of the machine's state.
+impl From<Status> for u8 {
+    ghost from_gives = { λ status p. p ≡ packed status };
 
-    // The flags of a byte that was pulled, or of P.
-    pub fn unpack(p: u8) -> Status
-        ensures { result ≡ unpacked p }
-    {
+    fn from(status: Status) -> u8 {
+        one_where(status.n) * 128
+            + one_where(status.v) * 64
+            + one_where(status.d) * 8
+            + one_where(status.i) * 4
+            + one_where(status.z) * 2
+            + one_where(status.c)
+    }
+}
+
+// The flags of a byte that was pulled, or of P.
+impl From<u8> for Status {
+    ghost from_gives = { λ p status. status ≡ unpacked p };
+
+    fn from(p: u8) -> Status {
         Status {
-            n: p / 128 % 2 == 1,
-            v: p / 64 % 2 == 1,
-            d: p / 8 % 2 == 1,
-            i: p / 4 % 2 == 1,
-            z: p / 2 % 2 == 1,
-            c: p % 2 == 1,
+            n: bit8(p, 7),
+            v: bit8(p, 6),
+            d: bit8(p, 3),
+            i: bit8(p, 2),
+            z: bit8(p, 1),
+            c: bit8(p, 0),
         }
     }
+}
 
+impl Status {
     // The byte that is pushed: by PHP and BRK, or by an interrupt.
     pub fn pushed(self, brk: bool) -> u8
         ensures { result ≡ pushed self brk }
     {
-        self.pack() + 32 + one_where(brk) * 16
+        u8::from(self) + 32 + one_where(brk) * 16
     }
 
     // N and Z of a value: loads, transfers and pulls.
@@ -67,61 +71,38 @@ impl Status {
         ensures { result ≡ with_nz value self }
     {
         Status {
-            n: value / 128 % 2 == 1,
-            v: self.v,
-            d: self.d,
-            i: self.i,
+            n: bit8(value, 7),
             z: value == 0,
-            c: self.c,
+            ..self
         }
     }
 
-    pub fn clc(mut self) -> Status
-        ensures { result ≡ with_c false self }
+    // One flag as given, the others kept.
+    pub fn with_v(mut self, on: bool) -> Status
+        ensures { result ≡ with_v on self }
     {
-        self.c = false;
+        self.v = on;
         self
     }
 
-    pub fn cld(mut self) -> Status
-        ensures { result ≡ with_d false self }
+    pub fn with_d(mut self, on: bool) -> Status
+        ensures { result ≡ with_d on self }
     {
-        self.d = false;
+        self.d = on;
         self
     }
 
-    pub fn cli(mut self) -> Status
-        ensures { result ≡ with_i false self }
+    pub fn with_i(mut self, on: bool) -> Status
+        ensures { result ≡ with_i on self }
     {
-        self.i = false;
+        self.i = on;
         self
     }
 
-    pub fn clv(mut self) -> Status
-        ensures { result ≡ with_v false self }
+    pub fn with_c(mut self, on: bool) -> Status
+        ensures { result ≡ with_c on self }
     {
-        self.v = false;
-        self
-    }
-
-    pub fn sec(mut self) -> Status
-        ensures { result ≡ with_c true self }
-    {
-        self.c = true;
-        self
-    }
-
-    pub fn sed(mut self) -> Status
-        ensures { result ≡ with_d true self }
-    {
-        self.d = true;
-        self
-    }
-
-    pub fn sei(mut self) -> Status
-        ensures { result ≡ with_i true self }
-    {
-        self.i = true;
+        self.c = on;
         self
     }
 }
@@ -131,7 +112,7 @@ fn resulting(value: u8, status: Status) -> Computed
     ensures { result ≡ computed value status }
 {
     Computed {
-        value: value,
+        value,
         status: status.with_nz(value),
     }
 }

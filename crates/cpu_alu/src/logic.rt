@@ -3,6 +3,7 @@ ghost use Rattle.std.specs.Prelude.{◌≡◌};
 ghost use Rattle.cpu_alu.specs.Logic.{and_of, ora_of, eor_of, bit_of};
 
 use crate::{Computed, Status, resulting};
+use bits::bit8;
 
 pub fn and(a: u8, m: u8, status: Status) -> Computed
     ensures { result ≡ and_of a m status }
@@ -27,11 +28,9 @@ pub fn bit_test(a: u8, m: u8, status: Status) -> Status
     ensures { result ≡ bit_of a m status }
 {
     Status {
-        n: m / 128 % 2 == 1,
-        v: m / 64 % 2 == 1,
-        d: status.d,
-        i: status.i,
+        n: bit8(m, 7),
+        v: bit8(m, 6),
         z: a & m == 0,
-        c: status.c,
+        ..status
     }
 }

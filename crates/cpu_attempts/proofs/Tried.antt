@@ -333,7 +333,7 @@ module _ (halt : Option ℕ) (span : ℕ) (w : Work) (memory : List ℕ) (inside
       read_only operation.Nop Implied n d _ _ (ap (λ (k : ℕ). Done (worked_out behind Nothing k)) (add-zero n))
 
   -- JSR
-  abbrev lower : Fetched
+  abbrev lower : Fetched ℕ
   lower = fetch_of [] memory (next_address w.registers.pc) unasked
 
   jsr_done : (n : ℕ) → (jsr_upper memory w lower).bus.missing ≡ false
@@ -369,7 +369,7 @@ module _ (halt : Option ℕ) (span : ℕ) (w : Work) (memory : List ℕ) (inside
       failed_or_same (pull_address [] memory w.registers.sp unasked).bus.missing _
       (λ b. read_only operation.Rts Implied n d _ _ (return_done n b))
 
-  abbrev status : Pulled
+  abbrev status : Pulled ℕ
   status = pull_of [] memory w.registers.sp unasked
 
   resume_done : (n : ℕ) → (pull_address [] memory status.sp status.bus).bus.missing ≡ false

@@ -16,7 +16,6 @@ use Rattle.cpu_access.specs.declared.stack.Writes.{Writes}
 use Rattle.cpu_access.specs.declared.Fetched.{Fetched}
 use Rattle.cpu_access.specs.declared.Got.{Got}
 use Rattle.cpu_access.specs.declared.stack.Pulled.{Pulled}
-use Rattle.cpu_access.specs.declared.stack.PulledAddress.{PulledAddress}
 use Rattle.cpu_alu.specs.declared.Computed.{Computed}
 use Rattle.cpu_alu.specs.declared.Status.{Status}
 use Rattle.cpu_alu.specs.Status.{unpacked}
@@ -149,7 +148,7 @@ push_memory halt w v memory =
     (committed memory (one_write (push_at w.registers.sp v)))
 
 -- PLA and PLP
-abbrev pub pulled_attempt : PullOperation → Work → ℕ → ℕ → Pulled → Attempt
+abbrev pub pulled_attempt : PullOperation → Work → ℕ → ℕ → Pulled ℕ → Attempt
 pulled_attempt o w pc n p =
     cond p.bus.missing (failed_attempt w)
     (started_next w (with_pulled o (with_sp p.sp (with_pc pc w.registers)) p.value) n)
@@ -158,18 +157,18 @@ unfoldable pub pull_tried : PullOperation → Work → List ℕ → ℕ → ℕ 
 pull_tried o w memory pc n = pulled_attempt o w pc n (pull_of [] memory w.registers.sp unasked)
 
 -- JSR
-abbrev pub jsr_pushes : Work → Fetched → Writes
+abbrev pub jsr_pushes : Work → Fetched ℕ → Writes
 jsr_pushes w l = push_address w.registers.sp l.pc
 
-abbrev pub jsr_upper : List ℕ → Work → Fetched → Got
+abbrev pub jsr_upper : List ℕ → Work → Fetched ℕ → Got ℕ
 jsr_upper memory w l = read_after [] memory (jsr_pushes w l) l.pc l.bus
 
-abbrev pub jsr_attempt : Option ℕ → Work → ℕ → Fetched → Got → Attempt
+abbrev pub jsr_attempt : Option ℕ → Work → ℕ → Fetched ℕ → Got ℕ → Attempt
 jsr_attempt halt w n l u =
     cond (u.bus.missing || ends_span halt (jsr_pushes w l)) (failed_attempt w)
     (started_next w (with_pc (word16 u.value l.value) (with_sp (down (down w.registers.sp)) w.registers)) n)
 
-abbrev pub jsr_bytes : Option ℕ → Work → List ℕ → Fetched → Got → List ℕ
+abbrev pub jsr_bytes : Option ℕ → Work → List ℕ → Fetched ℕ → Got ℕ → List ℕ
 jsr_bytes halt w memory l u =
     cond (u.bus.missing || ends_span halt (jsr_pushes w l)) memory (committed memory (jsr_pushes w l))
 
@@ -182,7 +181,7 @@ jsr_memory halt w memory pc =
     jsr_bytes halt w memory (fetch_of [] memory pc unasked) (jsr_upper memory w (fetch_of [] memory pc unasked))
 
 -- RTS
-abbrev pub return_attempt : Work → ℕ → PulledAddress → Attempt
+abbrev pub return_attempt : Work → ℕ → Pulled ℕ → Attempt
 return_attempt w n p =
     cond p.bus.missing (failed_attempt w)
     (started_next w (with_pc (next_address p.value) (with_sp p.sp w.registers)) n)
@@ -191,12 +190,12 @@ unfoldable pub return_tried : Work → List ℕ → ℕ → Attempt
 return_tried w memory n = return_attempt w n (pull_address [] memory w.registers.sp unasked)
 
 -- RTI
-abbrev pub resume_attempt : Work → ℕ → Status → PulledAddress → Attempt
+abbrev pub resume_attempt : Work → ℕ → Status → Pulled ℕ → Attempt
 resume_attempt w n s p =
     cond p.bus.missing (failed_attempt w)
     (started_next w (with_pc p.value (with_status s (with_sp p.sp w.registers))) n)
 
-abbrev pub resume_after : Work → List ℕ → ℕ → Pulled → Attempt
+abbrev pub resume_after : Work → List ℕ → ℕ → Pulled ℕ → Attempt
 resume_after w memory n p = resume_attempt w n (unpacked p.value) (pull_address [] memory p.sp p.bus)
 
 unfoldable pub interrupt_return_tried : Work → List ℕ → ℕ → Attempt

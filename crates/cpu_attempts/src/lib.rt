@@ -47,7 +47,7 @@ pub fn started_next(w: Work, registers: CpuRegisters, length: u8) -> Attempt
 {
     let work = Work {
         registers: with_pc(registers, registers.pc),
-        wait: bits::one_less(length),
+        wait: length.saturating_sub(1),
         gone: Clocks(w.gone.0 + w.wait as u32 + 1),
         leaps: w.leaps + 1,
     };

@@ -11,14 +11,13 @@ use Rattle.cpu_access.specs.declared.CpuRegisters.{CpuRegisters}
 use Rattle.cpu_modes.specs.declared.Place.{Place}
 use Rattle.cpu_access.specs.declared.stack.Writes.{Writes}
 use Rattle.cpu_access.specs.declared.stack.Pulled.{Pulled}
-use Rattle.cpu_access.specs.declared.stack.PulledAddress.{PulledAddress}
 use Rattle.cpu_access.specs.Bus.{irq_vector, next_address, vector_of, fetch_of}
 use Rattle.cpu_access.specs.Stack.{write_at, no_writes, one_write, down, push_at, push_interrupt, pull_of, pull_address}
 use Rattle.cpu_modes.specs.Modes.{relative_to}
 use Rattle.cpu_effects.specs.declared.Worked.{Worked}
 use Rattle.cpu_effects.specs.declared.Writing.{Writing}
 use Rattle.cpu_effects.specs.declared.Writing.TheVariants.{Nothing, Pushed, Stored}
-use Rattle.cpu_effects.specs.declared.Operand.{Operand}
+use Rattle.cpu_effects.specs.Operand.{Operand}
 use Rattle.cpu_effects.specs.declared.Executed.{Executed}
 -- with what is left go the registers set anew
 pub use Rattle.cpu_kinds.specs.Updates.{with_sp, with_pc, with_status, into_a, into_x, into_y, load_a, load_x, load_y}
@@ -87,24 +86,24 @@ unfoldable pub pushed_byte : Operand → CpuRegisters → ℕ → Executed
 pushed_byte o r v = executed (with_sp (down r.sp) r) (Pushed (one_write (push_at r.sp v))) o.length o.bus
 
 -- PLA and PLP: SP goes up, and the byte there is pulled
-abbrev pub pulled_to : PullOperation → Operand → CpuRegisters → Pulled → Executed
+abbrev pub pulled_to : PullOperation → Operand → CpuRegisters → Pulled ℕ → Executed
 pulled_to operation o r p = read_only (with_pulled operation (with_sp p.sp r) p.value) o.length p.bus
 
 unfoldable pub pulled_byte : List ℕ → List ℕ → PullOperation → Operand → CpuRegisters → Executed
 pulled_byte answers memory operation o r = pulled_to operation o r (pull_of answers memory r.sp o.bus)
 
 -- RTS: PC is what was pulled, plus 1
-abbrev pub return_to : Operand → CpuRegisters → PulledAddress → Executed
+abbrev pub return_to : Operand → CpuRegisters → Pulled ℕ → Executed
 return_to o r w = read_only (with_pc (next_address w.value) (with_sp w.sp r)) o.length w.bus
 
 unfoldable pub returned : List ℕ → List ℕ → Operand → CpuRegisters → Executed
 returned answers memory o r = return_to o r (pull_address answers memory r.sp o.bus)
 
 -- RTI: the status is pulled, then PC
-abbrev pub resume_at : Operand → CpuRegisters → Status → PulledAddress → Executed
+abbrev pub resume_at : Operand → CpuRegisters → Status → Pulled ℕ → Executed
 resume_at o r s w = read_only (with_pc w.value (with_status s (with_sp w.sp r))) o.length w.bus
 
-abbrev pub resume_with : List ℕ → List ℕ → Operand → CpuRegisters → Pulled → Executed
+abbrev pub resume_with : List ℕ → List ℕ → Operand → CpuRegisters → Pulled ℕ → Executed
 resume_with answers memory o r p = resume_at o r (unpacked p.value) (pull_address answers memory p.sp p.bus)
 
 unfoldable pub returned_from_interrupt : List ℕ → List ℕ → Operand → CpuRegisters → Executed

@@ -1,8 +1,9 @@
 // What an instruction leaves, by kind: the registers, what it writes, and the clocks that it takes.
-ghost use Rattle.std.specs.Prelude.{◌≡◌, ◌≤◌};
+ghost use Rattle.std.specs.Prelude.{◌≡◌};
 ghost use Rattle.cpu_effects.specs.Effects.{executed, read_only, completed, stored, modified, branched};
 ghost use Rattle.cpu_effects.specs.Effects.{bit_branched, jumped, pushed_byte, pulled_byte, returned};
 ghost use Rattle.cpu_effects.specs.Effects.{returned_from_interrupt, interrupted, break_taken};
+ghost use Rattle.cpu_effects.specs.Operand.{operand};
 
 use crate::{Executed, Operand, Worked, Writing};
 use cpu_access::stack::{Write, down, one_write};
@@ -15,14 +16,13 @@ use cpu_opcodes::operation::PullOperation;
 pub fn executed_with(registers: CpuRegisters, writing: Writing, length: u8, bus: Bus) -> Executed
     ensures { result ≡ executed registers writing length bus }
 {
-    let worked = Worked {
-        registers: registers,
-        writing: writing,
-        length: length,
-    };
     Executed {
-        worked: worked,
-        bus: bus,
+        worked: Worked {
+            registers,
+            writing,
+            length,
+        },
+        bus,
     }
 }
 
@@ -35,48 +35,41 @@ fn read_only(registers: CpuRegisters, length: u8, bus: Bus) -> Executed
 
 // A byte was read, or none: one clock more where indexing crossed a page.
 pub fn completed(o: Operand, registers: CpuRegisters) -> Executed
-    requires { o.length ≤ 7 }
-    ensures { result ≡ completed o registers }
+    ensures { result ≡ completed (operand o) registers }
 {
-    let bus = o.bus;
-    read_only(registers, o.length + bits::one_where(o.crossed), bus)
+    read_only(registers, o.length + bits::one_where(o.crossed), o.bus)
 }
 
 // A byte is stored at the operand's address.
 pub fn stored(o: Operand, registers: CpuRegisters, value: u8) -> Executed
-    ensures { result ≡ stored o registers value }
+    ensures { result ≡ stored (operand o) registers value }
 {
-    let bus = o.bus;
     let store = Write {
         address: o.address,
-        value: value,
+        value,
     };
-    executed_with(registers, Writing::Stored(store), o.length, bus)
+    executed_with(registers, Writing::Stored(store), o.length, o.bus)
 }
 
 // A byte that was read and changed goes back to where it came from.
 pub fn modified(o: Operand, registers: CpuRegisters, computed: Computed) -> Executed
-    ensures { result ≡ modified o registers computed }
+    ensures { result ≡ modified (operand o) registers computed }
 {
     if o.accumulator {
-        let bus = o.bus;
-        return read_only(into_a(registers, computed), o.length, bus);
+        return read_only(into_a(registers, computed), o.length, o.bus);
     }
-    let status = computed.status;
-    stored(o, with_status(registers, status), computed.value)
+    stored(o, with_status(registers, computed.status), computed.value)
 }
 
 // A branch: one clock more where it is taken, two where its target lies in another page.
 pub fn branched(o: Operand, registers: CpuRegisters, taken: bool) -> Executed
-    requires { o.length ≤ 7 }
-    ensures { result ≡ branched o registers taken }
+    ensures { result ≡ branched (operand o) registers taken }
 {
-    let bus = o.bus;
     if taken {
         let length = o.length + 1 + bits::one_where(o.crossed);
-        return read_only(with_pc(registers, o.address), length, bus);
+        return read_only(with_pc(registers, o.address), length, o.bus);
     }
-    read_only(registers, o.length, bus)
+    read_only(registers, o.length, o.bus)
 }
 
 // BBR and BBS: the offset is fetched after the tested byte.
@@ -87,42 +80,37 @@ pub fn bit_branched(
     registers: CpuRegisters,
     taken: bool,
 ) -> Executed
-    requires { o.length ≤ 7 }
-    ensures { result ≡ bit_branched answers.now memory.now o registers taken }
+    ensures { result ≡ bit_branched answers.now memory.now (operand o) registers taken }
 {
-    let before = o.bus;
-    let place = cpu_modes::relative(before.fetch(answers, memory, registers.pc));
-    let after = place.bus;
+    let place = cpu_modes::relative(o.bus.fetch(answers, memory, registers.pc));
     let branch = Operand {
         address: place.address,
         value: o.value,
         crossed: place.crossed,
         accumulator: false,
         length: o.length,
-        bus: after,
+        bus: place.bus,
     };
     branched(branch, with_pc(registers, place.pc), taken)
 }
 
 pub fn jumped(o: Operand, registers: CpuRegisters) -> Executed
-    ensures { result ≡ jumped o registers }
+    ensures { result ≡ jumped (operand o) registers }
 {
-    let bus = o.bus;
-    read_only(with_pc(registers, o.address), o.length, bus)
+    read_only(with_pc(registers, o.address), o.length, o.bus)
 }
 
 // PHA and PHP.
 pub fn pushed_byte(o: Operand, registers: CpuRegisters, value: u8) -> Executed
-    ensures { result ≡ pushed_byte o registers value }
+    ensures { result ≡ pushed_byte (operand o) registers value }
 {
-    let bus = o.bus;
     let sp = registers.sp;
     let pushes = one_write(cpu_access::stack::stack_address(sp), value);
     executed_with(
         with_sp(registers, down(sp)),
         Writing::Pushed(pushes),
         o.length,
-        bus,
+        o.bus,
     )
 }
 
@@ -134,28 +122,28 @@ pub fn pulled_byte(
     o: Operand,
     registers: CpuRegisters,
 ) -> Executed
-    ensures { result ≡ pulled_byte answers.now memory.now operation o registers }
+    ensures { result ≡ pulled_byte answers.now memory.now operation (operand o) registers }
 {
-    let before = o.bus;
-    let pulled = before.pull(answers, memory, registers.sp);
-    let after = pulled.bus;
+    let pulled = o.bus.pull(answers, memory, registers.sp);
     let stacked = with_sp(registers, pulled.sp);
     read_only(
         with_pulled(operation, stacked, pulled.value),
         o.length,
-        after,
+        pulled.bus,
     )
 }
 
 // RTS.
 pub fn returned(answers: &[u8], memory: &[u8], o: Operand, registers: CpuRegisters) -> Executed
-    ensures { result ≡ returned answers.now memory.now o registers }
+    ensures { result ≡ returned answers.now memory.now (operand o) registers }
 {
-    let before = o.bus;
-    let pulled = before.pull_address(answers, memory, registers.sp);
-    let after = pulled.bus;
+    let pulled = o.bus.pull_address(answers, memory, registers.sp);
     let pc = cpu_access::next_address(pulled.value);
-    read_only(with_pc(with_sp(registers, pulled.sp), pc), o.length, after)
+    read_only(
+        with_pc(with_sp(registers, pulled.sp), pc),
+        o.length,
+        pulled.bus,
+    )
 }
 
 // RTI.
@@ -165,16 +153,13 @@ pub fn returned_from_interrupt(
     o: Operand,
     registers: CpuRegisters,
 ) -> Executed
-    ensures { result ≡ returned_from_interrupt answers.now memory.now o registers }
+    ensures { result ≡ returned_from_interrupt answers.now memory.now (operand o) registers }
 {
-    let before = o.bus;
-    let p = before.pull(answers, memory, registers.sp);
-    let between = p.bus;
-    let status = Status::unpack(p.value);
-    let pulled = between.pull_address(answers, memory, p.sp);
-    let after = pulled.bus;
+    let p = o.bus.pull(answers, memory, registers.sp);
+    let status = Status::from(p.value);
+    let pulled = p.bus.pull_address(answers, memory, p.sp);
     let back = with_status(with_sp(registers, pulled.sp), status);
-    read_only(with_pc(back, pulled.value), o.length, after)
+    read_only(with_pc(back, pulled.value), o.length, pulled.bus)
 }
 
 // PC and P are pushed, I is set, and PC comes from the vector: BRK, NMI and IRQ. `p` is P as it is pushed.
@@ -183,8 +168,7 @@ pub fn interrupted(memory: &[u8], vector: u16, p: u8, registers: CpuRegisters) -
 {
     let sp = registers.sp;
     let pushes = cpu_access::stack::push_interrupt(sp, registers.pc, p);
-    let before = registers.status;
-    let masked = with_status(registers, before.sei());
+    let masked = with_status(registers, registers.status.with_i(true));
     let stacked = with_sp(masked, down(down(down(sp))));
     let entered = with_pc(stacked, cpu_access::vector(memory, vector));
     Worked {
@@ -196,14 +180,14 @@ pub fn interrupted(memory: &[u8], vector: u16, p: u8, registers: CpuRegisters) -
 
 // BRK: it skips a byte that it does not read.
 pub fn break_taken(memory: &[u8], o: Operand, registers: CpuRegisters) -> Executed
-    ensures { result ≡ break_taken memory.now o registers }
+    ensures { result ≡ break_taken memory.now (operand o) registers }
 {
-    let bus = o.bus;
-    let status = registers.status;
     let skipped = with_pc(registers, cpu_access::next_address(registers.pc));
-    let worked = interrupted(memory, cpu_access::IRQ_VECTOR, status.pushed(true), skipped);
-    Executed {
-        worked: worked,
-        bus: bus,
-    }
+    let worked = interrupted(
+        memory,
+        cpu_access::IRQ_VECTOR,
+        registers.status.pushed(true),
+        skipped,
+    );
+    Executed { worked, bus: o.bus }
 }

@@ -8,6 +8,9 @@ use cpu_access::stack::{Write, Writes, no_writes};
 use cpu_access::{Bus, CpuRegisters};
 
 pub mod effects; // effects.rt: what an instruction leaves, by kind
+mod operands; // operands.rt: the operand of an instruction
+
+pub use operands::Operand;
 
 // What an instruction or an entry writes: nothing, pushes in their order, or one store; never pushes and a store.
 #[derive(Clone, Copy)]
@@ -23,17 +26,6 @@ pub struct Worked {
     pub registers: CpuRegisters,
     pub writing: Writing,
     pub length: u8,
-}
-
-// The operand of an instruction, its byte read where the operation reads one; of a branch the address is the target.
-#[derive(Clone, Copy)]
-pub struct Operand {
-    pub address: u16,
-    pub value: u8,
-    pub crossed: bool,
-    pub accumulator: bool,
-    pub length: u8,
-    pub bus: Bus,
 }
 
 // An instruction worked to its end, with what it asked for.

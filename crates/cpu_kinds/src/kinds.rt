@@ -36,10 +36,7 @@ pub fn with_read(operation: ReadOperation, r: CpuRegisters, value: u8) -> CpuReg
 fn flags_kept(value: u8, status: Status) -> Computed
     ensures { result ≡ flags_kept value status }
 {
-    Computed {
-        value: value,
-        status: status,
-    }
+    Computed { value, status }
 }
 
 // The byte that goes back, with the flags.
@@ -108,7 +105,7 @@ pub fn with_pulled(operation: PullOperation, r: CpuRegisters, value: u8) -> CpuR
 {
     match operation {
         PullOperation::Pla => load_a(r, value),
-        PullOperation::Plp => with_status(r, Status::unpack(value)),
+        PullOperation::Plp => with_status(r, Status::from(value)),
     }
 }
 
@@ -134,12 +131,12 @@ pub fn with_flag(operation: FlagOperation, status: Status) -> Status
     ensures { result ≡ with_flag operation status }
 {
     match operation {
-        FlagOperation::Clc => status.clc(),
-        FlagOperation::Cld => status.cld(),
-        FlagOperation::Cli => status.cli(),
-        FlagOperation::Clv => status.clv(),
-        FlagOperation::Sec => status.sec(),
-        FlagOperation::Sed => status.sed(),
-        FlagOperation::Sei => status.sei(),
+        FlagOperation::Clc => status.with_c(false),
+        FlagOperation::Cld => status.with_d(false),
+        FlagOperation::Cli => status.with_i(false),
+        FlagOperation::Clv => status.with_v(false),
+        FlagOperation::Sec => status.with_c(true),
+        FlagOperation::Sed => status.with_d(true),
+        FlagOperation::Sei => status.with_i(true),
     }
 }

@@ -126,7 +126,7 @@ pub fn plp(w: Work, memory: &[u8], pc: u16, length: u8) -> Attempt
     let stacked = with_sp(with_pc(w.registers, pc), pulled.sp);
     started_next(
         w,
-        with_status(stacked, Status::unpack(pulled.value)),
+        with_status(stacked, Status::from(pulled.value)),
         length,
     )
 }
@@ -187,7 +187,7 @@ pub fn return_from_interrupt(w: Work, memory: &[u8], length: u8) -> Attempt
     if pulled.bus.missing {
         return failed_attempt(w);
     }
-    let status = Status::unpack(p.value);
+    let status = Status::from(p.value);
     let back = with_status(with_sp(w.registers, pulled.sp), status);
     started_next(w, with_pc(back, pulled.value), length)
 }

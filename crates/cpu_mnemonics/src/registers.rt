@@ -100,7 +100,7 @@ pub fn clc(w: Work, pc: u16, length: u8) -> Attempt
     ensures { result ≡ flag_tried Clc w pc length }
 {
     let r = with_pc(w.registers, pc);
-    let flags = r.status.clc();
+    let flags = r.status.with_c(false);
     started_next(w, with_status(r, flags), length)
 }
 
@@ -109,7 +109,7 @@ pub fn cld(w: Work, pc: u16, length: u8) -> Attempt
     ensures { result ≡ flag_tried Cld w pc length }
 {
     let r = with_pc(w.registers, pc);
-    let flags = r.status.cld();
+    let flags = r.status.with_d(false);
     started_next(w, with_status(r, flags), length)
 }
 
@@ -118,7 +118,7 @@ pub fn cli(w: Work, pc: u16, length: u8) -> Attempt
     ensures { result ≡ flag_tried Cli w pc length }
 {
     let r = with_pc(w.registers, pc);
-    let flags = r.status.cli();
+    let flags = r.status.with_i(false);
     started_next(w, with_status(r, flags), length)
 }
 
@@ -127,7 +127,7 @@ pub fn clv(w: Work, pc: u16, length: u8) -> Attempt
     ensures { result ≡ flag_tried Clv w pc length }
 {
     let r = with_pc(w.registers, pc);
-    let flags = r.status.clv();
+    let flags = r.status.with_v(false);
     started_next(w, with_status(r, flags), length)
 }
 
@@ -136,7 +136,7 @@ pub fn sec(w: Work, pc: u16, length: u8) -> Attempt
     ensures { result ≡ flag_tried Sec w pc length }
 {
     let r = with_pc(w.registers, pc);
-    let flags = r.status.sec();
+    let flags = r.status.with_c(true);
     started_next(w, with_status(r, flags), length)
 }
 
@@ -145,7 +145,7 @@ pub fn sed(w: Work, pc: u16, length: u8) -> Attempt
     ensures { result ≡ flag_tried Sed w pc length }
 {
     let r = with_pc(w.registers, pc);
-    let flags = r.status.sed();
+    let flags = r.status.with_d(true);
     started_next(w, with_status(r, flags), length)
 }
 
@@ -154,7 +154,7 @@ pub fn sei(w: Work, pc: u16, length: u8) -> Attempt
     ensures { result ≡ flag_tried Sei w pc length }
 {
     let r = with_pc(w.registers, pc);
-    let flags = r.status.sei();
+    let flags = r.status.with_i(true);
     started_next(w, with_status(r, flags), length)
 }
 

@@ -66,7 +66,7 @@ module _ (P : ℕ → Bus → Type 0) (answers memory : List ℕ)
   pub fetch_address_keeps : (k pc : ℕ) (b : Bus) → P k b → P (suc (suc k)) (fetch_address answers memory pc b).bus
   unfolding fetch_address
   fetch_address_keeps k pc b h =
-      let f : Fetched = fetch_of answers memory pc b in
+      let f : Fetched ℕ = fetch_of answers memory pc b in
       fetch_keeps (suc k) f.pc f.bus (fetch_keeps k pc b h)
 
   pub pull_keeps : (k sp : ℕ) (b : Bus) → P k b → P (suc k) (pull_of answers memory sp b).bus
@@ -78,7 +78,7 @@ module _ (P : ℕ → Bus → Type 0) (answers memory : List ℕ)
   pull_address_keeps k sp b h =
       pull_keeps (suc k) (pull_of answers memory sp b).sp (pull_of answers memory sp b).bus (pull_keeps k sp b h)
 
-  pub relative_keeps : (k : ℕ) (f : Fetched) → P k f.bus → P k (relative_to f).bus
+  pub relative_keeps : (k : ℕ) (f : Fetched ℕ) → P k f.bus → P k (relative_to f).bus
   unfolding relative_to
   relative_keeps k f h = h
 

@@ -7,9 +7,8 @@ use Rattle.cpu_opcodes.specs.declared.Mode.TheVariants.{Implied, Accumulator, Im
 use Rattle.cpu_opcodes.specs.declared.Mode.TheVariants.{ZeroPageY, Absolute, AbsoluteX, AbsoluteY, IndexedIndirect}
 use Rattle.cpu_opcodes.specs.declared.Mode.TheVariants.{IndirectIndexed, Indirect, Relative, ZeroPageRelative}
 use Rattle.cpu_access.specs.declared.Bus.{Bus}
-use Rattle.cpu_access.specs.declared.GotAddress.{GotAddress}
+use Rattle.cpu_access.specs.declared.Got.{Got}
 use Rattle.cpu_access.specs.declared.Fetched.{Fetched}
-use Rattle.cpu_access.specs.declared.FetchedAddress.{FetchedAddress}
 use Rattle.cpu_access.specs.declared.CpuRegisters.{CpuRegisters}
 use Rattle.cpu_modes.specs.declared.Place.{Place}
 use Rattle.cpu_access.specs.Bus.{next_address, read_address, fetch_of, fetch_address}
@@ -30,13 +29,13 @@ other_page a b = not (a / 256 == b / 256)
 abbrev pub zero_page_address : ℕ → ℕ → ℕ
 zero_page_address z i = wrapping8 z i
 
-abbrev pub at_zero_page : Fetched → Place
+abbrev pub at_zero_page : Fetched ℕ → Place
 at_zero_page f = place_at f.value f.pc f.bus
 
-abbrev pub at_zero_page_indexed : ℕ → Fetched → Place
+abbrev pub at_zero_page_indexed : ℕ → Fetched ℕ → Place
 at_zero_page_indexed i f = place_at (zero_page_address f.value i) f.pc f.bus
 
-abbrev pub at_absolute : FetchedAddress → Place
+abbrev pub at_absolute : Fetched ℕ → Place
 at_absolute f = place_at f.value f.pc f.bus
 
 -- an operand at a base plus an index, which may lie in another page than the base
@@ -46,26 +45,26 @@ crossing base a pc b = record { address = a; crossed = other_page base a; accumu
 unfoldable pub indexed_by : ℕ → ℕ → ℕ → Bus → Place
 indexed_by i base pc b = crossing base (wrapping16 base i) pc b
 
-abbrev pub at_indexed : ℕ → FetchedAddress → Place
+abbrev pub at_indexed : ℕ → Fetched ℕ → Place
 at_indexed i f = indexed_by i f.value f.pc f.bus
 
 -- the pointer in the zero page at z; its high byte stays in the zero page
-unfoldable pub zero_page_pointer : List ℕ → List ℕ → ℕ → Bus → GotAddress
+unfoldable pub zero_page_pointer : List ℕ → List ℕ → ℕ → Bus → Got ℕ
 zero_page_pointer answers memory z b = read_address answers memory z (wrapping8 z 1) b
 
-abbrev pub pointed : ℕ → GotAddress → Place
+abbrev pub pointed : ℕ → Got ℕ → Place
 pointed pc w = place_at w.value pc w.bus
 
-abbrev pub pointed_indexed : ℕ → ℕ → GotAddress → Place
+abbrev pub pointed_indexed : ℕ → ℕ → Got ℕ → Place
 pointed_indexed i pc w = indexed_by i w.value pc w.bus
 
 -- (zp,X): the pointer stands at the indexed address
-abbrev pub at_indexed_indirect : List ℕ → List ℕ → ℕ → Fetched → Place
+abbrev pub at_indexed_indirect : List ℕ → List ℕ → ℕ → Fetched ℕ → Place
 at_indexed_indirect answers memory x f =
     pointed f.pc (zero_page_pointer answers memory (zero_page_address f.value x) f.bus)
 
 -- (zp),Y: what the pointer gives is indexed
-abbrev pub at_indirect_indexed : List ℕ → List ℕ → ℕ → Fetched → Place
+abbrev pub at_indirect_indexed : List ℕ → List ℕ → ℕ → Fetched ℕ → Place
 at_indirect_indexed answers memory y f = pointed_indexed y f.pc (zero_page_pointer answers memory f.value f.bus)
 
 -- 02, U5, JMP indirect: "the high byte comes from the start of that same page" where the pointer ends in FFh, else from
@@ -73,7 +72,7 @@ at_indirect_indexed answers memory y f = pointed_indexed y f.pc (zero_page_point
 abbrev pub second_address : ℕ → ℕ
 second_address p = word16 (high_byte p) (wrapping8 (low_byte p) 1)
 
-abbrev pub at_indirect : List ℕ → List ℕ → FetchedAddress → Place
+abbrev pub at_indirect : List ℕ → List ℕ → Fetched ℕ → Place
 at_indirect answers memory f =
     pointed f.pc (read_address answers memory f.value (second_address f.value) f.bus)
 
@@ -85,7 +84,7 @@ displacement offset = cond (nat_lt offset 128) offset (offset + 0xFF00)
 abbrev pub branch_to : ℕ → ℕ → Bus → Place
 branch_to a pc b = crossing pc a pc b
 
-unfoldable pub relative_to : Fetched → Place
+unfoldable pub relative_to : Fetched ℕ → Place
 relative_to f = branch_to (wrapping16 f.pc (displacement f.value)) f.pc f.bus
 
 -- the place of an instruction's operand; PC stands behind the opcode

@@ -7,7 +7,7 @@ ghost use Rattle.cpu_modes.specs.Modes.{at_zero_page_indexed, at_absolute, at_in
 ghost use Rattle.cpu_modes.specs.Modes.{at_indirect_indexed, at_indirect, crossing, indexed_by, zero_page_pointer};
 ghost use Rattle.cpu_modes.specs.Modes.{second_address, displacement, relative_to, locate_of};
 
-use cpu_access::{Bus, CpuRegisters, Fetched, FetchedAddress, GotAddress, next_address};
+use cpu_access::{Bus, CpuRegisters, Fetched, Got, next_address};
 use cpu_opcodes::Mode;
 
 // Where an operand is; of a branch, its target.
@@ -24,11 +24,11 @@ fn place_at(address: u16, pc: u16, bus: Bus) -> Place
     ensures { result ≡ place_at address pc bus }
 {
     Place {
-        address: address,
+        address,
         crossed: false,
         accumulator: false,
-        pc: pc,
-        bus: bus,
+        pc,
+        bus,
     }
 }
 
@@ -38,9 +38,9 @@ fn no_place(accumulator: bool, pc: u16, bus: Bus) -> Place
     Place {
         address: 0,
         crossed: false,
-        accumulator: accumulator,
-        pc: pc,
-        bus: bus,
+        accumulator,
+        pc,
+        bus,
     }
 }
 
@@ -56,11 +56,11 @@ fn crossing(base: u16, address: u16, pc: u16, bus: Bus) -> Place
     ensures { result ≡ crossing base address pc bus }
 {
     Place {
-        address: address,
+        address,
         crossed: other_page(base, address),
         accumulator: false,
-        pc: pc,
-        bus: bus,
+        pc,
+        bus,
     }
 }
 
@@ -82,7 +82,7 @@ fn zero_page_address(z: u8, index: u8) -> u8
 }
 
 // The pointer in the zero page at z.
-fn zero_page_pointer(answers: &[u8], memory: &[u8], z: u8, bus: Bus) -> GotAddress
+fn zero_page_pointer(answers: &[u8], memory: &[u8], z: u8, bus: Bus) -> Got<u16>
     ensures { result ≡ zero_page_pointer answers.now memory.now z bus }
 {
     let high = std::num::wrapping_add_u8(z, 1);
@@ -109,70 +109,61 @@ fn displacement(offset: u8) -> u16
 }
 
 // A branch's target, by its offset, which was just fetched.
-pub fn relative(offset: Fetched) -> Place
+pub fn relative(offset: Fetched<u8>) -> Place
     ensures { result ≡ relative_to offset }
 {
-    let bus = offset.bus;
     let target = std::num::wrapping_add_u16(offset.pc, displacement(offset.value));
-    crossing(offset.pc, target, offset.pc, bus)
+    crossing(offset.pc, target, offset.pc, offset.bus)
 }
 
-pub fn at_zero_page(operand: Fetched) -> Place
+pub fn at_zero_page(operand: Fetched<u8>) -> Place
     ensures { result ≡ at_zero_page operand }
 {
-    let bus = operand.bus;
-    place_at(operand.value as u16, operand.pc, bus)
+    place_at(operand.value as u16, operand.pc, operand.bus)
 }
 
-pub fn at_zero_page_indexed(index: u8, operand: Fetched) -> Place
+pub fn at_zero_page_indexed(index: u8, operand: Fetched<u8>) -> Place
     ensures { result ≡ at_zero_page_indexed index operand }
 {
-    let bus = operand.bus;
     let z = zero_page_address(operand.value, index);
-    place_at(z as u16, operand.pc, bus)
+    place_at(z as u16, operand.pc, operand.bus)
 }
 
-pub fn at_absolute(operand: FetchedAddress) -> Place
+pub fn at_absolute(operand: Fetched<u16>) -> Place
     ensures { result ≡ at_absolute operand }
 {
-    let bus = operand.bus;
-    place_at(operand.value, operand.pc, bus)
+    place_at(operand.value, operand.pc, operand.bus)
 }
 
-pub fn at_indexed(index: u8, operand: FetchedAddress) -> Place
+pub fn at_indexed(index: u8, operand: Fetched<u16>) -> Place
     ensures { result ≡ at_indexed index operand }
 {
-    let bus = operand.bus;
-    indexed_by(index, operand.value, operand.pc, bus)
+    indexed_by(index, operand.value, operand.pc, operand.bus)
 }
 
-pub fn at_indexed_indirect(answers: &[u8], memory: &[u8], x: u8, operand: Fetched) -> Place
+pub fn at_indexed_indirect(answers: &[u8], memory: &[u8], x: u8, operand: Fetched<u8>) -> Place
     ensures { result ≡ at_indexed_indirect answers.now memory.now x operand }
 {
-    let before = operand.bus;
     let z = zero_page_address(operand.value, x);
-    let pointer = zero_page_pointer(answers, memory, z, before);
-    let bus = pointer.bus;
-    place_at(pointer.value, operand.pc, bus)
+    let pointer = zero_page_pointer(answers, memory, z, operand.bus);
+    place_at(pointer.value, operand.pc, pointer.bus)
 }
 
-pub fn at_indirect_indexed(answers: &[u8], memory: &[u8], y: u8, operand: Fetched) -> Place
+pub fn at_indirect_indexed(answers: &[u8], memory: &[u8], y: u8, operand: Fetched<u8>) -> Place
     ensures { result ≡ at_indirect_indexed answers.now memory.now y operand }
 {
-    let before = operand.bus;
-    let pointer = zero_page_pointer(answers, memory, operand.value, before);
-    let bus = pointer.bus;
-    indexed_by(y, pointer.value, operand.pc, bus)
+    let pointer = zero_page_pointer(answers, memory, operand.value, operand.bus);
+    indexed_by(y, pointer.value, operand.pc, pointer.bus)
 }
 
-pub fn at_indirect(answers: &[u8], memory: &[u8], operand: FetchedAddress) -> Place
+pub fn at_indirect(answers: &[u8], memory: &[u8], operand: Fetched<u16>) -> Place
     ensures { result ≡ at_indirect answers.now memory.now operand }
 {
-    let before = operand.bus;
     let high = second_address(operand.value);
-    let target = before.read_address(answers, memory, operand.value, high);
-    let bus = target.bus;
-    place_at(target.value, operand.pc, bus)
+    let target = operand
+        .bus
+        .read_address(answers, memory, operand.value, high);
+    place_at(target.value, operand.pc, target.bus)
 }
 
 // The place of an instruction's operand; PC stands behind the opcode.

@@ -19,7 +19,7 @@ use Rattle.memory.specs.Memory.{is_register}
 use Rattle.cpu_access.specs.Stack.{push_interrupt, pull_of}
 use Rattle.cpu_modes.specs.Modes.{relative_to}
 use Rattle.cpu_modes.proofs.Accesses.{fetch_keeps, pull_keeps, pull_address_keeps, relative_keeps}
-use Rattle.cpu_effects.specs.declared.Operand.{Operand}
+use Rattle.cpu_effects.specs.Operand.{Operand}
 use Rattle.cpu_effects.specs.declared.Executed.{Executed}
 use Rattle.cpu_effects.specs.Effects.{with_pc, with_status, into_a, read_only, completed, stored, modified}
 use Rattle.cpu_effects.specs.Effects.{branched}

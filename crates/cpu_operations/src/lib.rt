@@ -1,7 +1,8 @@
 // What each operation does: how it uses the byte at its operand's address, and what it leaves.
 #![tactic(auto)]
 
-ghost use Rattle.std.specs.Prelude.{◌≡◌, ◌≤◌};
+ghost use Rattle.std.specs.Prelude.{◌≡◌};
+ghost use Rattle.cpu_effects.specs.Operand.{operand};
 ghost use Rattle.cpu_operations.specs.Operations.{access_of, is_jsr, operate_of};
 
 use cpu_access::CpuRegisters;
@@ -51,8 +52,7 @@ pub fn operate(
     r: CpuRegisters,
     o: Operand,
 ) -> Executed
-    requires { o.length ≤ 7 }
-    ensures { result ≡ operate_of answers.now memory.now operation r o }
+    ensures { result ≡ operate_of answers.now memory.now operation r (operand o) }
 {
     let status = r.status;
     let value = o.value;

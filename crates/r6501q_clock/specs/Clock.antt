@@ -2,9 +2,7 @@
 use Rattle.std.specs.Prelude.{Bool, ◌&&◌, not, cond, List, [], ◌∷◌, ℕ, ◌+◌, eqb}
 use Rattle.bits.specs.Bits.{bit, set_where, flip_where}
 use Rattle.counters.specs.declared.time.Ticks.{Ticks}
-use Rattle.counters.specs.declared.a.CountedA.{CountedA}
-use Rattle.counters.specs.declared.b.CountedB.{CountedB}
-use Rattle.counters.specs.Counters.{clock_a, clock_b, toggles, ticks_of}
+use Rattle.counters.specs.Counters.{CountedA, CountedB, clock_a, clock_b, toggles, ticks_of}
 use Rattle.serial_transmitter.specs.Transmitter.{transmitter_clock}
 use Rattle.serial_receiver.specs.Receiver.{receiver_clock}
 use Rattle.r6501q_state.specs.declared.state.Peripherals.{Peripherals}

@@ -52,7 +52,7 @@ pub fn registers_of(c: Cpu) -> CpuRegisters
         y: c.y,
         sp: c.sp,
         pc: c.pc,
-        status: Status::unpack(c.p),
+        status: Status::from(c.p),
     }
 }
 
@@ -65,7 +65,7 @@ pub fn cpu_of(r: CpuRegisters, wait: u8, waiting: Option<Write>) -> Cpu
         x: r.x,
         y: r.y,
         sp: r.sp,
-        p: r.status.pack(),
+        p: u8::from(r.status),
         pc: r.pc,
         wait: wait,
         waiting: waiting,
@@ -116,7 +116,7 @@ pub fn next_state(s: State, due: Due, p: Peripherals, w: Worked) -> Next
     ensures { result ≡ next_of s due p w }
 {
     let writing = w.writing;
-    let cpu = cpu_of(w.registers, bits::one_less(w.length), waiting_of(writing));
+    let cpu = cpu_of(w.registers, w.length.saturating_sub(1), waiting_of(writing));
     let writes = pushes_of(writing);
     let peripherals = registers_after(p, writes);
     let mut state = s;

@@ -80,7 +80,7 @@ fn until_cpu(c: Cpu) -> u8
     ensures { result ≡ until_cpu c }
 {
     if c.waiting.is_some() {
-        return bits::one_less(c.wait);
+        return c.wait.saturating_sub(1);
     }
     c.wait
 }

@@ -11,14 +11,14 @@ use cpu_access::{IRQ_VECTOR, NMI_VECTOR};
 use r6501q_cpu::{Next, Processed, answered_instruction, next_state, put_register, registers_of};
 use r6501q_state::state::{Due, State};
 
-// The interrupt disable bit of P, by weight.
-const INTERRUPT_DISABLE: u8 = 4;
+// The interrupt disable bit of P.
+const INTERRUPT_DISABLE: u8 = 2;
 
 // Whether an interrupt request is taken.
 fn irq_due(s: State) -> bool
     ensures { result ≡ irq_due s }
 {
-    (s.cpu.p / INTERRUPT_DISABLE % 2 != 1) & s.peripherals.control.pending()
+    !bits::bit8(s.cpu.p, INTERRUPT_DISABLE) & s.peripherals.control.pending()
 }
 
 fn start_reset(s: State, memory: &[u8]) -> Next

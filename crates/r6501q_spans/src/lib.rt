@@ -29,7 +29,7 @@ fn only_cpu(s: State) -> bool
 {
     let status = registers_of(s.cpu).status;
     let undisturbed = s.last.res & !s.due.reset & !s.due.nmi;
-    undisturbed & !s.peripherals.control.pending() & (status.pack() == s.cpu.p)
+    undisturbed & !s.peripherals.control.pending() & (u8::from(status) == s.cpu.p)
 }
 
 // The clocks in which nothing but the CPU does what can be seen, at most those left. `clocks` are those of the rest of

@@ -3,29 +3,29 @@ ghost use Rattle.std.specs.Prelude.{◌≡◌};
 ghost use Rattle.r6501q_state.specs.Control.{receiver_flag, transmitter_flag, flags_of, pending, mode_in_force, mode_b};
 
 use crate::state::Control;
+use bits::bit8;
 use counters::time::in_force;
 use serial_format::holds_counter;
 use serial_format::scsr::{
-    END_OF_TRANSMISSION_WEIGHT, FRAMING_ERROR_WEIGHT, OVERRUN_WEIGHT, PARITY_ERROR_WEIGHT,
-    RECEIVER_FULL_WEIGHT, TRANSMITTER_EMPTY_WEIGHT, UNDERRUN_WEIGHT,
+    END_OF_TRANSMISSION, FRAMING_ERROR, OVERRUN, PARITY_ERROR, RECEIVER_FULL, TRANSMITTER_EMPTY,
+    UNDERRUN,
 };
 
 // IFR6.
 fn receiver_flag(scsr: u8) -> bool
     ensures { result ≡ receiver_flag scsr }
 {
-    (scsr / RECEIVER_FULL_WEIGHT % 2 == 1)
-        | (scsr / OVERRUN_WEIGHT % 2 == 1)
-        | (scsr / PARITY_ERROR_WEIGHT % 2 == 1)
-        | (scsr / FRAMING_ERROR_WEIGHT % 2 == 1)
+    bit8(scsr, RECEIVER_FULL)
+        | bit8(scsr, OVERRUN)
+        | bit8(scsr, PARITY_ERROR)
+        | bit8(scsr, FRAMING_ERROR)
 }
 
 // IFR7.
 fn transmitter_flag(scsr: u8) -> bool
     ensures { result ≡ transmitter_flag scsr }
 {
-    (scsr / TRANSMITTER_EMPTY_WEIGHT % 2 == 1)
-        & ((scsr / END_OF_TRANSMISSION_WEIGHT % 2 != 1) | (scsr / UNDERRUN_WEIGHT % 2 == 1))
+    bit8(scsr, TRANSMITTER_EMPTY) & (!bit8(scsr, END_OF_TRANSMISSION) | bit8(scsr, UNDERRUN))
 }
 
 impl Control {

@@ -8,9 +8,8 @@ use serial_format::{transmitter_on, transmitter_shifts};
 use serial_receiver::idle_receiver;
 use serial_transmitter::idle_transmitter;
 
-// MCR5, which makes port D an output, by weight.
-
-const PORT_D_OUTPUT: u8 = 32;
+// MCR5, which makes port D an output.
+const PORT_D_OUTPUT: u8 = 5;
 
 // Four ports as a word.
 fn word_of(a: u8, b: u8, c: u8, d: u8) -> u32
@@ -38,7 +37,7 @@ impl Peripherals {
     fn drive_d(self) -> u8
         ensures { result ≡ drive_d self }
     {
-        if self.control.mcr / PORT_D_OUTPUT % 2 == 1 {
+        if bits::bit8(self.control.mcr, PORT_D_OUTPUT) {
             return self.ports.d;
         }
         255

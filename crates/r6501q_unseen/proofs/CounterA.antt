@@ -9,8 +9,7 @@ use lib.Dec.{leb, eqb}
 use borrow.Author.Tests.{leb-true, leb-false, le-leb, lt-leb, eqb-true, eqb-false}
 use Rattle.bits.specs.Bits.{one_where}
 use Rattle.counters.specs.declared.a.CounterA.{CounterA}
-use Rattle.counters.specs.declared.a.CountedA.{CountedA}
-use Rattle.counters.specs.Counters.{clock_a, down_a, counts_through_a, at_a, counted_a}
+use Rattle.counters.specs.Counters.{CountedA, clock_a, down_a, counts_through_a, at_a, counted_a}
 use Rattle.r6501q_state.specs.declared.state.Peripherals.{Peripherals}
 use Rattle.r6501q_clock.specs.Clock.{count_a, count_b, sent_by, heard_by, peripherals_clock}
 use Rattle.r6501q_events.specs.Gaps.{counting_a}

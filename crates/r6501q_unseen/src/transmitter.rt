@@ -3,7 +3,7 @@ ghost use Rattle.std.specs.Prelude.{◌≡◌, true, ◌-◌, ◌≤◌};
 ghost use Rattle.r6501q_unseen.specs.Ticks.{most_ticks, unseen_sends, sends, sent_after};
 
 use crate::receiver::MOST_TICKS;
-use serial_format::scsr::TRANSMITTER_EMPTY_WEIGHT;
+use serial_format::scsr::TRANSMITTER_EMPTY;
 use serial_format::{transmitter_on, transmitter_shifts};
 use serial_transmitter::Transmitter;
 
@@ -15,7 +15,7 @@ pub fn unseen_sends(t: Transmitter, sccr: u8, scsr: u8) -> u32
         return MOST_TICKS;
     }
     if t.left == 0 {
-        if scsr / TRANSMITTER_EMPTY_WEIGHT % 2 == 1 {
+        if bits::bit8(scsr, TRANSMITTER_EMPTY) {
             return MOST_TICKS;
         }
         return 0;

@@ -5,8 +5,7 @@ use mathlib.Core.List.{List, [], ◌∷◌}
 use Prim.Native.Nat.{ℕ, zero, suc}
 use Rattle.bits.specs.Bits.{with_bit, set_where}
 use Rattle.counters.specs.declared.a.CounterA.{CounterA}
-use Rattle.counters.specs.declared.a.CountedA.{CountedA}
-use Rattle.counters.specs.Counters.{clock_a, counts_a, down_a, ticks_of, in_force}
+use Rattle.counters.specs.Counters.{CountedA, clock_a, counts_a, down_a, ticks_of, in_force}
 use Rattle.serial_transmitter.specs.declared.Sending.{Sending}
 use Rattle.serial_receiver.specs.declared.Receiver.{Receiver}
 use Rattle.serial_receiver.specs.declared.Receiving.{Receiving}

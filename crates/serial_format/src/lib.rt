@@ -10,55 +10,57 @@ ghost use Rattle.serial_format.specs.Format.{holds_a, keeps_transmitter, keeps_r
 ghost use Rattle.serial_format.specs.Format.{parity_bit};
 ghost use Rattle.serial_format.specs.Format.{parity_and_stops, frame_bits, pace};
 
+use bits::{bit8, one_where};
+
 // What SCSR says: its bits.
 pub mod scsr;
 
-// The bits of SCCR, by weight.
-const TRANSMITTER_ON: u8 = 128;
+// The bits of SCCR, by number.
+const TRANSMITTER_ON: u8 = 7;
 
-const RECEIVER_ON: u8 = 64;
+const RECEIVER_ON: u8 = 6;
 
-const TRANSMITTER_SHIFTS: u8 = 32;
+const TRANSMITTER_SHIFTS: u8 = 5;
 
-const RECEIVER_SHIFTS: u8 = 16;
+const RECEIVER_SHIFTS: u8 = 4;
 
-const PARITY: u8 = 2;
+const PARITY: u8 = 1;
 
-const EVEN: u8 = 1;
+const EVEN: u8 = 0;
 
 // Whether SCCR7 is set: the transmitter is on, and PA6 is its line.
 pub fn transmitter_on(sccr: u8) -> bool
     ensures { result ≡ bit 7 sccr }
 {
-    sccr / TRANSMITTER_ON % 2 == 1
+    bit8(sccr, TRANSMITTER_ON)
 }
 
 // Whether the transmitter, on or off, is in shift-register mode.
 pub fn transmitter_shifts(sccr: u8) -> bool
     ensures { result ≡ transmitter_shifts sccr }
 {
-    sccr / TRANSMITTER_SHIFTS % 2 == 1
+    bit8(sccr, TRANSMITTER_SHIFTS)
 }
 
 // Whether the receiver, on or off, is in shift-register mode.
 fn receiver_shifts(sccr: u8) -> bool
     ensures { result ≡ receiver_shifts sccr }
 {
-    (sccr / TRANSMITTER_SHIFTS % 2 != 1) & (sccr / RECEIVER_SHIFTS % 2 == 1)
+    !bit8(sccr, TRANSMITTER_SHIFTS) & bit8(sccr, RECEIVER_SHIFTS)
 }
 
 // Whether the receiver is on and asynchronous.
 pub fn receiver_asynchronous(sccr: u8) -> bool
     ensures { result ≡ receiver_asynchronous sccr }
 {
-    (sccr / RECEIVER_ON % 2 == 1) & !receiver_shifts(sccr)
+    bit8(sccr, RECEIVER_ON) & !receiver_shifts(sccr)
 }
 
 // Whether the receiver is on and in shift-register mode.
 pub fn receiver_shifting(sccr: u8) -> bool
     ensures { result ≡ receiver_shifting sccr }
 {
-    (sccr / RECEIVER_ON % 2 == 1) & receiver_shifts(sccr)
+    bit8(sccr, RECEIVER_ON) & receiver_shifts(sccr)
 }
 
 // Whether a write of SCCR over an old value keeps the transmitter's progress.
@@ -93,31 +95,21 @@ pub fn data_width(sccr: u8) -> u8
 pub fn data_values(sccr: u8) -> u16
     ensures { result ≡ 2 ^ width sccr }
 {
-    let k = sccr / 4 % 4;
-    if k == 0 {
-        return 256;
-    }
-    if k == 1 {
-        return 128;
-    }
-    if k == 2 {
-        return 64;
-    }
-    32
+    1 << data_width(sccr)
 }
 
 // Whether a frame has a parity bit.
 pub fn has_parity(sccr: u8) -> bool
     ensures { result ≡ has_parity sccr }
 {
-    sccr / PARITY % 2 == 1
+    bit8(sccr, PARITY)
 }
 
 // 1 where a frame has a parity bit.
 pub fn parity_size(sccr: u8) -> u8
     ensures { result ≡ one_where (has_parity sccr) }
 {
-    bits::one_where(has_parity(sccr))
+    one_where(has_parity(sccr))
 }
 
 // Whether a byte has an odd number of ones.
@@ -134,7 +126,7 @@ pub fn parity_bit(sccr: u8, byte: u8) -> bool
     ensures { result ≡ parity_bit sccr (bits_of 8 byte) }
 {
     let odd = odd_ones(byte);
-    if sccr / EVEN % 2 == 1 { odd } else { !odd }
+    if bit8(sccr, EVEN) { odd } else { !odd }
 }
 
 // What follows the data bits, as a number: parity and one stop, or two stops.
@@ -142,7 +134,7 @@ pub fn frame_ending(sccr: u8, byte: u8) -> u16
     ensures { result ≡ number_of_bits (parity_and_stops sccr (bits_of 8 byte)) }
 {
     if has_parity(sccr) {
-        return bits::one_where(parity_bit(sccr, byte)) as u16 + 2;
+        return one_where(parity_bit(sccr, byte)) as u16 + 2;
     }
     3
 }

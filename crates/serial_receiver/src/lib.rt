@@ -9,11 +9,9 @@ ghost use Rattle.serial_receiver.specs.Receiver.{scsr_after, with_level, kept_wi
 ghost use Rattle.serial_receiver.specs.Receiver.{receive_tick, shifted_at_rise, byte_ended, receive_rise, receiver_clock};
 ghost use Rattle.serial_receiver.specs.Receiver.{receiver_with_sccr};
 
-use bits::one_less;
+use bits::{bit8, set_where};
 use counters::time::Ticks;
-use serial_format::scsr::{
-    FRAMING_ERROR, OVERRUN, PARITY_ERROR, RECEIVER_FULL, RECEIVER_FULL_WEIGHT,
-};
+use serial_format::scsr::{FRAMING_ERROR, OVERRUN, PARITY_ERROR, RECEIVER_FULL};
 use serial_format::{
     data_values, data_width, has_parity, keeps_receiver, parity_bit, parity_size,
     receiver_asynchronous, receiver_shifting,
@@ -37,7 +35,8 @@ pub struct Receiver {
     pub register: u16,
 }
 
-// The receiver, the status register and the data received after a clock.
+// The receiver, the status register and the data received after a clock. The methods that make it have all three as
+// parameters: as methods of this struct they took four parts in a hundred more host instructions a clock.
 #[derive(Clone, Copy)]
 pub struct Receiving {
     pub receiver: Receiver,
@@ -93,20 +92,12 @@ fn parity_is_wrong(sccr: u8, register: u16) -> bool
 fn scsr_after(scsr: u8, wrong: bool, low: bool) -> u8
     ensures { result ≡ scsr_after scsr wrong low }
 {
-    if scsr / RECEIVER_FULL_WEIGHT % 2 == 1 {
-        let overrun = bits::set_where(scsr, OVERRUN, true);
-        return bits::set_where(
-            bits::set_where(overrun, PARITY_ERROR, wrong),
-            FRAMING_ERROR,
-            low,
-        );
+    if bit8(scsr, RECEIVER_FULL) {
+        let overrun = set_where(scsr, OVERRUN, true);
+        return set_where(set_where(overrun, PARITY_ERROR, wrong), FRAMING_ERROR, low);
     }
-    let full = bits::set_where(scsr, RECEIVER_FULL, !(wrong | low));
-    bits::set_where(
-        bits::set_where(full, PARITY_ERROR, wrong),
-        FRAMING_ERROR,
-        low,
-    )
+    let full = set_where(scsr, RECEIVER_FULL, !(wrong | low));
+    set_where(set_where(full, PARITY_ERROR, wrong), FRAMING_ERROR, low)
 }
 
 // The register with a level shifted into bit 10.
@@ -139,14 +130,14 @@ impl Receiver {
     }
 
     // A byte kept where the last one was read.
-    fn keep(mut self, byte: u8, status: u8, scsr: u8, received: u8) -> Receiving
+    fn keep(self, byte: u8, status: u8, scsr: u8, received: u8) -> Receiving
         ensures { result ≡ kept_with byte self status scsr received }
     {
-        if scsr / RECEIVER_FULL_WEIGHT % 2 == 1 {
+        if bit8(scsr, RECEIVER_FULL) {
             return Receiving {
                 receiver: self,
                 scsr: status,
-                received: received,
+                received,
             };
         }
         Receiving {
@@ -157,7 +148,7 @@ impl Receiver {
     }
 
     // The last bit of a frame is in.
-    fn end_frame(mut self, sccr: u8, scsr: u8, received: u8) -> Receiving
+    fn end_frame(self, sccr: u8, scsr: u8, received: u8) -> Receiving
         ensures { result ≡ frame_ended self sccr scsr received }
     {
         let wrong = parity_is_wrong(sccr, self.register);
@@ -174,32 +165,32 @@ impl Receiver {
             self.subinterval += 1;
             return Receiving {
                 receiver: self,
-                scsr: scsr,
-                received: received,
+                scsr,
+                received,
             };
         }
         self.subinterval = 0;
         self.register = with_level(self.register, high);
-        self.left = one_less(self.left);
+        self.left = self.left.saturating_sub(1);
         if self.left == 0 {
             return self.end_frame(sccr, scsr, received);
         }
         Receiving {
             receiver: self,
-            scsr: scsr,
-            received: received,
+            scsr,
+            received,
         }
     }
 
     // A look at PA7.
-    fn look(mut self, sccr: u8, scsr: u8, received: u8, high: bool) -> Receiving
+    fn look(self, sccr: u8, scsr: u8, received: u8, high: bool) -> Receiving
         ensures { result ≡ looked self sccr scsr received high }
     {
         if self.left == 0 {
             return Receiving {
                 receiver: self.detect_start(sccr, high),
-                scsr: scsr,
-                received: received,
+                scsr,
+                received,
             };
         }
         self.take_look(sccr, scsr, received, high)
@@ -216,8 +207,8 @@ impl Receiver {
         self.half = true;
         Receiving {
             receiver: self,
-            scsr: scsr,
-            received: received,
+            scsr,
+            received,
         }
     }
 
@@ -228,19 +219,18 @@ impl Receiver {
         let register = with_level(self.register, high);
         if self.left == 0 {
             return Receiver {
-                subinterval: self.subinterval,
-                half: self.half,
                 left: 7,
-                register: register,
+                register,
+                ..self
             };
         }
-        self.left = one_less(self.left);
+        self.left -= 1;
         self.register = register;
         self
     }
 
     // The last bit of a byte is in.
-    fn end_byte(mut self, scsr: u8, received: u8) -> Receiving
+    fn end_byte(self, scsr: u8, received: u8) -> Receiving
         ensures { result ≡ byte_ended self scsr received }
     {
         let status = scsr_after(scsr, false, false);
@@ -249,7 +239,7 @@ impl Receiver {
     }
 
     // A rise of PA4, in shift-register mode.
-    fn rise(mut self, scsr: u8, received: u8, high: bool) -> Receiving
+    fn rise(self, scsr: u8, received: u8, high: bool) -> Receiving
         ensures { result ≡ receive_rise self scsr received high }
     {
         let next = self.shift_at_rise(high);
@@ -258,14 +248,14 @@ impl Receiver {
         }
         Receiving {
             receiver: next,
-            scsr: scsr,
-            received: received,
+            scsr,
+            received,
         }
     }
 
     // The receiver after a clock with these ticks, with a rise of PA4 or none, and this level of PA7.
     pub fn clock(
-        mut self,
+        self,
         ticks: Ticks,
         rise: bool,
         sccr: u8,
@@ -286,13 +276,13 @@ impl Receiver {
         }
         Receiving {
             receiver: self,
-            scsr: scsr,
-            received: received,
+            scsr,
+            received,
         }
     }
 
     // Its progress after a write of SCCR over an old value.
-    pub fn with_sccr(mut self, old: u8, sccr: u8) -> Receiver
+    pub fn with_sccr(self, old: u8, sccr: u8) -> Receiver
         ensures { result ≡ receiver_with_sccr old sccr self }
     {
         if keeps_receiver(old, sccr) {

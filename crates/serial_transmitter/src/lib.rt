@@ -7,9 +7,9 @@ ghost use Rattle.serial_transmitter.specs.Transmitter.{bit_tick, send_tick, tran
 ghost use Rattle.serial_transmitter.specs.Transmitter.{transmitter_with_sccr};
 ghost use Rattle.serial_format.specs.Format.{pace};
 
-use bits::one_less;
+use bits::{bit8, with_bit};
 use counters::time::Ticks;
-use serial_format::scsr::{TRANSMITTER_EMPTY, TRANSMITTER_EMPTY_WEIGHT, UNDERRUN};
+use serial_format::scsr::{TRANSMITTER_EMPTY, UNDERRUN};
 use serial_format::{
     ends_bit, frame, frame_length, keeps_transmitter, transmitter_on, transmitter_shifts,
 };
@@ -26,7 +26,8 @@ pub struct Transmitter {
     pub register: u16,
 }
 
-// The transmitter and the status register after a clock.
+// The transmitter and the status register after a clock. The methods that make it have both as parameters: as methods
+// of this struct they took a fifth more host instructions a clock.
 #[derive(Clone, Copy)]
 pub struct Sending {
     pub transmitter: Transmitter,
@@ -66,11 +67,7 @@ fn framed(sccr: u8, byte: u8) -> Transmitter
 fn take(sccr: u8, scsr: u8, byte: u8) -> Sending
     ensures { result ≡ taken sccr scsr byte }
 {
-    let status = bits::with_bit(
-        bits::with_bit(scsr, TRANSMITTER_EMPTY, true),
-        UNDERRUN,
-        false,
-    );
+    let status = with_bit(with_bit(scsr, TRANSMITTER_EMPTY, true), UNDERRUN, false);
     Sending {
         transmitter: framed(sccr, byte),
         scsr: status,
@@ -89,24 +86,24 @@ fn next_phase(phase: u8) -> u8
 
 impl Transmitter {
     // A tick with no bits left.
-    fn idle_tick(mut self, sccr: u8, scsr: u8, byte: u8) -> Sending
+    fn idle_tick(self, sccr: u8, scsr: u8, byte: u8) -> Sending
         ensures { result ≡ idle_tick self sccr scsr byte }
     {
-        if scsr / TRANSMITTER_EMPTY_WEIGHT % 2 == 1 {
+        if bit8(scsr, TRANSMITTER_EMPTY) {
             return Sending {
                 transmitter: self,
-                scsr: scsr,
+                scsr,
             };
         }
         take(sccr, scsr, byte)
     }
 
     // The tick that ends a frame: the next data, or an under-run.
-    fn frame_end(mut self, sccr: u8, scsr: u8, byte: u8) -> Sending
+    fn frame_end(self, sccr: u8, scsr: u8, byte: u8) -> Sending
         ensures { result ≡ frame_end self sccr scsr byte }
     {
-        if scsr / TRANSMITTER_EMPTY_WEIGHT % 2 == 1 {
-            let status = bits::with_bit(scsr, UNDERRUN, true);
+        if bit8(scsr, TRANSMITTER_EMPTY) {
+            let status = with_bit(scsr, UNDERRUN, true);
             return Sending {
                 transmitter: self,
                 scsr: status,
@@ -123,14 +120,14 @@ impl Transmitter {
         self.phase = phase;
         if ends_bit(sccr, phase) {
             self.register = self.register / 2;
-            self.left = one_less(self.left);
+            self.left = self.left.saturating_sub(1);
             return self;
         }
         self
     }
 
     // A tick with bits left.
-    fn bit_tick(mut self, sccr: u8, scsr: u8, byte: u8) -> Sending
+    fn bit_tick(self, sccr: u8, scsr: u8, byte: u8) -> Sending
         ensures { result ≡ bit_tick self sccr scsr byte }
     {
         let next = self.advance_phase(sccr);
@@ -139,12 +136,12 @@ impl Transmitter {
         }
         Sending {
             transmitter: next,
-            scsr: scsr,
+            scsr,
         }
     }
 
     // One tick of a transmitter that is on.
-    fn tick(mut self, sccr: u8, scsr: u8, byte: u8) -> Sending
+    fn tick(self, sccr: u8, scsr: u8, byte: u8) -> Sending
         ensures { result ≡ send_tick self sccr scsr byte }
     {
         if self.left == 0 {
@@ -154,7 +151,7 @@ impl Transmitter {
     }
 
     // The transmitter after a clock with these ticks.
-    pub fn clock(mut self, ticks: Ticks, sccr: u8, scsr: u8, byte: u8) -> Sending
+    pub fn clock(self, ticks: Ticks, sccr: u8, scsr: u8, byte: u8) -> Sending
         ensures { result ≡ transmitter_clock self ticks sccr scsr byte }
     {
         let moves = (ticks.0 != 0) & transmitter_on(sccr);
@@ -163,7 +160,7 @@ impl Transmitter {
         }
         Sending {
             transmitter: self,
-            scsr: scsr,
+            scsr,
         }
     }
 
@@ -182,7 +179,7 @@ impl Transmitter {
     }
 
     // Its progress after a write of SCCR over an old value.
-    pub fn with_sccr(mut self, old: u8, sccr: u8) -> Transmitter
+    pub fn with_sccr(self, old: u8, sccr: u8) -> Transmitter
         ensures { result ≡ transmitter_with_sccr old sccr self }
     {
         if keeps_transmitter(old, sccr) {

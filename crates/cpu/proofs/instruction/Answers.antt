@@ -13,7 +13,7 @@ use Rattle.cpu.specs.InstructionInCode.{opcode_fetched, decoded_to, instruction_
 use Rattle.cpu.proofs.instruction.Goals as goal
 
 -- an opcode that need not be asked for: what it decodes to decides
-opcodeFetched-as : (answers memory : List ℕ) (r : CpuRegisters) (f : Fetched) (d : Option Entry) → f.bus.missing ≡ false
+opcodeFetched-as : (answers memory : List ℕ) (r : CpuRegisters) (f : Fetched ℕ) (d : Option Entry) → f.bus.missing ≡ false
     → decode_of f.value ≡ d
     → decoded_to answers memory (with_pc f.pc r) f.bus d ≡ opcode_fetched answers memory r f
 opcodeFetched-as answers memory r f d m e = rw (m, e)

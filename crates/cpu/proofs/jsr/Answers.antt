@@ -12,7 +12,7 @@ use Rattle.cpu.specs.InstructionInCode.{outcome_of, writes_asked, jsr_to, jsr_ou
 use Rattle.cpu.proofs.jsr.Goals as goal
 
 -- the low byte l, the pushes w and the high byte h, each as it should be
-jsr-as : (answers memory : List ℕ) (r : CpuRegisters) (n : ℕ) (b : Bus) (l : Fetched) (w : Writes) (h : Got)
+jsr-as : (answers memory : List ℕ) (r : CpuRegisters) (n : ℕ) (b : Bus) (l : Fetched ℕ) (w : Writes) (h : Got ℕ)
     → l ≡ fetch_of answers memory r.pc b → w ≡ push_address r.sp l.pc
     → h ≡ read_after answers memory w l.pc l.bus
     → outcome_of (writes_asked l.bus w) (jsr_to r n l w h) ≡ jsr_outcome answers memory r n b

@@ -2,7 +2,7 @@ use Rattle.r6501q_cpu.proofs.next_state.Goals as goal
 
 pub returns : goal.returns
 returns c = rw (
-  ← c.one_less.ensures,
+  ← c.saturating_sub.ensures,
   ← c.waiting_of.ensures,
   ← c.cpu_of-cpu.ensures,
   ← c.pushes_of-writes.ensures,

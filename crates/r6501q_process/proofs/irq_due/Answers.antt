@@ -4,4 +4,4 @@ use Rattle.r6501q_process.proofs.irq_due.Goals as goal
 
 pub returns : goal.returns
 unfolding irq_due
-returns c = rw c.pending.ensures refl
+returns c = rw (c.pending.ensures, c.bit8.ensures) refl

@@ -5,7 +5,7 @@ use Rattle.r6501q_spans.proofs.only_cpu.Goals as goal
 pub returns : goal.returns
 unfolding only_cpu
 returns c = rw (
-  c.pack.ensures,
+  c.from.ensures,
   c.pending.ensures,
   c.registers_of.ensures,
 ) refl

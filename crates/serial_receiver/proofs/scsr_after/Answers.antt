@@ -1,15 +1,15 @@
 use Rattle.serial_receiver.specs.Receiver.{scsr_after}
 use mathlib.Core.Path.{refl}
-use borrow.Author.Tests.{eq-eqb, ne_eqb}
 use Rattle.serial_receiver.proofs.scsr_after.Goals as goal
 
-pub returns-then-scsr-eq1 : goal.returns-then-scsr-eq1
+pub returns-then-bit8 : goal.returns-then-bit8
 unfolding scsr_after
-returns-then-scsr-eq1 c = rw (
-  c.set_where-then-scsr-eq1.ensures,
+returns-then-bit8 c = rw (
+  c.set_where-then-bit8.ensures,
   c.set_where.ensures,
   c.set_where-overrun.ensures,
-  eq-eqb _ _ c.if-scsr-eq1.true,
+  ← c.bit8.ensures,
+  c.if-bit8.true,
 ) refl
 
 pub returns : goal.returns
@@ -18,5 +18,6 @@ returns c = rw (
   c.set_where-3.ensures,
   c.set_where-2.ensures,
   c.set_where-full.ensures,
-  ne_eqb _ _ c.if-scsr-eq1.false,
+  ← c.bit8.ensures,
+  c.if-bit8.false,
 ) refl

@@ -6,7 +6,7 @@ use Rattle.cpu_alu.specs.Status.{pushed}
 use Rattle.cpu_alu.proofs.Status.pushed.Goals as goal
 
 pub overflow_add-result : goal.overflow_add-result
-overflow_add-result c = omega (arith, c.pack.ensures, packed_le c.args.self)
+overflow_add-result c = omega (arith, c.from.ensures, packed_le c.args.self)
 
 pub overflow_mul-result : goal.overflow_mul-result
 overflow_mul-result c = omega (arith, c.one_where.ensures, one_where_le c.args.brk)
@@ -14,7 +14,7 @@ overflow_mul-result c = omega (arith, c.one_where.ensures, one_where_le c.args.b
 pub overflow_add-result-2 : goal.overflow_add-result-2
 overflow_add-result-2 c = omega (
   arith,
-  c.pack.ensures,
+  c.from.ensures,
   packed_le c.args.self,
   c.one_where.ensures,
   one_where_le c.args.brk,
@@ -22,4 +22,4 @@ overflow_add-result-2 c = omega (
 
 pub returns : goal.returns
 unfolding pushed
-returns c = rw (c.one_where.ensures, c.pack.ensures) refl
+returns c = rw (c.one_where.ensures, c.from.ensures) refl

@@ -9,4 +9,5 @@ returns c = rw (
   ← c.overflow-v.ensures,
   ← c.one_where.ensures,
   ← c.corrected-total.ensures,
+  ← c.bit8.ensures,
 ) refl

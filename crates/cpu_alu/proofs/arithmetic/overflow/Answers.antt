@@ -1,7 +1,6 @@
 use Rattle.cpu_alu.specs.Arithmetic.{overflow}
-use mathlib.Core.Path.{refl}
 use Rattle.cpu_alu.proofs.arithmetic.overflow.Goals as goal
 
 pub returns : goal.returns
 unfolding overflow
-returns c = refl
+returns c = rw (← c.bit8-x.ensures, ← c.bit8-y.ensures, ← c.bit8-z.ensures)

@@ -8,4 +8,4 @@ overflow_add-value c = omega (arith, c.one_where.ensures, one_where_le c.args.st
 
 pub returns : goal.returns
 unfolding rol_of
-returns c = rw (c.resulting.ensures, c.with_carry.ensures, c.one_where.ensures)
+returns c = rw (c.resulting.ensures, c.with_c.ensures, c.bit8.ensures, c.one_where.ensures)

@@ -1,7 +1,5 @@
-use mathlib.Core.Path.{refl}
 use native.Mathlib.Omega.{arith}
 use Rattle.bits.proofs.Cond.{one_where_le}
-use Rattle.bits.proofs.Bits.{bit_zero}
 use Rattle.cpu_alu.specs.Shift.{ror_of}
 use Rattle.cpu_alu.proofs.shift.ror.Goals as goal
 
@@ -13,4 +11,4 @@ overflow_add-value c = omega (arith, c.one_where.ensures, one_where_le c.args.st
 
 pub returns : goal.returns
 unfolding ror_of
-returns c = rw (bit_zero, c.resulting.ensures, c.with_carry.ensures, c.one_where.ensures) refl
+returns c = rw (c.resulting.ensures, c.with_c.ensures, c.bit8.ensures, c.one_where.ensures)

@@ -1,39 +1,6 @@
 use mathlib.Core.Path.{refl}
 use Rattle.cpu_kinds.specs.Kinds.{branch_taken}
-use borrow.Author.Rules.{rules}
 use Rattle.cpu_kinds.proofs.kinds.branch_taken.Goals as goal
-
-pub enum_told-1 : goal.enum_told-1
-unfolding branch_taken
-enum_told-1 c = search rules
-
-pub enum_told-in-Bcs : goal.enum_told-in-Bcs
-unfolding branch_taken
-enum_told-in-Bcs c = search rules
-
-pub enum_told-in-Beq : goal.enum_told-in-Beq
-unfolding branch_taken
-enum_told-in-Beq c = search rules
-
-pub enum_told-in-Bmi : goal.enum_told-in-Bmi
-unfolding branch_taken
-enum_told-in-Bmi c = search rules
-
-pub enum_told-in-Bne : goal.enum_told-in-Bne
-unfolding branch_taken
-enum_told-in-Bne c = search rules
-
-pub enum_told-in-Bpl : goal.enum_told-in-Bpl
-unfolding branch_taken
-enum_told-in-Bpl c = search rules
-
-pub enum_told-in-Bvc : goal.enum_told-in-Bvc
-unfolding branch_taken
-enum_told-in-Bvc c = search rules
-
-pub enum_told-in-Bvs : goal.enum_told-in-Bvs
-unfolding branch_taken
-enum_told-in-Bvs c = search rules
 
 pub returns-in-Bcc : goal.returns-in-Bcc
 unfolding branch_taken

@@ -19,7 +19,7 @@ returns c = rw (
   c.if-pulled.false,
   c.started_next.ensures,
   c.with_status.ensures,
-  c.unpack.ensures,
+  c.from.ensures,
   c.with_sp-stacked.ensures,
   c.with_pc.ensures,
 ) refl

@@ -22,7 +22,7 @@ returns c = rw (
   c.with_pc.ensures,
   c.with_status-back.ensures,
   c.with_sp.ensures,
-  c.unpack-status.ensures,
+  c.from-status.ensures,
 ) refl
 
 pub started_next-requires : goal.started_next-requires

@@ -8,6 +8,6 @@ unfolding flag_tried with_flag
 returns c = rw (
   c.started_next.ensures,
   c.with_status.ensures,
-  c.clv-flags.ensures,
+  c.with_v-flags.ensures,
   c.with_pc-r.ensures,
 ) refl

@@ -5,7 +5,7 @@ use Rattle.r6501q_gaps.proofs.distances.until_cpu.Goals as goal
 
 pub returns-then-is_some : goal.returns-then-is_some
 unfolding until_cpu
-returns-then-is_some c = rw (← c.is_some.ensures, c.if-is_some.true) c.one_less.ensures
+returns-then-is_some c = rw (← c.is_some.ensures, c.if-is_some.true) c.saturating_sub.ensures
 
 pub returns : goal.returns
 unfolding until_cpu

@@ -11,12 +11,13 @@ returns-then-not-transmitter_on c = (
   search rules,
 )
 
-pub returns-then-scsr-eq1 : goal.returns-then-scsr-eq1
+pub returns-then-bit8 : goal.returns-then-bit8
 unfolding unseen_sends
-returns-then-scsr-eq1 c = (
+returns-then-bit8 c = (
   rw (
     ← c.transmitter_on.ensures,
-    eq-eqb _ _ c.if-scsr-eq1.true,
+    ← c.bit8.ensures,
+    c.if-bit8.true,
     eq-eqb _ _ c.if-t-eq0.true,
     c.if-not-transmitter_on.false,
   ),
@@ -28,7 +29,8 @@ unfolding unseen_sends
 returns-then-t-eq0 c = (
   rw (
     ← c.transmitter_on.ensures,
-    ne_eqb _ _ c.if-scsr-eq1.false,
+    ← c.bit8.ensures,
+    c.if-bit8.false,
     eq-eqb _ _ c.if-t-eq0.true,
     c.if-not-transmitter_on.false,
   ),

@@ -9,4 +9,4 @@ returns-then-self-eq0 c = rw (← c.with_level-register.ensures, eq-eqb _ _ c.if
 
 pub returns : goal.returns
 unfolding shifted_at_rise
-returns c = rw (c.one_less.ensures, ← c.with_level-register.ensures, ne_eqb _ _ c.if-self-eq0.false)
+returns c = rw (← c.with_level-register.ensures, ne_eqb _ _ c.if-self-eq0.false)

@@ -10,7 +10,7 @@ pub returns-then-self-eq0 : goal.returns-then-self-eq0
 unfolding look_taken
 returns-then-self-eq0 c = rw (
   ← c.with_level.ensures,
-  ← c.one_less.ensures,
+  ← c.saturating_sub.ensures,
   ← c.end_frame.ensures,
   eq-eqb _ _ c.if-self-eq0.true,
   le-ltb _ _ c.if-self-lt7.false,
@@ -20,7 +20,7 @@ pub returns : goal.returns
 unfolding look_taken
 returns c = rw (
   ← c.with_level.ensures,
-  ← c.one_less.ensures,
+  ← c.saturating_sub.ensures,
   ne_eqb _ _ c.if-self-eq0.false,
   le-ltb _ _ c.if-self-lt7.false,
 )

@@ -6,7 +6,7 @@ unfolding ticked
 returns-then-ends_bit c = rw (
   ← c.next_phase-phase.ensures,
   ← c.ends_bit.ensures,
-  ← c.one_less.ensures,
+  ← c.saturating_sub.ensures,
   c.if-ends_bit.true,
 )
 

@@ -1,11 +1,10 @@
 use Rattle.serial_transmitter.specs.Transmitter.{frame_end}
-use borrow.Author.Tests.{eq-eqb, ne_eqb}
 use Rattle.serial_transmitter.proofs.Transmitter.frame_end.Goals as goal
 
-pub returns-then-scsr-eq1 : goal.returns-then-scsr-eq1
+pub returns-then-bit8 : goal.returns-then-bit8
 unfolding frame_end
-returns-then-scsr-eq1 c = rw (← c.with_bit-status.ensures, eq-eqb _ _ c.if-scsr-eq1.true)
+returns-then-bit8 c = rw (← c.with_bit-status.ensures, ← c.bit8.ensures, c.if-bit8.true)
 
 pub returns : goal.returns
 unfolding frame_end
-returns c = rw (← c.take.ensures, ne_eqb _ _ c.if-scsr-eq1.false)
+returns c = rw (← c.take.ensures, ← c.bit8.ensures, c.if-bit8.false)

@@ -1,11 +1,10 @@
 use Rattle.serial_transmitter.specs.Transmitter.{idle_tick}
-use borrow.Author.Tests.{eq-eqb, ne_eqb}
 use Rattle.serial_transmitter.proofs.Transmitter.idle_tick.Goals as goal
 
-pub returns-then-scsr-eq1 : goal.returns-then-scsr-eq1
+pub returns-then-bit8 : goal.returns-then-bit8
 unfolding idle_tick
-returns-then-scsr-eq1 c = rw (eq-eqb _ _ c.if-scsr-eq1.true)
+returns-then-bit8 c = rw (← c.bit8.ensures, c.if-bit8.true)
 
 pub returns : goal.returns
 unfolding idle_tick
-returns c = rw (← c.take.ensures, ne_eqb _ _ c.if-scsr-eq1.false)
+returns c = rw (← c.take.ensures, ← c.bit8.ensures, c.if-bit8.false)

@@ -1,4 +1,0 @@
-use Rattle.cpu_kinds.proofs.updates.with_status.Goals as goal
-
-pub returns : goal.returns
-returns c = rw c.same_flags.ensures
