@@ -2,12 +2,12 @@
 use mathlib.Core.Path.{◌≡◌, refl, ap}
 use mathlib.Core.Bool.{Bool, true, false, ◌&&◌}
 use mathlib.Core.List.{List, [], ◌∷◌, ◌++◌}
-use Prim.Native.Nat.{ℕ, ◌+◌, ◌-◌, ◌*◌, ◌≤◌, ◌<◌}
+use Prim.Native.Nat.{ℕ, suc, ◌+◌, ◌-◌, ◌*◌, ◌/◌, ◌≤◌, ◌<◌}
 use native.Mathlib.Omega.{arith}
 use native.Mathlib.Numerals.{add-one}
 use borrow.Author.Tests.{leb-true, le-leb, lt-leb}
 use lib.Dec.{leb}
-use lib.ListN.{length, drop, get_or, drop_of_length-le}
+use lib.ListN.{length, drop, get_or, drop_of_length-le, length-drop}
 use lib.Seq.{drop-cons}
 use Rattle.std.specs.List.{list_all}
 use Rattle.bits.specs.Lists.{all_of}
@@ -99,6 +99,28 @@ pub number_more : (digits : List ℕ) (i n : ℕ) → length digits ≤ 4 → i 
 number_more digits i n few h so =
     let more = 16 * n + value_of (get_or digits i 0) in
     omega (arith, number_word digits few, number_least more (drop (i + 1) digits), number_next digits i n h, so)
+
+-- the bytes from the k-th on
+module _ (digits : List ℕ) (k : ℕ) where
+  pub bytes_next : k < length digits / 2
+      → bytes_of (drop (2 * k) digits)
+      ≡ byte_of (get_or digits (2 * k) 0) (get_or digits (2 * k + 1) 0) ∷ bytes_of (drop (2 * (k + 1)) digits)
+  unfolding bytes_of
+  bytes_next h =
+      let a : 2 * k < length digits = omega arith in
+      let b : suc (2 * k) < length digits = omega arith in
+      let e : 2 * (k + 1) ≡ suc (suc (2 * k)) = omega arith in
+      let f : 2 * k + 1 ≡ suc (2 * k) = omega arith in
+      rw (e, f, drop-cons digits (2 * k) 0 a, drop-cons digits (suc (2 * k)) 0 b)
+
+  pub bytes_end : length digits / 2 ≤ k → bytes_of (drop (2 * k) digits) ≡ []
+  unfolding bytes_of
+  bytes_end h = short (drop (2 * k) digits) (omega (arith, length-drop (2 * k) digits))
+    where
+      short : (l : List ℕ) → length l ≤ 1 → bytes_of l ≡ []
+      short [] h = refl
+      short (a ∷ []) h = refl
+      short (a ∷ (b ∷ l)) h = absurd (omega arith)
 
 -- the bytes of digits that begin with a pair
 pub total_pair : (pair rest : List ℕ) {digits : List ℕ} → digits ≡ pair ++ rest → length pair ≡ 2
