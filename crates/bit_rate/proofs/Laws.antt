@@ -9,7 +9,7 @@ use native.Mathlib.Nat.{mul-le-mul_left, lt-div-mul-add, div-lt_iff_lt-mul}
 use native.Mathlib.Omega.{arith}
 use lib.Dec.{ltb, eqb}
 use borrow.Author.Tests.{leb-true, le-leb, ltb-false, eqb-false}
-use Rattle.bit_rate.specs.declared.Found.TheVariants.{Fits, Nothing}
+use Rattle.std.specs.Prelude.{Some, None}
 use Rattle.bit_rate.specs.BitRate.{difference, fits, highest_latch, highest_rate, highest_tolerance, out_of_limits}
 use Rattle.bit_rate.specs.BitRate.{first_fit}
 
@@ -22,25 +22,25 @@ never false h = refl
 
 -- where K fits and none before it, of values that reach up to it
 pub first_fits : (f b t more N K : ℕ) → N ≤ K → K < N + more → fits f b t K ≡ true
-    → ((M : ℕ) → N ≤ M → M < K → fits f b t M ≡ false) → first_fit f b t more N ≡ Fits K
+    → ((M : ℕ) → N ≤ M → M < K → fits f b t M ≡ false) → first_fit f b t more N ≡ Some K
 unfolding first_fit
 first_fits f b t zero N K from upto e before = absurd (omega arith)
 first_fits f b t (suc more) N K from upto e before =
     here (fits f b t N) refl (λ h. first_fits f b t more (suc N) K h (omega arith) e (λ M l. before M (omega arith)))
   where
-    here : (test : Bool) → fits f b t N ≡ test → (suc N ≤ K → first_fit f b t more (suc N) ≡ Fits K)
-        → cond test (Fits N) (first_fit f b t more (suc N)) ≡ Fits K
+    here : (test : Bool) → fits f b t N ≡ test → (suc N ≤ K → first_fit f b t more (suc N) ≡ Some K)
+        → cond test (Some N) (first_fit f b t more (suc N)) ≡ Some K
     here true h later =
         let earlier : N < K → ⊥ = λ l. false≢true (sym (before N (omega arith) l) ∙ h) in
         let same : N ≡ K = omega arith in
-        ap Fits same
+        ap Some same
     here false h later =
         let other : N ≡ K → ⊥ = λ s. false≢true (sym h ∙ ap (fits f b t) s ∙ e) in
         later (omega arith)
 
 -- where none of them fits
 pub first_none : (f b t more N : ℕ) → ((M : ℕ) → N ≤ M → M < N + more → fits f b t M ≡ false)
-    → first_fit f b t more N ≡ Nothing
+    → first_fit f b t more N ≡ None
 unfolding first_fit
 first_none f b t zero N none = refl
 first_none f b t (suc more) N none =
@@ -216,14 +216,14 @@ module _ (f b t : ℕ) (inside : Within f b t) where
 
   -- ---- what the code gives
 
-  pub latch_beyond : highest_latch + 1 < fewest f b t → first_fit f b t (highest_latch + 1) 0 ≡ Nothing
+  pub latch_beyond : highest_latch + 1 < fewest f b t → first_fit f b t (highest_latch + 1) 0 ≡ None
   latch_beyond h = first_none f b t (highest_latch + 1) 0 (λ N from upto. none_beyond h N (omega arith))
 
-  pub latch_slow : 1000 * f < (1000 - t) * (16 * b) * fewest f b t → first_fit f b t (highest_latch + 1) 0 ≡ Nothing
+  pub latch_slow : 1000 * f < (1000 - t) * (16 * b) * fewest f b t → first_fit f b t (highest_latch + 1) 0 ≡ None
   latch_slow h = first_none f b t (highest_latch + 1) 0 (λ N from upto. none_slow h N (omega arith))
 
   pub latch_fits : fewest f b t ≤ highest_latch + 1 → (1000 - t) * (16 * b) * fewest f b t ≤ 1000 * f
-      → first_fit f b t (highest_latch + 1) 0 ≡ Fits (fewest f b t - 1)
+      → first_fit f b t (highest_latch + 1) 0 ≡ Some (fewest f b t - 1)
   latch_fits most h =
       first_fits f b t (highest_latch + 1) 0 (fewest f b t - 1) (omega arith) (omega (arith, fewest_positive))
       (fewest_fits h) (λ N from upto. none_below N upto)

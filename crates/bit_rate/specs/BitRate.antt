@@ -1,7 +1,6 @@
 -- Document 02, U2 and U9: the smallest latch value for a wanted bit rate.
-use Rattle.std.specs.Prelude.{Bool, ◌||◌, cond, ℕ, zero, suc, ◌+◌, ◌-◌, ◌*◌, leb, ltb, eqb}
-use Rattle.bit_rate.specs.declared.Found.{Found}
-use Rattle.bit_rate.specs.declared.Found.TheVariants.{Fits, Nothing, Refused}
+use Rattle.std.specs.Prelude.{Bool, ◌||◌, cond, ℕ, zero, suc, ◌+◌, ◌-◌, ◌*◌, leb, ltb, eqb, Option, Some, None, Result, Ok, Err}
+use Rattle.bit_rate.specs.declared.OutOfLimits.{OutOfLimits}
 
 -- "|f - ..|": of the two differences one is 0
 abbrev pub difference : ℕ → ℕ → ℕ
@@ -28,16 +27,22 @@ unfoldable pub out_of_limits : ℕ → ℕ → ℕ → Bool
 out_of_limits f b t = eqb f 0 || eqb b 0 || ltb highest_rate f || ltb highest_rate b || ltb highest_tolerance t
 
 -- 02, U9, "the smallest N that fits": the first of so many latch values from N on that fits, or none
-unfoldable pub first_fit : ℕ → ℕ → ℕ → ℕ → ℕ → Found
-first_fit f b t zero N = Nothing
-first_fit f b t (suc more) N = cond (fits f b t N) (Fits N) (first_fit f b t more (suc N))
+unfoldable pub first_fit : ℕ → ℕ → ℕ → ℕ → ℕ → Option ℕ
+first_fit f b t zero N = None
+first_fit f b t (suc more) N = cond (fits f b t N) (Some N) (first_fit f b t more (suc N))
+
+-- what is handed back: a latch value or none, or a refusal
+abbrev pub Found : Type 0
+Found = Result (Option ℕ) OutOfLimits
+
+abbrev pub refused : Found
+refused = Err (record {})
 
 -- "N from 0 to 65,535", "or say none, which must mean that no N fits"; "11: .. before any search"
 unfoldable pub latch_for : ℕ → ℕ → ℕ → Found
-latch_for f b t = cond (out_of_limits f b t) Refused (first_fit f b t (highest_latch + 1) 0)
+latch_for f b t = cond (out_of_limits f b t) refused (Ok (first_fit f b t (highest_latch + 1) 0))
 
 -- the number that is handed back: 0 with a latch value, 0 with none, and 11
 abbrev pub latch_number : Found → ℕ
-latch_number (Fits N) = 0
-latch_number Nothing = 0
-latch_number Refused = 11
+latch_number (Ok found) = 0
+latch_number (Err _) = 11

@@ -5,12 +5,17 @@
 ghost use Rattle.std.specs.Prelude.{◌≡◌};
 ghost use Rattle.bit_rate.specs.BitRate.{out_of_limits, latch_for};
 
-// The smallest latch value that fits, none, or a refusal (number 11).
-#[derive(Clone, Copy)]
-pub enum Found {
-    Fits(u16),
-    Nothing,
-    Refused,
+// A rate is 0, or a figure is above its limit.
+#[derive(Clone, Copy, PartialEq, Eq, Debug)]
+pub struct OutOfLimits;
+
+// Its number.
+impl From<OutOfLimits> for u8 {
+    ghost from_gives = { λ _ number. number ≡ 11 };
+
+    fn from(_: OutOfLimits) -> u8 {
+        11
+    }
 }
 
 // The highest clock rate and bit rate, and the highest tolerance.
@@ -32,14 +37,14 @@ fn out_of_limits(clockrate: u32, bitrate: u32, tolerance: u32) -> bool
         | (HIGHEST_TOLERANCE < tolerance)
 }
 
-// The smallest latch value for a clock rate, a bit rate and a tolerance in thousandths. A value N fits where its N + 1
-// clocks are enough, which holds from some count upward, and not too many, which holds downward: the least count that
-// is enough decides. Rates are taken in thousandths.
-pub fn latch(clockrate: u32, bitrate: u32, tolerance: u32) -> Found
+// The smallest latch value for a clock rate, a bit rate and a tolerance in thousandths, or none. A value N fits where
+// its N + 1 clocks are enough, which holds from some count upward, and not too many, which holds downward: the least
+// count that is enough decides. Rates are taken in thousandths.
+pub fn latch(clockrate: u32, bitrate: u32, tolerance: u32) -> Result<Option<u16>, OutOfLimits>
     ensures { result ≡ latch_for clockrate bitrate tolerance }
 {
     if out_of_limits(clockrate, bitrate, tolerance) {
-        return Found::Refused;
+        return Err(OutOfLimits);
     }
     let rate = 1000 * (clockrate as u64);
     let underflows = 16 * (bitrate as u64);
@@ -47,10 +52,10 @@ pub fn latch(clockrate: u32, bitrate: u32, tolerance: u32) -> Found
     let slowest = (1000 - (tolerance as u64)) * underflows;
     let clocks = (rate + fastest - 1) / fastest;
     if MOST_CLOCKS < clocks {
-        return Found::Nothing;
+        return Ok(None);
     }
     if rate < slowest * clocks {
-        return Found::Nothing;
+        return Ok(None);
     }
-    Found::Fits((clocks - 1) as u16)
+    Ok(Some((clocks - 1) as u16))
 }

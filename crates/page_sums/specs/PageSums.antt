@@ -1,8 +1,9 @@
 -- Document 02, U7: page sums beside the memory.
 use Rattle.std.specs.Prelude.{◌≡◌, Bool, ◌&&◌, not, cond, List, [], ◌∷◌, map, ℕ, ◌+◌, ◌*◌, ◌/◌, ◌%◌, ◌<◌, eqb, length, get_or}
+use Rattle.std.specs.Prelude.{Result, Ok, Err}
 use Rattle.bits.specs.Lists.{tabulate}
 use Rattle.memory.specs.Memory.{memory_length}
-use Rattle.page_sums.specs.declared.TotalResult.{TotalResult}
+use Rattle.page_sums.specs.declared.WrongPageList.{WrongPageList}
 
 -- the sum of numbers
 unfoldable pub total_of : List ℕ → ℕ
@@ -73,9 +74,18 @@ unfoldable pub page_list_refused : ℕ → ℕ → Bool
 page_list_refused memory sums = eqb memory memory_length && not (eqb sums page_count)
 
 -- what the call for the total hands back: the number, and the total
+pub record TotalResult : Type 0 where
+  pub number : ℕ
+  pub total : ℕ
+
 abbrev pub total_result : ℕ → ℕ → TotalResult
 total_result n t = record { number = n; total = t }
 
 -- the call for the total: "a page list not of 256 sums" is 13
 unfoldable pub total_call : List ℕ → TotalResult
 total_call sums = cond (eqb (length sums) page_count) (total_result 0 (total_of sums % sum_modulus)) (total_result 13 0)
+
+-- the code's answer: 0 and the total, or the refusal's number and 0
+abbrev pub told : Result ℕ WrongPageList → TotalResult
+told (Ok total) = total_result 0 total
+told (Err _) = total_result 13 0

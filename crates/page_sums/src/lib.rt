@@ -2,7 +2,7 @@
 #![tactic(auto)]
 
 ghost use Rattle.std.specs.Prelude.{◌≡◌, ◌+◌, ◌<◌, ◌^◌, length, set};
-ghost use Rattle.page_sums.specs.PageSums.{sum_changed, sum_at, sums_after_part, page_list_refused, total_call};
+ghost use Rattle.page_sums.specs.PageSums.{sum_changed, sum_at, sums_after_part, page_list_refused, told, total_call};
 
 use memory::MEMORY_LENGTH;
 
@@ -12,14 +12,17 @@ const PAGE_COUNT: usize = 256;
 // The bytes of a page.
 const PAGE_LENGTH: usize = 256;
 
-// The page list is not of 256 sums.
-pub const WRONG_PAGE_LIST: u8 = 13;
+// A page list is not of 256 sums.
+#[derive(Clone, Copy, PartialEq, Eq, Debug)]
+pub struct WrongPageList;
 
-// What the call for the total hands back: 0 and the total, or the number of a refusal and 0.
-#[derive(Clone, Copy)]
-pub struct TotalResult {
-    pub number: u8,
-    pub total: u16,
+// Its number.
+impl From<WrongPageList> for u8 {
+    ghost from_gives = { λ _ number. number ≡ 13 };
+
+    fn from(_: WrongPageList) -> u8 {
+        13
+    }
 }
 
 // A byte of a page that becomes another changes the page's sum by as much, where the list has one.
@@ -53,23 +56,15 @@ pub fn page_list_refused(memory: usize, sums: usize) -> bool
 }
 
 // The total of 256 page sums, modulo 65,536.
-pub fn total(sums: &[u16]) -> TotalResult
-    ensures { result ≡ total_call sums.now }
+pub fn total(sums: &[u16]) -> Result<u16, WrongPageList>
+    ensures { told result ≡ total_call sums.now }
 {
     if sums.len() != PAGE_COUNT {
-        return TotalResult {
-            number: WRONG_PAGE_LIST,
-            total: 0,
-        };
+        return Err(WrongPageList);
     }
-    let mut sum: u32 = 0;
-    let mut page = 0;
-    while page < PAGE_COUNT {
-        sum += sums[page] as u32;
-        page += 1;
+    let mut total: u32 = 0;
+    for &sum in sums {
+        total += sum as u32;
     }
-    TotalResult {
-        number: 0,
-        total: (sum % 65536) as u16,
-    }
+    Ok((total % 65536) as u16)
 }

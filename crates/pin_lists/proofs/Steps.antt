@@ -1,14 +1,13 @@
--- What the code does, in the words of the specification: the loops over a pin list, step by step.
+-- What the code does, in the words of the specification: the walks along a pin list.
 use mathlib.Core.Path.{◌≡◌, refl, ap}
-use mathlib.Core.Bool.{Bool, true, false, ◌&&◌, ◌||◌, and-false, or-false}
+use mathlib.Core.Bool.{Bool, true, false, ◌&&◌, ◌||◌, cond, and-false, or-false}
 use mathlib.Core.List.{List, [], ◌∷◌}
-use Prim.Native.Nat.{ℕ, suc, ◌+◌, ◌≤◌, ◌<◌}
-use native.Mathlib.Numerals.{add-one}
-use native.Mathlib.Omega.{arith}
+use Prim.Native.Nat.{ℕ, suc, ◌≤◌}
+use native.Mathlib.Numerals.{one-add}
 use lib.Dec.{ltb, leb, eqb}
-use lib.ListN.{length, get_or, drop, drop_of_length-le}
-use lib.Seq.{drop-cons}
-use borrow.Author.Tests.{leb-true, le-ltb, eq-eqb, ne_eqb}
+use lib.ListN.{length}
+use borrow.Author.Tests.{leb-true, le-ltb}
+use Rattle.std.specs.List.{prefix_len}
 use Rattle.bits.proofs.Cond.{and_right}
 use Rattle.pin_lists.specs.PinLists.{pin_of, code_right, entry_right, rest_right, pins_right, input_count}
 use Rattle.pin_lists.proofs.PinLists.{right_lengths}
@@ -43,32 +42,20 @@ module _ (last_pin : ℕ) where
       neither true n = absurd (n refl)
       neither false n = refl
 
-  module _ (c p i : ℕ) (ts cs : List ℕ) (same : length ts ≡ length cs) where
-    -- no entry is left
-    pub rest_end : length ts ≤ i → rest_right last_pin c p (drop i ts) (drop i cs) ≡ true
-    unfolding rest_right
-    rest_end h = let l : length cs ≤ i = omega arith in rw (drop_of_length-le ts h, drop_of_length-le cs l)
+  -- one entry more, of lists that begin so
+  pub rest_next : (c p t d : ℕ) (ts ds : List ℕ) {times codes : List ℕ} → times ≡ t ∷ ts → codes ≡ d ∷ ds
+      → rest_right last_pin c p times codes
+      ≡ (entry_right last_pin c p t d && rest_right last_pin t (pin_of d) ts ds)
+  unfolding rest_right
+  rest_next c p t d ts ds a b = rw (a, b)
 
-    -- one entry more
-    pub rest_next : i < length ts → rest_right last_pin c p (drop i ts) (drop i cs)
-        ≡ (entry_right last_pin c p (get_or ts i 0) (get_or cs i 0) && rest_right last_pin (get_or ts i 0) (pin_of (get_or cs i 0))
-        (drop (i + 1) ts) (drop (i + 1) cs))
-    unfolding rest_right
-    rest_next h = let l : i < length cs = omega arith in rw (drop-cons ts i 0 h, drop-cons cs i 0 l, add-one i)
-
-module _ (c i : ℕ) (ts : List ℕ) where
   -- no entry is left
-  pub input_count_end : length ts ≤ i → input_count c (drop i ts) ≡ 0
-  unfolding input_count
-  input_count_end h = rw (drop_of_length-le ts h)
+  pub rest_end : (c p : ℕ) {times codes : List ℕ} → times ≡ [] → codes ≡ [] → rest_right last_pin c p times codes ≡ true
+  unfolding rest_right
+  rest_end c p a b = rw (a, b)
 
-  -- an entry of another clock
-  pub input_count_other : i < length ts → (get_or ts i 0 ≡ c → ⊥) → input_count c (drop i ts) ≡ 0
-  unfolding input_count
-  input_count_other h n = rw (drop-cons ts i 0 h, ne_eqb _ _ n)
-
-  -- an entry of the clock
-  pub input_count_more : i < length ts → get_or ts i 0 ≡ c
-      → input_count c (drop i ts) ≡ suc (input_count c (drop (i + 1) ts))
-  unfolding input_count
-  input_count_more h e = rw (drop-cons ts i 0 h, eq-eqb _ _ e, add-one i)
+-- the inputs of a clock are the entries in front that are of it
+pub input_count_prefix : (c : ℕ) (ts : List ℕ) → prefix_len (λ t. eqb t c) ts ≡ input_count c ts
+unfolding input_count
+input_count_prefix c [] = refl
+input_count_prefix c (t ∷ ts) = ap (λ n. cond (eqb t c) n 0) (rw one-add (ap suc (input_count_prefix c ts)))

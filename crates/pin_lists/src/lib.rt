@@ -28,16 +28,12 @@ pub fn pins_right(lastpin: u8, clock: u32, clocks: &[u32], codes: &[u8]) -> bool
     }
     let mut last = clock;
     let mut pin = lastpin;
-    let mut i = 0;
-    while i < clocks.len() {
-        let time = clocks[i];
-        let code = codes[i];
+    for (&time, &code) in clocks.iter().zip(codes) {
         if !entry_right(lastpin, last, pin, time, code) {
             return false;
         }
         last = time;
         pin = code % 64;
-        i += 1;
     }
     true
 }
@@ -46,12 +42,5 @@ pub fn pins_right(lastpin: u8, clock: u32, clocks: &[u32], codes: &[u8]) -> bool
 pub fn input_count(clock: u32, clocks: &[u32]) -> usize
     ensures { result ≡ input_count clock clocks.now }
 {
-    let mut i = 0;
-    while i < clocks.len() {
-        if clocks[i] != clock {
-            return i;
-        }
-        i += 1;
-    }
-    i
+    clocks.iter().take_while(|&&time| time == clock).count()
 }

@@ -17,8 +17,7 @@ use bits::one_where;
 use page_sums::page_list_refused;
 use r6501q_host::{
     HostLatchResult, HostLoadResult, HostResult, HostState, HostTotalResult, flag_refused,
-    flags_fit, halt_of, host_latch_result, host_load_result, host_result, host_state,
-    host_total_result, state_from, wrong_page_list,
+    flags_fit, halt_of, wrong_page_list,
 };
 use r6501q_state::state::{fresh_state, well_formed};
 
@@ -27,7 +26,7 @@ use r6501q_state::state::{fresh_state, well_formed};
 pub extern "C" fn r6501q_fresh() -> HostState
     ensures { result ≡ host_state fresh }
 {
-    host_state(fresh_state())
+    fresh_state().into()
 }
 
 // 1 where every field is within its range, 0 where one is not.
@@ -35,7 +34,7 @@ pub extern "C" fn r6501q_fresh() -> HostState
 pub extern "C" fn r6501q_well_formed(state: HostState) -> u8
     ensures { result ≡ one_where (host_well_formed state) }
 {
-    let fit = flags_fit(state) & well_formed(state_from(state));
+    let fit = flags_fit(state) & well_formed(state.into());
     one_where(fit)
 }
 
@@ -66,7 +65,7 @@ pub extern "C" fn r6501q_step(
         );
     }
     let result = r6501q_step::step(
-        state_from(state),
+        state.into(),
         memory,
         inputclocks,
         inputcodes,
@@ -74,7 +73,7 @@ pub extern "C" fn r6501q_step(
         outputwords,
         halt_of(halt),
     );
-    host_result(result)
+    result.into()
 }
 
 // The call for n clocks, by leaps. `halt` is the halt address; above 65,535: none.
@@ -108,7 +107,7 @@ pub extern "C" fn r6501q_run(
         );
     }
     let result = r6501q_run::run(
-        state_from(state),
+        state.into(),
         memory,
         inputclocks,
         inputcodes,
@@ -117,7 +116,7 @@ pub extern "C" fn r6501q_run(
         n,
         halt_of(halt),
     );
-    host_result(result)
+    result.into()
 }
 
 // A tape into memory.
@@ -125,8 +124,7 @@ pub extern "C" fn r6501q_run(
 pub extern "C" fn r6501q_load(tape: &[u8], memory: &mut [u8]) -> HostLoadResult
     ensures { host_loaded result memory.new ≡ host_load tape.now memory.old }
 {
-    let result = tape::load(tape, memory);
-    host_load_result(result)
+    tape::load(tape, memory).into()
 }
 
 // The single-clock call of a memory with its page sums; their list is looked at before the state's flags.
@@ -161,7 +159,7 @@ pub extern "C" fn r6501q_step_with_sums(
         );
     }
     let result = r6501q_step::step_with_sums(
-        state_from(state),
+        state.into(),
         memory,
         sums,
         inputclocks,
@@ -170,7 +168,7 @@ pub extern "C" fn r6501q_step_with_sums(
         outputwords,
         halt_of(halt),
     );
-    host_result(result)
+    result.into()
 }
 
 // The call for n clocks of a memory with its page sums; their list is looked at before the state's flags.
@@ -209,7 +207,7 @@ pub extern "C" fn r6501q_run_with_sums(
         );
     }
     let result = r6501q_run::run_with_sums(
-        state_from(state),
+        state.into(),
         memory,
         sums,
         inputclocks,
@@ -219,7 +217,7 @@ pub extern "C" fn r6501q_run_with_sums(
         n,
         halt_of(halt),
     );
-    host_result(result)
+    result.into()
 }
 
 // A tape into memory and its page sums.
@@ -233,8 +231,7 @@ pub extern "C" fn r6501q_load_with_sums(
         ≡ host_load_with_sums tape.now memory.old sums.old }
     ensures sums_after { sums.new ≡ sums_after sums.old memory.old memory.new }
 {
-    let result = tape::load_with_sums(tape, memory, sums);
-    host_load_result(result)
+    tape::load_with_sums(tape, memory, sums).into()
 }
 
 // The total of 256 page sums, modulo 65,536.
@@ -242,8 +239,7 @@ pub extern "C" fn r6501q_load_with_sums(
 pub extern "C" fn r6501q_total(sums: &[u16]) -> HostTotalResult
     ensures { result ≡ host_total sums.now }
 {
-    let result = page_sums::total(sums);
-    host_total_result(result)
+    page_sums::total(sums).into()
 }
 
 // The smallest latch value of counter A for a wanted bit rate.
@@ -251,6 +247,5 @@ pub extern "C" fn r6501q_total(sums: &[u16]) -> HostTotalResult
 pub extern "C" fn r6501q_latch(clockrate: u32, bitrate: u32, tolerance: u32) -> HostLatchResult
     ensures { result ≡ host_latch clockrate bitrate tolerance }
 {
-    let found = bit_rate::latch(clockrate, bitrate, tolerance);
-    host_latch_result(found)
+    bit_rate::latch(clockrate, bitrate, tolerance).into()
 }

@@ -1,10 +1,8 @@
 -- What crosses to and from programs in C and Rust: document 01, "Machine state", with each flag and level as a byte.
-use Rattle.std.specs.Prelude.{Bool, ◌&&◌, ◌||◌, cond, ℕ, leb, eqb, None, Option, Some}
-use Rattle.page_sums.specs.declared.TotalResult.{TotalResult}
+use Rattle.std.specs.Prelude.{Bool, ◌&&◌, ◌||◌, cond, ℕ, leb, eqb, Option, Ok, Err, Some, None}
+use Rattle.page_sums.specs.PageSums.{TotalResult}
 use Rattle.bits.specs.Bits.{one_where}
-use Rattle.bit_rate.specs.declared.Found.{Found}
-use Rattle.bit_rate.specs.declared.Found.TheVariants.{Fits, Nothing, Refused}
-use Rattle.bit_rate.specs.BitRate.{latch_number}
+use Rattle.bit_rate.specs.BitRate.{Found, latch_number}
 use Rattle.counters.specs.declared.b.CounterB.{CounterB}
 use Rattle.cpu_access.specs.declared.stack.Write.{Write}
 use Rattle.cpu_access.specs.Stack.{write_at}
@@ -15,7 +13,7 @@ use Rattle.r6501q_state.specs.declared.state.Peripherals.{Peripherals}
 use Rattle.r6501q_state.specs.declared.state.Levels.{Levels}
 use Rattle.r6501q_state.specs.declared.state.State.{State}
 use Rattle.r6501q_step.specs.declared.CallResult.{CallResult}
-use Rattle.tape.specs.declared.LoadResult.{LoadResult}
+use Rattle.tape.specs.Tapes.{LoadResult}
 use Rattle.r6501q_host.specs.declared.HostWaiting.{HostWaiting}
 use Rattle.r6501q_host.specs.declared.HostCpu.{HostCpu}
 use Rattle.r6501q_host.specs.declared.HostDue.{HostDue}
@@ -178,9 +176,9 @@ host_total_result t = record { number = t.number; total = t.total }
 
 -- 02, U2: the answer's number, whether a latch value was found, and the value; without one both are 0
 abbrev pub host_latch_result : Found → HostLatchResult
-host_latch_result (Fits N) = record { number = latch_number (Fits N); found = 1; value = N }
-host_latch_result Nothing = record { number = latch_number Nothing; found = 0; value = 0 }
-host_latch_result Refused = record { number = latch_number Refused; found = 0; value = 0 }
+host_latch_result (Ok (Some N)) = record { number = latch_number (Ok (Some N)); found = 1; value = N }
+host_latch_result (Ok None) = record { number = latch_number (Ok None); found = 0; value = 0 }
+host_latch_result (Err refused) = record { number = latch_number (Err refused); found = 0; value = 0 }
 
 -- ---- refusals
 

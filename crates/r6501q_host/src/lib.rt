@@ -3,7 +3,9 @@
 #![tactic(auto)]
 
 ghost use Rattle.std.specs.Prelude.{◌≡◌, false};
+ghost use Rattle.page_sums.specs.PageSums.{told as total_told};
 ghost use Rattle.refusals.specs.Refusals.{refusal_of};
+ghost use Rattle.tape.specs.Tapes.{told as loaded_told};
 ghost use Rattle.r6501q_chip.specs.R6501q.{r6501q_limits};
 ghost use Rattle.r6501q_host.specs.Host.{waiting_from_host, cpu_from_host, waiting_fits, host_waiting, host_cpu};
 ghost use Rattle.r6501q_host.specs.Host.{due_from_host};
@@ -12,18 +14,18 @@ ghost use Rattle.r6501q_host.specs.Host.{state_from_host, flags_fit, halt_of, ho
 ghost use Rattle.r6501q_host.specs.Host.{host_levels, host_peripherals, host_state, host_result, host_load_result};
 ghost use Rattle.r6501q_host.specs.Host.{host_total_result, host_latch_result, host_refused};
 
-use bit_rate::Found;
+use bit_rate::OutOfLimits;
 use bits::one_where;
 use counters::a::CounterA;
 use counters::b::CounterB;
 use cpu_access::stack::Write;
-use page_sums::{TotalResult, WRONG_PAGE_LIST};
+use page_sums::WrongPageList;
 use r6501q_state::state::{Control, Cpu, Due, Levels, Peripherals, Ports, SerialData, State};
 use r6501q_step::{CallResult, limits};
-use refusals::refusal;
+use refusals::{Refusal, check};
 use serial_receiver::Receiver;
 use serial_transmitter::Transmitter;
-use tape::LoadResult;
+use tape::LoadError;
 
 #[repr(C)]
 #[derive(Clone, Copy)]
@@ -135,102 +137,111 @@ pub struct HostTotalResult {
 }
 
 // From the host: a byte of 1 is a yes. What is neither 0 nor 1 is refused before, by `flags_fit`.
-#[tactic(auto, unfolding(crate::specs::Host::waiting_from_host))]
-fn waiting_from(h: HostWaiting) -> Option<Write>
-    ensures { result ≡ waiting_from_host h }
-{
-    (h.there == 1).then_some(Write {
-        address: h.address,
-        value: h.value,
-    })
-}
+impl From<HostWaiting> for Option<Write> {
+    ghost from_gives = { λ host waiting. waiting ≡ waiting_from_host host };
 
-fn cpu_from(h: HostCpu) -> Cpu
-    ensures { result ≡ cpu_from_host h }
-{
-    Cpu {
-        a: h.a,
-        x: h.x,
-        y: h.y,
-        sp: h.sp,
-        p: h.p,
-        pc: h.pc,
-        wait: h.wait,
-        waiting: waiting_from(h.waiting),
+    fn from(host: HostWaiting) -> Waiting {
+        (host.there == 1).then_some(Write {
+            address: host.address,
+            value: host.value,
+        })
     }
 }
 
-fn due_from(h: HostDue) -> Due
-    ensures { result ≡ due_from_host h }
-{
-    Due {
-        reset: h.reset == 1,
-        nmi: h.nmi == 1,
+impl From<HostCpu> for Cpu {
+    ghost from_gives = { λ host cpu. cpu ≡ cpu_from_host host };
+
+    fn from(host: HostCpu) -> Cpu {
+        Cpu {
+            a: host.a,
+            x: host.x,
+            y: host.y,
+            sp: host.sp,
+            p: host.p,
+            pc: host.pc,
+            wait: host.wait,
+            waiting: host.waiting.into(),
+        }
     }
 }
 
-fn counter_b_from(h: HostCounterB) -> CounterB
-    ensures { result ≡ counter_b_from_host h }
-{
-    CounterB {
-        count: h.count,
-        latchb: h.latchb,
-        latchc: h.latchc,
-        turnc: h.turnc == 1,
+impl From<HostDue> for Due {
+    ghost from_gives = { λ host due. due ≡ due_from_host host };
+
+    fn from(host: HostDue) -> Due {
+        Due {
+            reset: host.reset == 1,
+            nmi: host.nmi == 1,
+        }
     }
 }
 
-fn receiver_from(h: HostReceiver) -> Receiver
-    ensures { result ≡ receiver_from_host h }
-{
-    Receiver {
-        subinterval: h.subinterval,
-        half: h.half == 1,
-        left: h.left,
-        register: h.register,
+impl From<HostCounterB> for CounterB {
+    ghost from_gives = { λ host counter. counter ≡ counter_b_from_host host };
+
+    fn from(host: HostCounterB) -> CounterB {
+        CounterB {
+            count: host.count,
+            latchb: host.latchb,
+            latchc: host.latchc,
+            turnc: host.turnc == 1,
+        }
     }
 }
 
-fn levels_from(h: HostLevels) -> Levels
-    ensures { result ≡ levels_from_host h }
-{
-    Levels {
-        ports: h.ports,
-        nmi: h.nmi == 1,
-        res: h.res == 1,
+impl From<HostReceiver> for Receiver {
+    ghost from_gives = { λ host receiver. receiver ≡ receiver_from_host host };
+
+    fn from(host: HostReceiver) -> Receiver {
+        Receiver {
+            subinterval: host.subinterval,
+            half: host.half == 1,
+            left: host.left,
+            register: host.register,
+        }
     }
 }
 
-fn peripherals_from(h: HostPeripherals) -> Peripherals
-    ensures { result ≡ peripherals_from_host h }
-{
-    let ports = h.ports;
-    let countera = h.countera;
-    let control = h.control;
-    let serial = h.serial;
-    let transmitter = h.transmitter;
-    Peripherals {
-        ports: ports,
-        countera: countera,
-        counterb: counter_b_from(h.counterb),
-        control: control,
-        serial: serial,
-        transmitter: transmitter,
-        receiver: receiver_from(h.receiver),
+impl From<HostLevels> for Levels {
+    ghost from_gives = { λ host levels. levels ≡ levels_from_host host };
+
+    fn from(host: HostLevels) -> Levels {
+        Levels {
+            ports: host.ports,
+            nmi: host.nmi == 1,
+            res: host.res == 1,
+        }
     }
 }
 
-// The host's state as the library's.
-pub fn state_from(h: HostState) -> State
-    ensures { result ≡ state_from_host h }
-{
-    State {
-        cpu: cpu_from(h.cpu),
-        due: due_from(h.due),
-        peripherals: peripherals_from(h.peripherals),
-        external: levels_from(h.external),
-        last: levels_from(h.last),
-        clock: h.clock,
+impl From<HostPeripherals> for Peripherals {
+    ghost from_gives = { λ host peripherals. peripherals ≡ peripherals_from_host host };
+
+    fn from(host: HostPeripherals) -> Peripherals {
+        Peripherals {
+            ports: host.ports,
+            countera: host.countera,
+            counterb: host.counterb.into(),
+            control: host.control,
+            serial: host.serial,
+            transmitter: host.transmitter,
+            receiver: host.receiver.into(),
+        }
+    }
+}
+
+impl From<HostState> for State {
+    ghost from_gives = { λ host state. state ≡ state_from_host host };
+
+    fn from(host: HostState) -> State {
+        State {
+            cpu: host.cpu.into(),
+            due: host.due.into(),
+            peripherals: host.peripherals.into(),
+            external: host.external.into(),
+            last: host.last.into(),
+            clock: host.clock,
+        }
     }
 }
 
@@ -262,165 +273,202 @@ pub fn halt_of(halt: u32) -> Option<u16>
 }
 
 // To the host.
-fn host_waiting(w: Option<Write>) -> HostWaiting
-    ensures { result ≡ host_waiting w }
-{
-    match w {
-        None => HostWaiting {
-            there: 0,
-            address: 0,
-            value: 0,
-        },
-        Some(byte) => HostWaiting {
-            there: 1,
-            address: byte.address,
-            value: byte.value,
-        },
+impl From<Option<Write>> for HostWaiting {
+    ghost from_gives = { λ waiting host. host ≡ host_waiting waiting };
+
+    fn from(waiting: Option<Write>) -> HostWaiting {
+        match waiting {
+            None => HostWaiting {
+                there: 0,
+                address: 0,
+                value: 0,
+            },
+            Some(byte) => HostWaiting {
+                there: 1,
+                address: byte.address,
+                value: byte.value,
+            },
+        }
     }
 }
 
-fn host_cpu(c: Cpu) -> HostCpu
-    ensures { result ≡ host_cpu c }
-{
-    HostCpu {
-        a: c.a,
-        x: c.x,
-        y: c.y,
-        sp: c.sp,
-        p: c.p,
-        pc: c.pc,
-        wait: c.wait,
-        waiting: host_waiting(c.waiting),
+impl From<Cpu> for HostCpu {
+    ghost from_gives = { λ cpu host. host ≡ host_cpu cpu };
+
+    fn from(cpu: Cpu) -> HostCpu {
+        HostCpu {
+            a: cpu.a,
+            x: cpu.x,
+            y: cpu.y,
+            sp: cpu.sp,
+            p: cpu.p,
+            pc: cpu.pc,
+            wait: cpu.wait,
+            waiting: cpu.waiting.into(),
+        }
     }
 }
 
-fn host_due(d: Due) -> HostDue
-    ensures { result ≡ host_due d }
-{
-    HostDue {
-        reset: one_where(d.reset),
-        nmi: one_where(d.nmi),
+impl From<Due> for HostDue {
+    ghost from_gives = { λ due host. host ≡ host_due due };
+
+    fn from(due: Due) -> HostDue {
+        HostDue {
+            reset: one_where(due.reset),
+            nmi: one_where(due.nmi),
+        }
     }
 }
 
-fn host_counter_b(c: CounterB) -> HostCounterB
-    ensures { result ≡ host_counter_b c }
-{
-    HostCounterB {
-        count: c.count,
-        latchb: c.latchb,
-        latchc: c.latchc,
-        turnc: one_where(c.turnc),
+impl From<CounterB> for HostCounterB {
+    ghost from_gives = { λ counter host. host ≡ host_counter_b counter };
+
+    fn from(counter: CounterB) -> HostCounterB {
+        HostCounterB {
+            count: counter.count,
+            latchb: counter.latchb,
+            latchc: counter.latchc,
+            turnc: one_where(counter.turnc),
+        }
     }
 }
 
-fn host_receiver(v: Receiver) -> HostReceiver
-    ensures { result ≡ host_receiver v }
-{
-    HostReceiver {
-        subinterval: v.subinterval,
-        half: one_where(v.half),
-        left: v.left,
-        register: v.register,
+impl From<Receiver> for HostReceiver {
+    ghost from_gives = { λ receiver host. host ≡ host_receiver receiver };
+
+    fn from(receiver: Receiver) -> HostReceiver {
+        HostReceiver {
+            subinterval: receiver.subinterval,
+            half: one_where(receiver.half),
+            left: receiver.left,
+            register: receiver.register,
+        }
     }
 }
 
-fn host_levels(l: Levels) -> HostLevels
-    ensures { result ≡ host_levels l }
-{
-    HostLevels {
-        ports: l.ports,
-        nmi: one_where(l.nmi),
-        res: one_where(l.res),
+impl From<Levels> for HostLevels {
+    ghost from_gives = { λ levels host. host ≡ host_levels levels };
+
+    fn from(levels: Levels) -> HostLevels {
+        HostLevels {
+            ports: levels.ports,
+            nmi: one_where(levels.nmi),
+            res: one_where(levels.res),
+        }
     }
 }
 
-fn host_peripherals(p: Peripherals) -> HostPeripherals
-    ensures { result ≡ host_peripherals p }
-{
-    let ports = p.ports;
-    let countera = p.countera;
-    let control = p.control;
-    let serial = p.serial;
-    let transmitter = p.transmitter;
-    HostPeripherals {
-        ports: ports,
-        countera: countera,
-        counterb: host_counter_b(p.counterb),
-        control: control,
-        serial: serial,
-        transmitter: transmitter,
-        receiver: host_receiver(p.receiver),
+impl From<Peripherals> for HostPeripherals {
+    ghost from_gives = { λ peripherals host. host ≡ host_peripherals peripherals };
+
+    fn from(peripherals: Peripherals) -> HostPeripherals {
+        HostPeripherals {
+            ports: peripherals.ports,
+            countera: peripherals.countera,
+            counterb: peripherals.counterb.into(),
+            control: peripherals.control,
+            serial: peripherals.serial,
+            transmitter: peripherals.transmitter,
+            receiver: peripherals.receiver.into(),
+        }
     }
 }
 
-// The library's state as the host's.
-pub fn host_state(s: State) -> HostState
-    ensures { result ≡ host_state s }
-{
-    HostState {
-        cpu: host_cpu(s.cpu),
-        due: host_due(s.due),
-        peripherals: host_peripherals(s.peripherals),
-        external: host_levels(s.external),
-        last: host_levels(s.last),
-        clock: s.clock,
+impl From<State> for HostState {
+    ghost from_gives = { λ state host. host ≡ host_state state };
+
+    fn from(state: State) -> HostState {
+        HostState {
+            cpu: state.cpu.into(),
+            due: state.due.into(),
+            peripherals: state.peripherals.into(),
+            external: state.external.into(),
+            last: state.last.into(),
+            clock: state.clock,
+        }
     }
 }
 
-// What a call hands back, as the host's.
-pub fn host_result(t: CallResult) -> HostResult
-    ensures { result ≡ host_result t }
+// What a call hands back.
+impl From<CallResult> for HostResult {
+    ghost from_gives = { λ called host. host ≡ host_result called };
+
+    fn from(called: CallResult) -> HostResult {
+        HostResult {
+            number: called.number,
+            state: called.state.into(),
+            leaps: called.leaps,
+            read: called.read,
+            written: called.written,
+        }
+    }
+}
+
+// What a load hands back: 0 and the place past the last record, or the refusal's number and the place of its fault.
+impl From<Result<usize, LoadError>> for HostLoadResult {
+    ghost from_gives = { λ loaded host. host ≡ host_load_result (loaded_told loaded) };
+
+    fn from(loaded: Result<usize, LoadError>) -> HostLoadResult {
+        match loaded {
+            Ok(place) => HostLoadResult { number: 0, place },
+            Err(error) => HostLoadResult {
+                number: error.fault.into(),
+                place: error.place,
+            },
+        }
+    }
+}
+
+// What the call for the total hands back: 0 and the total, or the refusal's number and 0.
+impl From<Result<u16, WrongPageList>> for HostTotalResult {
+    ghost from_gives = { λ summed host. host ≡ host_total_result (total_told summed) };
+
+    fn from(summed: Result<u16, WrongPageList>) -> HostTotalResult {
+        match summed {
+            Ok(total) => HostTotalResult { number: 0, total },
+            Err(refused) => HostTotalResult {
+                number: refused.into(),
+                total: 0,
+            },
+        }
+    }
+}
+
+// What the latch call hands back; without a latch value both its fields are 0.
+impl From<Result<Option<u16>, OutOfLimits>> for HostLatchResult {
+    ghost from_gives = { λ found host. host ≡ host_latch_result found };
+
+    fn from(found: Result<Option<u16>, OutOfLimits>) -> HostLatchResult {
+        match found {
+            Ok(Some(value)) => HostLatchResult {
+                number: 0,
+                found: 1,
+                value,
+            },
+            Ok(None) => HostLatchResult {
+                number: 0,
+                found: 0,
+                value: 0,
+            },
+            Err(out_of_limits) => HostLatchResult {
+                number: out_of_limits.into(),
+                found: 0,
+                value: 0,
+            },
+        }
+    }
+}
+
+// What a refused call hands back: the state as it was given.
+fn refused(number: u8, state: HostState) -> HostResult
+    ensures { result ≡ host_refused number state }
 {
     HostResult {
-        number: t.number,
-        state: host_state(t.state),
-        leaps: t.leaps,
-        read: t.read,
-        written: t.written,
-    }
-}
-
-// What a load hands back, as the host's.
-pub fn host_load_result(l: LoadResult) -> HostLoadResult
-    ensures { result ≡ host_load_result l }
-{
-    HostLoadResult {
-        number: l.number,
-        place: l.place,
-    }
-}
-
-// What the call for the total hands back, as the host's.
-pub fn host_total_result(t: TotalResult) -> HostTotalResult
-    ensures { result ≡ host_total_result t }
-{
-    HostTotalResult {
-        number: t.number,
-        total: t.total,
-    }
-}
-
-// What the latch call hands back, as the host's.
-pub fn host_latch_result(found: Found) -> HostLatchResult
-    ensures { result ≡ host_latch_result found }
-{
-    match found {
-        Found::Fits(value) => HostLatchResult {
-            number: 0,
-            found: 1,
-            value: value,
-        },
-        Found::Nothing => HostLatchResult {
-            number: 0,
-            found: 0,
-            value: 0,
-        },
-        Found::Refused => HostLatchResult {
-            number: 11,
-            found: 0,
-            value: 0,
-        },
+        number,
+        state,
+        leaps: 0,
+        read: 0,
+        written: 0,
     }
 }
 
@@ -438,7 +486,7 @@ pub fn flag_refused(
     ensures { result ≡ host_refused (refusal_of r6501q_limits false state.clock bytes inputclocks.now
         inputcodes.now outputclocks outputwords n) state }
 {
-    let number = refusal(
+    let checked = check(
         limits(),
         false,
         state.clock,
@@ -449,24 +497,16 @@ pub fn flag_refused(
         outputwords,
         n,
     );
-    HostResult {
-        number: number,
-        state: state,
-        leaps: 0,
-        read: 0,
-        written: 0,
-    }
+    let number = match checked {
+        Ok(()) => 0,
+        Err(refusal) => refusal.into(),
+    };
+    refused(number, state)
 }
 
 // What a call with page sums hands back where their list is not of 256.
 pub fn wrong_page_list(state: HostState) -> HostResult
     ensures { result ≡ host_refused 13 state }
 {
-    HostResult {
-        number: WRONG_PAGE_LIST,
-        state: state,
-        leaps: 0,
-        read: 0,
-        written: 0,
-    }
+    refused(Refusal::PageList.into(), state)
 }

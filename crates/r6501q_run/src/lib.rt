@@ -11,11 +11,12 @@ ghost use Rattle.r6501q_step.specs.Calls.{at_exit};
 ghost use Rattle.r6501q_leap.specs.RunInCode.{goes_on, run_from, run_ended, begin_run, Leaping};
 
 use counters::time::Clocks;
-use page_sums::{WRONG_PAGE_LIST, page_list_refused};
+use page_sums::page_list_refused;
 use r6501q_leap::{Leaped, leap_once};
 use r6501q_span_leaps::leap_span;
 use r6501q_state::state::State;
-use r6501q_step::{CallResult, begin, call_refusal, refused, result_of};
+use r6501q_step::{CallResult, begin, check_call, refused, result_of};
+use refusals::Refusal;
 
 // Whether another leap is to be made.
 fn goes_on(at: Leaped) -> bool
@@ -99,7 +100,7 @@ fn run_into(
         ≡ plain_run_of (machine halt) n (at_entry state memory inputclocks inputcodes outputclocks outputwords) }
     ensures sums_after { sums.new ≡ sums_after sums.old memory.old memory.new }
 {
-    let number = call_refusal(
+    let checked = check_call(
         state,
         memory.len(),
         inputclocks,
@@ -108,8 +109,8 @@ fn run_into(
         outputwords.len(),
         n,
     );
-    if number != 0 {
-        return refused(number, state);
+    if let Err(refusal) = checked {
+        return refused(refusal, state);
     }
     let end = leap_on(
         begin_run(state, n),
@@ -175,7 +176,7 @@ pub fn run_with_sums(
     ensures sums_after { sums.new ≡ sums_after sums.old memory.old memory.new }
 {
     if page_list_refused(memory.len(), sums.len()) {
-        return refused(WRONG_PAGE_LIST, state);
+        return refused(Refusal::PageList, state);
     }
     run_into(
         state,

@@ -3,7 +3,7 @@
 
 ghost use Rattle.std.specs.Prelude.{◌≡◌};
 ghost use Rattle.page_sums.specs.PageSums.{sums_after};
-ghost use Rattle.refusals.specs.Refusals.{refusal_of};
+ghost use Rattle.refusals.specs.Refusals.{number_of, number_in, refusal_of};
 ghost use Rattle.leaps.specs.CallLists.{step_of};
 ghost use Rattle.leaps.specs.Lent.{at_entry};
 ghost use Rattle.leaps.specs.Summed.{with_sums};
@@ -12,11 +12,11 @@ ghost use Rattle.r6501q_chip.specs.R6501q.{r6501q_limits, machine};
 ghost use Rattle.r6501q_step.specs.Calls.{begin, refusal_result, progress_result, leaps_from, at_exit};
 
 use memory::MEMORY_LENGTH;
-use page_sums::{WRONG_PAGE_LIST, page_list_refused};
+use page_sums::page_list_refused;
 use r6501q_advance::{Progress, advance};
 use r6501q_state::inputs::LAST_PIN;
 use r6501q_state::state::{State, well_formed};
-use refusals::{Limits, refusal};
+use refusals::{Limits, Refusal, check};
 
 // What a call hands back beside the lent lists: document 01's number, the state, the leaps, the inputs read and the
 // records written.
@@ -40,8 +40,8 @@ pub fn limits() -> Limits
     }
 }
 
-// The number of the first check that fails of a call for n clocks, or 0.
-pub fn call_refusal(
+// The first check that fails of a call for n clocks.
+pub fn check_call(
     state: State,
     bytes: usize,
     inputclocks: &[u32],
@@ -49,14 +49,13 @@ pub fn call_refusal(
     outputclocks: usize,
     outputwords: usize,
     n: u32,
-) -> u8
-    ensures { result ≡ refusal_of r6501q_limits (well_formed state) state.clock bytes inputclocks.now
+) -> Result<(), Refusal>
+    ensures { number_in result ≡ refusal_of r6501q_limits (well_formed state) state.clock bytes inputclocks.now
         inputcodes.now outputclocks outputwords n }
 {
-    let formed = well_formed(state);
-    refusal(
+    check(
         limits(),
-        formed,
+        well_formed(state),
         state.clock,
         bytes,
         inputclocks,
@@ -68,11 +67,11 @@ pub fn call_refusal(
 }
 
 // The result of a refused call.
-pub fn refused(number: u8, state: State) -> CallResult
-    ensures { result ≡ refusal_result number state }
+pub fn refused(refusal: Refusal, state: State) -> CallResult
+    ensures { result ≡ refusal_result (number_of refusal) state }
 {
     CallResult {
-        number: number,
+        number: refusal.into(),
         state: state,
         leaps: 0,
         read: 0,
@@ -128,7 +127,7 @@ fn step_into(
         ≡ step_of (machine halt) (at_entry state memory inputclocks inputcodes outputclocks outputwords) }
     ensures sums_after { sums.new ≡ sums_after sums.old memory.old memory.new }
 {
-    let number = call_refusal(
+    let checked = check_call(
         state,
         memory.len(),
         inputclocks,
@@ -137,8 +136,8 @@ fn step_into(
         outputwords.len(),
         1,
     );
-    if number != 0 {
-        return refused(number, state);
+    if let Err(refusal) = checked {
+        return refused(refusal, state);
     }
     let end = advance(
         begin(state),
@@ -197,7 +196,7 @@ pub fn step_with_sums(
     ensures sums_after { sums.new ≡ sums_after sums.old memory.old memory.new }
 {
     if page_list_refused(memory.len(), sums.len()) {
-        return refused(WRONG_PAGE_LIST, state);
+        return refused(Refusal::PageList, state);
     }
     step_into(
         state,

@@ -9,7 +9,25 @@ use lib.ListN.{length}
 use borrow.Author.Tests.{eqb-true, ltb-true, ltb-false, eq-eqb, lt-ltb, le-ltb, not-false}
 use Rattle.pin_lists.specs.PinLists.{pins_right}
 use Rattle.refusals.specs.declared.Limits.{Limits}
-use Rattle.refusals.specs.Refusals.{last_clock, refusal_of}
+use Rattle.refusals.specs.declared.Refusal.{Refusal}
+use Rattle.refusals.specs.declared.Refusal.TheVariants.{
+  MemoryLength,
+  MalformedState,
+  UnpairedLists,
+  PastLastClock,
+  BrokenPinList,
+  PageList,
+}
+use Rattle.refusals.specs.Refusals.{last_clock, number_of, refusal_of}
+
+-- no refusal's number is 0
+pub number_some : (refusal : Refusal) → number_of refusal ≡ 0 → ⊥
+number_some MemoryLength z = omega arith
+number_some MalformedState z = omega arith
+number_some UnpairedLists z = omega arith
+number_some PastLastClock z = omega arith
+number_some BrokenPinList z = omega arith
+number_some PageList z = omega arith
 
 -- a row of the table passed
 passed : (number : ℕ) (so : Bool) (later : ℕ) → 0 < number → cond so number later ≡ 0 → (so ≡ false) × (later ≡ 0)

@@ -2,7 +2,7 @@
 #![tactic(auto)]
 
 ghost use Rattle.std.specs.Prelude.{◌≡◌, ◌+◌, ltb};
-ghost use Rattle.refusals.specs.Refusals.{last_clock, refusal_of};
+ghost use Rattle.refusals.specs.Refusals.{last_clock, number_of, number_in, refusal_of};
 
 use pin_lists::pins_right;
 
@@ -11,6 +11,33 @@ use pin_lists::pins_right;
 pub struct Limits {
     pub memory: usize,
     pub pin: u8,
+}
+
+// Why a call is refused.
+#[derive(Clone, Copy, PartialEq, Eq, Debug)]
+pub enum Refusal {
+    MemoryLength,
+    MalformedState,
+    UnpairedLists,
+    PastLastClock,
+    BrokenPinList,
+    PageList,
+}
+
+// Its number.
+impl From<Refusal> for u8 {
+    ghost from_gives = { λ refusal number. number ≡ number_of refusal };
+
+    fn from(refusal: Refusal) -> u8 {
+        match refusal {
+            Refusal::MemoryLength => 1,
+            Refusal::MalformedState => 2,
+            Refusal::UnpairedLists => 3,
+            Refusal::PastLastClock => 4,
+            Refusal::BrokenPinList => 5,
+            Refusal::PageList => 13,
+        }
+    }
 }
 
 // The last clock.
@@ -23,9 +50,9 @@ fn passes_last(clock: u32, n: u32) -> bool
     LAST_CLOCK - clock < n
 }
 
-// The number of the first check that fails, or 0: of a state that is well-formed or not and is at this clock, a memory
-// of `bytes` bytes, the input lists, output lists of `times` and `words` entries, and n clocks.
-pub fn refusal(
+// The first check that fails: of a state that is well-formed or not and is at this clock, a memory of `bytes` bytes, the
+// input lists, output lists of `times` and `words` entries, and n clocks.
+pub fn check(
     limits: Limits,
     formed: bool,
     clock: u32,
@@ -35,25 +62,24 @@ pub fn refusal(
     times: usize,
     words: usize,
     n: u32,
-) -> u8
-    ensures { result ≡ refusal_of limits formed clock bytes clocks.now codes.now
-        times words n }
+) -> Result<(), Refusal>
+    ensures { number_in result ≡ refusal_of limits formed clock bytes clocks.now codes.now times words n }
 {
     let unpaired = (clocks.len() != codes.len()) | (times != words);
     if bytes != limits.memory {
-        return 1;
+        return Err(Refusal::MemoryLength);
     }
     if !formed {
-        return 2;
+        return Err(Refusal::MalformedState);
     }
     if unpaired {
-        return 3;
+        return Err(Refusal::UnpairedLists);
     }
     if passes_last(clock, n) {
-        return 4;
+        return Err(Refusal::PastLastClock);
     }
     if !pins_right(limits.pin, clock, clocks, codes) {
-        return 5;
+        return Err(Refusal::BrokenPinList);
     }
-    0
+    Ok(())
 }

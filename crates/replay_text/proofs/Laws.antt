@@ -25,8 +25,7 @@ use Rattle.r6501q_step.specs.Calls.{handed}
 use Rattle.r6501q_chip.proofs.Released.{old_start}
 use Rattle.r6501q_leap.proofs.Laws.{laws, lawful}
 use Rattle.r6501q_run.proofs.Held.{released_plains}
-use Rattle.tape.specs.declared.LoadResult.{LoadResult}
-use Rattle.tape.specs.Tapes.{loaded, load_of}
+use Rattle.tape.specs.Tapes.{LoadResult, loaded, load_of}
 use Rattle.record_text.specs.Lines.{end_line, outcome_lines}
 use Rattle.replay_text.specs.Replay.{zero_memory, free_records, replay_start, lines_of, ran_of, replay_of}
 

@@ -63,11 +63,10 @@ pub fn replay(tape: &[u8], text: &mut [u8]) -> usize
     ensures upper_bound { result ≤ length text.new }
 {
     let mut memory = [0u8; MEMORY_LENGTH];
-    let loaded = tape::load(tape, &mut memory);
-    if loaded.number != 0 {
-        return put_end(0, loaded.number, text, 0);
+    match tape::load(tape, &mut memory) {
+        Ok(_) => run_loaded(&mut memory, text),
+        Err(error) => put_end(0, error.fault.into(), text, 0),
     }
-    run_loaded(&mut memory, text)
 }
 
 // Replays what stands on standard input: its first characters are the tape.

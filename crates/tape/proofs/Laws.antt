@@ -11,15 +11,17 @@ use lib.Dec.{ltb, eqb}
 use lib.ListN.{length, take, drop, set}
 use Rattle.bits.specs.Lists.{all_of}
 use Rattle.bits.proofs.Cond.{cond_both}
-use Rattle.tape.specs.declared.LoadResult.{LoadResult}
+use Rattle.std.specs.Prelude.{Some}
+use Rattle.tape.specs.declared.LoadFault.{LoadFault}
+use Rattle.tape.specs.declared.LoadFault.TheVariants.{MemoryLength, Record, LastRecord, PageList}
 use Rattle.tape_records.specs.Digits.{is_digit, bytes_of}
 use Rattle.tape_records.specs.Records.{mark, record_length, byte_count_of, address_of, fault_of, data_of}
 use Rattle.memory.specs.Memory.{memory_length, register_end, with_untouched}
 use Rattle.memory.proofs.Untouched.{untouched_set, untouched_length}
-use Rattle.tape.specs.Tapes.{load_result, ended_by, record_by, check_from, check_of, put_from, landed, landed_all}
+use Rattle.tape.specs.Tapes.{LoadResult, load_result, fault_number, ended_by, record_by, check_from, check_of, put_from, landed, landed_all}
 use Rattle.tape.specs.Tapes.{Loaded, loaded, load_of}
 use Rattle.tape_records.proofs.DigitLaws.{and_true}
-use Rattle.tape_records.proofs.RecordLaws.{good}
+use Rattle.tape_records.proofs.RecordLaws.{good, some_number}
 use Rattle.tape.proofs.MemoryLaws.{length_puts, take_puts}
 
 -- what each landing keeps, the store of a tape keeps
@@ -30,6 +32,13 @@ landed_all_keeps P k [] memory p = p
 landed_all_keeps P k (c ∷ text) memory p =
     cond_both P (eqb c mark && eqb (byte_count_of text) 0) _ _ (λ _. p)
     (λ _. landed_all_keeps P k text _ (cond_both P (eqb c mark) _ _ (λ _. k text memory p) (λ _. p)))
+
+-- no fault's number is 0
+pub some_fault : (fault : LoadFault) → fault_number fault ≡ 0 → ⊥
+some_fault MemoryLength z = omega arith
+some_fault (Record fault) z = some_number (Some fault) refl z
+some_fault LastRecord z = omega arith
+some_fault PageList z = omega arith
 
 module _ (tape memory : List ℕ) where
   load_keeps : (P : List ℕ → Type 0) → ((text m : List ℕ) → P m → P (landed text m)) → P memory

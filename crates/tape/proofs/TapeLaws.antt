@@ -1,5 +1,5 @@
 -- Laws of the two walks along a tape, the check and the store: one step of each, over what the code has in hand.
-use mathlib.Core.Path.{◌≡◌, ap, sym, ◌∙◌}
+use mathlib.Core.Path.{◌≡◌, refl, ap, sym, ◌∙◌}
 use mathlib.Core.Bool.{◌&&◌, cond}
 use mathlib.Core.List.{List}
 use Prim.Native.Nat.{ℕ, ◌+◌, ◌-◌, ◌*◌, ◌≤◌, ◌<◌}
@@ -10,14 +10,15 @@ use borrow.Author.Tests.{eq-eqb, ne_eqb}
 use lib.Dec.{eqb}
 use lib.ListN.{length, take, drop, get_or, length-drop, drop_of_length-le}
 use lib.Seq.{drop-cons, take_all}
-use Rattle.tape.specs.declared.LoadResult.{LoadResult}
+use Rattle.std.specs.Prelude.{Some}
+use Rattle.tape_records.specs.declared.record.Fault.{Fault}
 use Rattle.tape_records.specs.Digits.{bytes_of}
 use Rattle.bits.specs.Bits.{one_where}
 use Rattle.bits.proofs.Cond.{cond_both}
-use Rattle.tape_records.specs.Records.{mark, byte_count_of, address_of, fault_of, data_of, data_at}
+use Rattle.tape_records.specs.Records.{mark, byte_count_of, address_of, fault_number, fault_of, data_of, data_at}
 use Rattle.memory.specs.Memory.{memory_length, register_end}
-use Rattle.tape.specs.Tapes.{load_result, ended_by, record_by, check_from, put_from, landed, landed_all}
-use Rattle.tape_records.proofs.RecordLaws.{address_most, data_room}
+use Rattle.tape.specs.Tapes.{LoadResult, load_result, ended_by, record_by, check_from, put_from, landed, landed_all}
+use Rattle.tape_records.proofs.RecordLaws.{address_most, data_room, some_number}
 
 -- a part to the end, as it is lent
 pub to_end : (l : List ℕ) (k : ℕ) → take (length l - k) (drop k l) ≡ drop k l
@@ -68,16 +69,16 @@ module _ (tape : List ℕ) (place : ℕ) where
           ≡ record_by place (seen + 1) text (check_from (place + 1) (seen + 1) text)
       check_record seen = check_next seen ∙ rw (eq-eqb (get_or tape place 0) mark marked)
 
-      pub check_fault : (seen n : ℕ) → n ≡ fault_of lent → (n ≡ 0 → ⊥)
-          → check_from place seen (drop place tape) ≡ load_result n place
+      pub check_fault : (seen : ℕ) (fault : Fault) → fault_number fault ≡ fault_of lent
+          → check_from place seen (drop place tape) ≡ load_result (fault_number fault) place
       unfolding record_by
-      check_fault seen n e f =
-          let g : n ≡ fault_of text = e ∙ ap fault_of (to_end tape (place + 1)) in
-          check_record seen ∙ rw (← g, ne_eqb n 0 f)
+      check_fault seen fault e =
+          let g : fault_number fault ≡ fault_of text = e ∙ ap fault_of (to_end tape (place + 1)) in
+          check_record seen ∙ rw (← g, ne_eqb (fault_number fault) 0 (some_number (Some fault) refl))
 
-      module _ (seen n k : ℕ) (e : n ≡ fault_of lent) (z : n ≡ 0) (ek : k ≡ byte_count_of lent) where
+      module _ (seen k : ℕ) (e : 0 ≡ fault_of lent) (ek : k ≡ byte_count_of lent) where
         good_text : fault_of text ≡ 0
-        good_text = ap fault_of (sym (to_end tape (place + 1))) ∙ sym e ∙ z
+        good_text = ap fault_of (sym (to_end tape (place + 1))) ∙ sym e
 
         pub check_last : (r : LoadResult) → k ≡ 0 → r ≡ ended_by place (seen + 1) lent
             → check_from place seen (drop place tape) ≡ r

@@ -1,16 +1,34 @@
 -- A tape checked, and its bytes in memory (document 01, "Tape" and "What is handed back").
-use Rattle.std.specs.Prelude.{◌&&◌, cond, List, [], ◌∷◌, ℕ, ◌+◌, ltb, eqb, length, set}
+use Rattle.std.specs.Prelude.{◌&&◌, cond, List, [], ◌∷◌, ℕ, ◌+◌, ltb, eqb, length, set, Result, Ok, Err}
 use Rattle.bits.specs.Bits.{one_where}
 use Rattle.memory.specs.Memory.{memory_length, register_end}
 use Rattle.page_sums.specs.PageSums.{page_list_refused}
-use Rattle.tape.specs.declared.LoadResult.{LoadResult}
+use Rattle.tape.specs.declared.LoadError.{LoadError}
+use Rattle.tape.specs.declared.LoadFault.{LoadFault}
+use Rattle.tape.specs.declared.LoadFault.TheVariants.{MemoryLength, Record, LastRecord, PageList}
+use Rattle.tape_records.specs.Records as records
 use Rattle.tape_records.specs.Digits.{bytes_of}
 use Rattle.tape_records.specs.Records.{mark, byte_count_of, address_of, fault_of, data_of}
 
 -- a number of "What is handed back", and a place: the index of a record's `;`, the tape's length for a missing last
 -- record, the place past the last record of an accepted tape, or 0 with number 1
+pub record LoadResult : Type 0 where
+  pub number : ℕ
+  pub place : ℕ
+
 abbrev pub load_result : ℕ → ℕ → LoadResult
 load_result n p = record { number = n; place = p }
+
+-- the numbers of the faults of a load as the code tells them apart, and what the code's answer says
+abbrev pub fault_number : LoadFault → ℕ
+fault_number MemoryLength = 1
+fault_number (Record fault) = records.fault_number fault
+fault_number LastRecord = 10
+fault_number PageList = 13
+
+abbrev pub told : Result ℕ LoadError → LoadResult
+told (Ok place) = load_result 0 place
+told (Err error) = load_result (fault_number error.fault) error.place
 
 -- "Count 00 ends the tape, its address field being the number of records, itself included": the n-th record, which is
 -- the last and stands at `place`. Its 11 characters are passed; a wrong count is 10.

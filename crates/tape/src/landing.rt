@@ -13,10 +13,7 @@ use tape_records::digits::byte;
 fn dropped(address: usize) -> usize
     ensures { result ≡ register_end - address }
 {
-    if address < REGISTER_END as usize {
-        return REGISTER_END as usize - address;
-    }
-    0
+    (REGISTER_END as usize).saturating_sub(address)
 }
 
 // The byte writer: the bytes of the digits from the start of a part of memory on, which starts at `address`, and into
@@ -28,8 +25,7 @@ fn put_bytes(part: &mut [u8], address: usize, sums: &mut [u16], digits: &[u8])
     ensures sums_after { sums.new
         ≡ sums_after_part address sums.old part.old part.new }
 {
-    let mut k = dropped(address);
-    while k < digits.len() / 2 {
+    for k in dropped(address)..digits.len() / 2 {
         commit_byte(
             part,
             address,
@@ -37,7 +33,6 @@ fn put_bytes(part: &mut [u8], address: usize, sums: &mut [u16], digits: &[u8])
             k,
             byte(digits[2 * k], digits[2 * k + 1]),
         );
-        k += 1;
     }
 }
 

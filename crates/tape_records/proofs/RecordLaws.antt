@@ -1,17 +1,20 @@
 -- Laws of one record: its bounds, and what holds of a good one.
-use mathlib.Core.Path.{◌≡◌, refl}
-use mathlib.Core.Bool.{Bool, true, false, ◌&&◌, ◌||◌, not}
-use mathlib.Core.List.{List}
+use mathlib.Core.Path.{◌≡◌, refl, sym, ◌∙◌}
+use mathlib.Core.Bool.{Bool, true, false, ◌&&◌, ◌||◌, not, false≢true}
+use mathlib.Core.List.{List, []}
 use Prim.Native.Nat.{ℕ, ◌+◌, ◌-◌, ◌*◌, ◌≤◌}
 use native.Mathlib.Omega.{arith}
-use borrow.Author.Tests.{ltb-false, leb-true, eqb-true, not-false}
+use borrow.Author.Tests.{ltb-false, leb-true, eqb-true, not-false, eq-eqb, ne_eqb}
+use Rattle.std.specs.Prelude.{Option, Some, None, is_some}
+use Rattle.tape_records.specs.declared.record.Fault.{Fault}
+use Rattle.tape_records.specs.declared.record.Fault.TheVariants.{Malformed, CheckSum}
 use lib.Dec.{ltb, leb, eqb}
 use lib.ListN.{length, take, drop, length-take}
 use Rattle.bits.specs.Lists.{all_of}
 use Rattle.bits.proofs.Cond.{cond_both}
 use Rattle.tape_records.specs.Digits.{is_digit}
 use Rattle.tape_records.specs.Records.{most_bytes, head_length, record_length, byte_count_of, address_of, sum_of, check_sum_of}
-use Rattle.tape_records.specs.Records.{are_digits, malformed, fault_of, data_of}
+use Rattle.tape_records.specs.Records.{are_digits, malformed, number_in, fault_of, data_of}
 use Rattle.memory.specs.Memory.{memory_length}
 use Rattle.tape_records.proofs.DigitLaws.{and_true, number_byte, number_word}
 
@@ -74,3 +77,25 @@ module _ (text : List ℕ) where
     where
       Fits : List ℕ → Type 0
       Fits d = length d ≤ 2 * (memory_length - address_of text)
+
+-- ---- what the code tells of a record
+
+-- a fault's number is not 0, and no fault's is
+pub some_number : (fault : Option Fault) → is_some fault ≡ true → number_in fault ≡ 0 → ⊥
+some_number None e z = false≢true e
+some_number (Some Malformed) e z = omega arith
+some_number (Some CheckSum) e z = omega arith
+
+pub none_number : (fault : Option Fault) → is_some fault ≡ false → number_in fault ≡ 0
+none_number None e = refl
+none_number (Some fault) e = absurd (false≢true (sym e))
+
+-- the data of a record with a fault and of one without
+module _ (text : List ℕ) (fault : Option Fault) (told : number_in fault ≡ fault_of text) where
+  pub data_none : is_some fault ≡ true → data_of text ≡ []
+  unfolding data_of
+  data_none e = rw (ne_eqb (fault_of text) 0 (λ z. some_number fault e (told ∙ z)))
+
+  pub data_some : is_some fault ≡ false → data_of text ≡ take (2 * byte_count_of text) (drop head_length text)
+  unfolding data_of
+  data_some e = rw (eq-eqb (fault_of text) 0 (sym told ∙ none_number fault e))

@@ -1,9 +1,12 @@
 -- One record: "`;`, count (2 hex digits), address (4), data, check sum (4)" (document 01, "Tape"). Its digits stand
 -- directly behind its `;`, and `text` is all that stands behind the `;`, to the end of the tape.
 use Rattle.std.specs.Prelude.{Bool, ◌&&◌, ◌||◌, not, cond, List, [], ℕ, ◌+◌, ◌*◌, ◌%◌, ltb, leb, eqb, length, get_or, take, drop}
+use Rattle.std.specs.Prelude.{Option, None, Some}
 use Rattle.bits.specs.Lists.{all_of}
 use Rattle.memory.specs.Memory.{memory_length}
 use Rattle.page_sums.specs.PageSums.{total_of}
+use Rattle.tape_records.specs.declared.record.Fault.{Fault}
+use Rattle.tape_records.specs.declared.record.Fault.TheVariants.{Malformed, CheckSum}
 use Rattle.tape_records.specs.Digits.{is_digit, number_of, bytes_of}
 
 -- `;`
@@ -51,6 +54,15 @@ malformed text =
     not (are_digits (record_length (byte_count_of text)) text)
     || ltb most_bytes (byte_count_of text)
     || ltb memory_length (address_of text + byte_count_of text)
+
+-- the numbers of faults as the code tells them apart, and of one or none
+abbrev pub fault_number : Fault → ℕ
+fault_number Malformed = 8
+fault_number CheckSum = 9
+
+abbrev pub number_in : Option Fault → ℕ
+number_in None = 0
+number_in (Some fault) = fault_number fault
 
 -- the number of a record's own fault, 0 where it has none: 8 malformed, 9 check sum wrong
 unfoldable pub fault_of : List ℕ → ℕ

@@ -15,33 +15,19 @@ pub fn is_digit(c: u8) -> bool
 pub fn all_digits(text: &[u8]) -> bool
     ensures { result ≡ all_of is_digit text.now }
 {
-    let mut i = 0;
-    while i < text.len() {
-        if !is_digit(text[i]) {
-            return false;
-        }
-        i += 1;
-    }
-    true
+    text.iter().all(|&c| is_digit(c))
 }
 
 // A digit's value; 0 of any other character.
+#[tactic(auto, using(crate::proofs::DigitLaws::value_low, crate::proofs::DigitLaws::value_decimal, crate::proofs::DigitLaws::value_between, crate::proofs::DigitLaws::value_letter, crate::proofs::DigitLaws::value_high))]
 pub fn value(c: u8) -> usize
     ensures { result ≡ value_of c }
 {
-    if c < b'0' {
-        return 0;
+    match c {
+        b'0'..=b'9' => (c - b'0') as usize,
+        b'A'..=b'F' => (c - b'A' + 10) as usize,
+        _ => 0,
     }
-    if c <= b'9' {
-        return (c - b'0') as usize;
-    }
-    if c < b'A' {
-        return 0;
-    }
-    if c <= b'F' {
-        return (c - b'A' + 10) as usize;
-    }
-    0
 }
 
 // The number that up to four digits write.
@@ -50,10 +36,8 @@ pub fn number(digits: &[u8]) -> usize
     ensures { result ≡ number_of digits.now }
 {
     let mut n: usize = 0;
-    let mut i = 0;
-    while i < digits.len() {
-        n = 16 * n + value(digits[i]);
-        i += 1;
+    for &c in digits {
+        n = 16 * n + value(c);
     }
     n
 }
@@ -71,11 +55,8 @@ pub fn byte_sum(digits: &[u8]) -> usize
     ensures { result ≡ total_of (bytes_of digits.now) }
 {
     let mut sum: usize = 0;
-    let mut k = 0;
-    while k < digits.len() / 2 {
-        let b = byte(digits[2 * k], digits[2 * k + 1]);
-        sum += b as usize;
-        k += 1;
+    for pair in digits.chunks_exact(2) {
+        sum += byte(pair[0], pair[1]) as usize;
     }
     sum
 }

@@ -7,12 +7,33 @@ ghost use Rattle.tape_records.specs.Records.{
   sum_of,
   are_digits,
   malformed,
+  fault_number,
+  number_in,
   fault_of,
   data_of,
 };
 
 use crate::digits::{all_digits, byte_sum, number};
 use memory::MEMORY_LENGTH;
+
+// What is wrong with a record by itself.
+#[derive(Clone, Copy, PartialEq, Eq, Debug)]
+pub enum Fault {
+    Malformed,
+    CheckSum,
+}
+
+// Its number.
+impl From<Fault> for u8 {
+    ghost from_gives = { λ fault number. number ≡ fault_number fault };
+
+    fn from(fault: Fault) -> u8 {
+        match fault {
+            Fault::Malformed => 8,
+            Fault::CheckSum => 9,
+        }
+    }
+}
 
 // The most data bytes of a record, and the digits of its count and address.
 const MOST_BYTES: usize = 0x18;
@@ -23,14 +44,8 @@ const HEAD_LENGTH: usize = 6;
 fn part(text: &[u8], from: usize, n: usize) -> &[u8]
     ensures { result.now ≡ take n (drop from text.now) }
 {
-    if text.len() <= from {
-        return &text[0..0];
-    }
-    if text.len() - from <= n {
-        return &text[from..];
-    }
-    let end = from + n;
-    &text[from..end]
+    let rest = text.get(from..).unwrap_or(&[]);
+    rest.get(..n).unwrap_or(rest)
 }
 
 // The number of data bytes.
@@ -77,25 +92,25 @@ fn is_malformed(text: &[u8]) -> bool
     !are_digits(text, HEAD_LENGTH + 2 * n + 4) | (MOST_BYTES < n) | (MEMORY_LENGTH < a + n)
 }
 
-// The number of a record's own fault: 8 malformed, 9 check sum wrong, else 0.
-pub fn fault(text: &[u8]) -> u8
-    ensures { result ≡ fault_of text.now }
+// A record's own fault, if it has one.
+pub fn fault_of(text: &[u8]) -> Option<Fault>
+    ensures { number_in result ≡ fault_of text.now }
 {
     if is_malformed(text) {
-        return 8;
+        return Some(Fault::Malformed);
     }
-    if sum(text) == check_sum(text) {
-        return 0;
+    if sum(text) != check_sum(text) {
+        return Some(Fault::CheckSum);
     }
-    9
+    None
 }
 
 // The digits of a good record's data, as a part of the text.
 pub fn data_digits(text: &[u8]) -> &[u8]
     ensures { result.now ≡ data_of text.now }
 {
-    if fault(text) != 0 {
-        return &text[0..0];
+    if fault_of(text).is_some() {
+        return &[];
     }
     part(text, HEAD_LENGTH, 2 * count(text))
 }

@@ -210,11 +210,10 @@ fn run_scenario(rt: &impl Print, text: &[u8], settings: Settings) -> io::Result<
     requires { settings.records ≤ 64 }
 {
     let mut memory = [0u8; MEMORY_LENGTH];
-    let loaded = tape::load(text, &mut memory);
-    if loaded.number != 0 {
-        return print_refused(rt, loaded.number);
+    match tape::load(text, &mut memory) {
+        Ok(place) => run_loaded(rt, &mut memory, text, place, settings),
+        Err(error) => print_refused(rt, error.fault.into()),
     }
-    run_loaded(rt, &mut memory, text, loaded.place, settings)
 }
 
 // Runs each scenario; the settings are its last part.

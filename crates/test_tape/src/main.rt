@@ -19,8 +19,10 @@ fn print_byte(rt: &impl Print, b: u8) -> io::Result<()> {
 
 fn print_load(rt: &impl Print, tape: &[u8]) -> io::Result<()> {
     let mut memory = [0u8; MEMORY_LENGTH];
-    let loaded = tape::load(tape, &mut memory);
-    print!(rt; "{} {}", loaded.number, loaded.place)?;
+    match tape::load(tape, &mut memory) {
+        Ok(place) => print!(rt; "0 {place}")?,
+        Err(error) => print!(rt; "{} {}", u8::from(error.fault), error.place)?,
+    }
     print_byte(rt, memory[0x3F])?;
     print_byte(rt, memory[0x40])?;
     print_byte(rt, memory[0x200])?;

@@ -1,33 +1,21 @@
-use native.Mathlib.Omega.{arith}
-use Rattle.pin_lists.proofs.Steps.{input_count_end, input_count_other, input_count_more}
+use mathlib.Core.Path.{◌∙◌}
+use borrow.Author.Rules.{rules}
+use borrow.Author.Tests.{tests}
+use lib.Dec.{eqb}
+use Rattle.std.proofs.lemmas.Iterator.{YieldsList-from_slice}
+use Rattle.std.proofs.lemmas.Iterator.Consumers.{YieldsList-at, count_from_yields_List}
+use Rattle.std.proofs.lemmas.Iterator.Search.{YieldsList-from_take_while}
+use Rattle.std.proofs.lemmas.List.Folds.{length-prefix_len}
+use Rattle.pin_lists.proofs.Steps.{input_count_prefix}
 use Rattle.pin_lists.proofs.input_count.Goals as goal
-
-pub loop-i-init : goal.loop-i-init
-loop-i-init c = omega arith
-
-pub bounds-clocks-i : goal.bounds-clocks-i
-bounds-clocks-i c = omega arith
-
-pub returns-then-clocks-i : goal.returns-then-clocks-i
-returns-then-clocks-i c =
-    let e = input_count_other c.args.clock c.loop-i.i
-    c.args.clocks.now c.loop-i-test.true c.if-clocks-i.true in
-    omega (arith, e, c.loop-i.invariant.1)
-
-pub overflow_add-i : goal.overflow_add-i
-overflow_add-i c = omega arith
-
-pub loop-i-smaller : goal.loop-i-smaller
-loop-i-smaller c = omega arith
-
-pub loop-i-preserved : goal.loop-i-preserved
-loop-i-preserved c =
-    let e = input_count_more c.args.clock c.loop-i.i
-    c.args.clocks.now c.loop-i-test.true c.if-clocks-i.false in
-    (omega arith, omega (arith, e, c.loop-i.invariant.1))
 
 pub returns : goal.returns
 returns c =
-    let e = input_count_end c.args.clock c.loop-i.i c.args.clocks.now
-    c.loop-i-test.false in
-    omega (arith, e, c.loop-i.invariant.1)
+    let clock = c.args.clock in
+    let ts = c.args.clocks.now in
+    count_from_yields_List c.take_while.result _ c.count.ensures.ran
+    (YieldsList-from_take_while _ (λ t. eqb t clock)
+    (YieldsList-at c.take_while.ensures.source (YieldsList-from_slice ts c.iter.ensures.rest))
+    c.take_while.ensures.closure c.take_while.ensures.done (λ x b q k. search (rules, tests)))
+    ∙ length-prefix_len (λ t. eqb t clock) ts
+    ∙ input_count_prefix clock ts

@@ -1,55 +1,34 @@
 use mathlib.Core.Path.{sym, ◌∙◌}
 use native.Mathlib.Omega.{arith}
-use Rattle.pin_lists.proofs.Steps.{behind_last, unequal, rest_end, rest_next}
+use Rattle.std.proofs.lemmas.Grind.{common_steps}
+use Rattle.std.proofs.lemmas.Iterator.{empty_from_Zip}
+use Rattle.pin_lists.proofs.Steps.{behind_last, unequal, rest_next, rest_end}
 use Rattle.pin_lists.proofs.pins_right.Goals as goal
 
 pub returns-then-clocks-codes : goal.returns-then-clocks-codes
 returns-then-clocks-codes c = unequal _ _ _ _ c.if-clocks-codes.true
 
-pub loop-i-init : goal.loop-i-init
-loop-i-init c = (
-  omega arith,
-  behind_last c.args.lastpin c.args.clock
-      c.args.clocks.now c.args.codes.now,
-)
-
-pub bounds-clocks-i : goal.bounds-clocks-i
-bounds-clocks-i c = omega arith
-
-pub bounds-codes-i : goal.bounds-codes-i
-bounds-codes-i c = omega arith
+pub loop-time-init : goal.loop-time-init
+loop-time-init c =
+    let zip = c.zip-time-items.ensures in
+    rw (c.into_iter-time-iterator.ensures.into_iter_gives, zip.first, c.iter.ensures.rest, zip.second.0)
+    (c.if-clocks-codes.false, behind_last c.args.lastpin c.args.clock c.args.clocks.now c.args.codes.now)
 
 pub returns-then-not-entry_right : goal.returns-then-not-entry_right
 returns-then-not-entry_right c =
-    let ts = c.args.clocks.now in
-    let cs = c.args.codes.now in
-    let next = rest_next c.args.lastpin
-    c.loop-i.last c.loop-i.pin
-    c.loop-i.i ts cs
-    c.if-clocks-codes.false
-    c.loop-i-test.true in
-    sym (rw (← c.entry_right.ensures, c.if-not-entry_right.true) at next)
-    ∙ c.loop-i.invariant.1
+    let at = c.in-Some.ensures.steps in
+    let next = rest_next c.args.lastpin c.loop-time.last c.loop-time.pin _ _ _ _ at.0 at.1 in
+    sym (rw (← c.entry_right.ensures, c.if-not-entry_right.true) at next) ∙ c.loop-time.invariant.1
 
-pub overflow_add-i : goal.overflow_add-i
-overflow_add-i c = omega arith
-
-pub loop-i-smaller : goal.loop-i-smaller
-loop-i-smaller c = omega arith
-
-pub loop-i-preserved : goal.loop-i-preserved
-loop-i-preserved c =
-    let ts = c.args.clocks.now in
-    let cs = c.args.codes.now in
-    let next = rest_next c.args.lastpin
-    c.loop-i.last c.loop-i.pin
-    c.loop-i.i ts cs
-    c.if-clocks-codes.false
-    c.loop-i-test.true in (
-      omega arith,
-      sym (rw (← c.entry_right.ensures, c.if-not-entry_right.false) at next)
-          ∙ c.loop-i.invariant.1,
+pub loop-time-preserved : goal.loop-time-preserved
+loop-time-preserved c =
+    let at = c.in-Some.ensures.steps in
+    let next = rest_next c.args.lastpin c.loop-time.last c.loop-time.pin _ _ _ _ at.0 at.1 in (
+      grind (arith, common_steps, at.0, at.1, c.loop-time.invariant.0),
+      sym (rw (← c.entry_right.ensures, c.if-not-entry_right.false) at next) ∙ c.loop-time.invariant.1,
     )
 
 pub returns : goal.returns
-returns c = sym (rest_end _ _ _ _ _ _ c.if-clocks-codes.false c.loop-i-test.false) ∙ c.loop-i.invariant.1
+returns c =
+    let spent = empty_from_Zip _ c.next.new.self _ c.in-None.is c.next.ensures.steps c.loop-time.invariant.0 in
+    sym (rest_end c.args.lastpin c.loop-time.last c.loop-time.pin spent.0 spent.1) ∙ c.loop-time.invariant.1

@@ -1,13 +1,12 @@
-use Prim.Native.Nat.{◌≤◌, ◌-◌}
 use mathlib.Core.Path.{◌≡◌}
-use lib.ListN.{length, drop}
+use lib.ListN.{length}
+use Rattle.std.specs.Iterator.Adapters.{zip_first, zip_second}
+use Rattle.std.specs.Slice.Iter.{iter_rest}
 use Rattle.pin_lists.specs.PinLists.{rest_right, pins_right}
 use Rattle.pin_lists.proofs.pins_right.Given as goal
 
-abbrev pub invariant-loop-i : goal.invariant-loop-i
-invariant-loop-i l = (l.i ≤ length l.clocks)
-    × (rest_right l.lastpin l.last l.pin (drop l.i l.clocks) (drop l.i l.codes) ≡ pins_right l.lastpin l.clock
-    l.clocks l.codes)
-
-abbrev pub decreases-loop-i : goal.decreases-loop-i
-decreases-loop-i l = length l.clocks - l.i
+abbrev pub invariant-loop-time : goal.invariant-loop-time
+invariant-loop-time l =
+    let ts = iter_rest (zip_first l.time-iterator) in
+    let cs = iter_rest (zip_second l.time-iterator) in
+    (length ts ≡ length cs) × (rest_right l.lastpin l.last l.pin ts cs ≡ pins_right l.lastpin l.clock l.clocks l.codes)

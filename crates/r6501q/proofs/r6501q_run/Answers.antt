@@ -26,16 +26,16 @@ returns c =
     let at = c.args in
     let fits = sym c.flags_fit.ensures
     ∙ c.if-not-flags_fit.false in
-    let state = c.state_from in
+    let state = c.into in
     let halt = c.halt_of in record {
       outputwords_value = host_called_lem (λ h. run_of (machine h) at.n) at.n at.memory.now at.inputclocks.now
           at.inputcodes.now
           at.outputclocks.now at.outputwords.now at.state state.result _ halt.result c.run-result.result _
           _ _
-          _ fits state.ensures halt.ensures c.host_result.ensures c.run-result.ensures.outputwords_value;
+          _ fits state.ensures halt.ensures c.into-2.ensures c.run-result.ensures.outputwords_value;
       outputwords_value_2 = host_called_lem (λ h. plain_run_of (machine h) at.n) at.n at.memory.now at.inputclocks.now
           at.inputcodes.now
           at.outputclocks.now at.outputwords.now at.state state.result _ halt.result c.run-result.result _
           _ _
-          _ fits state.ensures halt.ensures c.host_result.ensures c.run-result.ensures.outputwords_value_2;
+          _ fits state.ensures halt.ensures c.into-2.ensures c.run-result.ensures.outputwords_value_2;
     }

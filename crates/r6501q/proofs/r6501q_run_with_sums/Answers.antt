@@ -72,7 +72,7 @@ returns c =
     let at = c.args in
     let start : HostWorld = call_start at.state at.memory.now at.inputclocks.now at.inputcodes.now
     at.outputclocks.now at.outputwords.now in
-    let library : World = call_start c.state_from.result at.memory.now at.inputclocks.now
+    let library : World = call_start c.into.result at.memory.now at.inputclocks.now
     at.inputcodes.now at.outputclocks.now at.outputwords.now in
     let told :
     c.page_list_refused.result
@@ -95,19 +95,19 @@ returns c =
       outputwords_value = rw (
         leaps,
         ← c.flags_fit.ensures,
-        ← c.state_from.ensures,
+        ← c.into.ensures,
         ← c.halt_of.ensures,
         ← leapt,
-        c.host_result.ensures,
+        c.into-2.ensures,
         fits,
       );
       outputwords_value_2 = rw (
         plains,
         ← c.flags_fit.ensures,
-        ← c.state_from.ensures,
+        ← c.into.ensures,
         ← c.halt_of.ensures,
         ← plainly,
-        c.host_result.ensures,
+        c.into-2.ensures,
         fits,
       );
       sums_after = c.run_with_sums-result.ensures.sums_after;

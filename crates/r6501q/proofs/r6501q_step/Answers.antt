@@ -19,9 +19,9 @@ returns c =
     let at = c.args in
     let fits = sym c.flags_fit.ensures
     ∙ c.if-not-flags_fit.false in
-    let state = c.state_from in
+    let state = c.into in
     let halt = c.halt_of in
     let step = c.step-result in
     host_called_lem (λ h. step_of (machine h)) 1 at.memory.now at.inputclocks.now at.inputcodes.now
     at.outputclocks.now at.outputwords.now at.state state.result _ halt.result step.result _ _ _
-    _ fits state.ensures halt.ensures c.host_result.ensures step.ensures
+    _ fits state.ensures halt.ensures c.into-2.ensures step.ensures

@@ -56,7 +56,7 @@ returns c =
     let at = c.args in
     let start : HostWorld = call_start at.state at.memory.now at.inputclocks.now at.inputcodes.now
     at.outputclocks.now at.outputwords.now in
-    let library : World = call_start c.state_from.result at.memory.now at.inputclocks.now
+    let library : World = call_start c.into.result at.memory.now at.inputclocks.now
     at.inputcodes.now at.outputclocks.now at.outputwords.now in
     let told :
     c.page_list_refused.result
@@ -72,10 +72,10 @@ returns c =
       outputwords_value = rw (
         next,
         ← c.flags_fit.ensures,
-        ← c.state_from.ensures,
+        ← c.into.ensures,
         ← c.halt_of.ensures,
         ← went,
-        c.host_result.ensures,
+        c.into-2.ensures,
         fits,
       );
       sums_after = c.step_with_sums-result.ensures.sums_after;

@@ -4,6 +4,6 @@ pub returns : goal.returns
 returns c = rw (
   c.one_where.ensures,
   c.well_formed-2.ensures,
-  c.state_from.ensures,
+  c.into.ensures,
   c.flags_fit.ensures,
 )

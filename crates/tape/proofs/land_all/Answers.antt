@@ -1,8 +1,7 @@
 use Rattle.tape.proofs.TapeLaws.{landed_all_end, landed_all_skip, landed_all_last, landed_all_on, data_fits}
 use Rattle.page_sums.specs.PageSums.{SixteenBits}
-use Rattle.page_sums.proofs.Sums.{sums_length, sums_kept, sums_then}
-use lib.ListN.{length}
-use mathlib.Core.Path.{refl, sym, ap, ◌∙◌}
+use Rattle.page_sums.proofs.Sums.{sums_kept, sums_then}
+use mathlib.Core.Path.{refl, sym, ◌∙◌}
 use native.Mathlib.Omega.{arith}
 use Rattle.tape.proofs.land_all.Goals as goal
 use Rattle.tape.proofs.land_all.Goals.{then-tape-place-eq-MARK+else-count-eq0, else-tape-place-eq-MARK}
@@ -12,30 +11,6 @@ loop-place-init c =
     let at = c.args in
     let words : SixteenBits at.sums.now = λ p. omega (arith, c.type_inv.sums p) in
     (refl, refl, sums_kept 0 at.sums.now at.memory.now words)
-
-pub bounds-tape-place : goal.bounds-tape-place
-bounds-tape-place c = omega arith
-
-pub overflow_add-from : goal.overflow_add-from
-overflow_add-from c = omega arith
-
-pub slice_bounds-text-count : goal.slice_bounds-text-count
-slice_bounds-text-count c = omega arith
-
-pub slice_bounds-text-start : goal.slice_bounds-text-start
-slice_bounds-text-start c = omega arith
-
-pub slice_bounds-text-end : goal.slice_bounds-text-end
-slice_bounds-text-end c = omega arith
-
-pub shape_of-memory-then-count-eq0 : goal.shape_of-memory-then-count-eq0
-shape_of-memory-then-count-eq0 c = c.loop-place.invariant.0
-
-pub shape_of-sums-then-count-eq0 : goal.shape_of-sums-then-count-eq0
-shape_of-sums-then-count-eq0 c =
-    let at = c.args in
-    let loop = c.loop-place in
-    ap length loop.invariant.2 ∙ sums_length 0 at.sums.now at.memory.now loop.memory
 
 pub returns-then-count-eq0 : goal.returns-then-count-eq0
 returns-then-count-eq0 c =
@@ -51,16 +26,10 @@ returns-then-count-eq0 c =
 pub land-requires : goal.land-requires
 land-requires c =
     let loop = c.loop-place in
-    let address = c.address-a in
+    let address = c.address in
     let f = data_fits c.args.tape.now loop.place address.result c.record_data.result.now
     address.ensures c.record_data.ensures in
     (omega (arith, f, loop.invariant.0, c.requires), omega (arith, f, loop.invariant.0, c.requires))
-
-pub overflow_add-place : goal.overflow_add-place
-overflow_add-place c = omega arith
-
-pub loop-place-smaller : goal.loop-place-smaller
-loop-place-smaller c = omega arith
 
 pub loop-place-preserved : goal.loop-place-preserved
 loop-place-preserved c =
@@ -72,8 +41,8 @@ loop-place-preserved c =
         rw w.memory-is (w.land.auto.memory ∙ loop.invariant.0),
         rw w.memory-is
             (sym (landed_all_on at.tape.now loop.place test w.if-tape-place-eq-MARK.true w.count.result
-            w.count.ensures loop.memory w.address-a.result w.record_data.result.now w.land.new.memory
-            w.if-count-eq0.false w.address-a.ensures w.record_data.ensures w.land.ensures.memory_after)
+            w.count.ensures loop.memory w.address.result w.record_data.result.now w.land.new.memory
+            w.if-count-eq0.false w.address.ensures w.record_data.ensures w.land.ensures.memory_after)
             ∙ loop.invariant.1),
         rw (w.memory-is, w.sums-is) (sums_then 0 at.sums.now at.memory.now loop.memory w.land.new.memory
             loop.invariant.2 w.land.ensures.sums_after),
@@ -86,14 +55,6 @@ loop-place-preserved c =
         rw (w.memory-is, w.sums-is) loop.invariant.2,
       )
     ]
-
-pub shape_of-memory : goal.shape_of-memory
-shape_of-memory c = c.loop-place.invariant.0
-
-pub shape_of-sums : goal.shape_of-sums
-shape_of-sums c =
-    let at = c.args in
-    ap length c.loop-place.invariant.2 ∙ sums_length 0 at.sums.now at.memory.now c.loop-place.memory
 
 pub returns : goal.returns
 returns c =

@@ -1,10 +1,9 @@
 use Rattle.tape.proofs.MemoryLaws.{put_first, put_on, put_end}
 use Rattle.memory.specs.Memory.{register_end}
 use Rattle.page_sums.specs.PageSums.{SixteenBits}
-use Rattle.page_sums.proofs.Sums.{sums_length, sums_kept, sums_then}
-use lib.ListN.{length}
-use Prim.Native.Nat.{◌-◌, ◌<◌}
-use mathlib.Core.Path.{refl, sym, ap, ◌∙◌}
+use Rattle.page_sums.proofs.Sums.{sums_kept, sums_then}
+use Prim.Native.Nat.{◌-◌}
+use mathlib.Core.Path.{refl, sym, ◌∙◌}
 use native.Mathlib.Omega.{arith}
 use Rattle.tape.proofs.landing.put_bytes.Goals as goal
 
@@ -19,34 +18,6 @@ loop-k-init c =
       sums_kept at.address at.sums.now at.part.now words,
     )
 
-pub overflow_mul-k : goal.overflow_mul-k
-overflow_mul-k c = omega arith
-
-pub bounds-digits-k : goal.bounds-digits-k
-bounds-digits-k c = omega arith
-
-pub overflow_mul-k-in-loop-k : goal.overflow_mul-k-in-loop-k
-overflow_mul-k-in-loop-k c = omega arith
-
-pub overflow_add-k : goal.overflow_add-k
-overflow_add-k c = omega arith
-
-pub bounds-digits-k-in-loop-k : goal.bounds-digits-k-in-loop-k
-bounds-digits-k-in-loop-k c = omega arith
-
-pub commit_byte-requires : goal.commit_byte-requires
-commit_byte-requires c =
-    let loop = c.loop-k in
-    let test = c.loop-k-test.true in
-    let inside : loop.k < length loop.part = omega (arith, loop.invariant.0, c.requires.0, test) in
-    (inside, omega (arith, loop.invariant.0, c.requires.1, inside))
-
-pub overflow_add-k-in-loop-k : goal.overflow_add-k-in-loop-k
-overflow_add-k-in-loop-k c = omega (arith, c.loop-k-test.true)
-
-pub loop-k-smaller : goal.loop-k-smaller
-loop-k-smaller c = omega (arith, c.loop-k-test.true)
-
 pub loop-k-preserved : goal.loop-k-preserved
 loop-k-preserved c =
     let at = c.args in
@@ -60,15 +31,6 @@ loop-k-preserved c =
       sums_then at.address at.sums.now at.part.now loop.part c.commit_byte.new.part loop.invariant.3
           c.commit_byte.ensures.sums_after,
     )
-
-pub shape_of-part : goal.shape_of-part
-shape_of-part c = c.loop-k.invariant.0
-
-pub shape_of-sums : goal.shape_of-sums
-shape_of-sums c =
-    let at = c.args in
-    ap length c.loop-k.invariant.3
-    ∙ sums_length at.address at.sums.now at.part.now c.loop-k.part
 
 pub returns : goal.returns
 returns c =

@@ -1,6 +1,6 @@
 use Rattle.tape_records.specs.Records.{fault_of}
 use borrow.Author.Tests.{eq-eqb, ne_eqb}
-use Rattle.tape_records.proofs.record.fault.Goals as goal
+use Rattle.tape_records.proofs.record.fault_of.Goals as goal
 
 pub returns-then-is_malformed : goal.returns-then-is_malformed
 unfolding fault_of
@@ -12,7 +12,7 @@ returns-then-sum-check_sum c = rw (
   ← c.is_malformed.ensures,
   ← c.sum.ensures,
   ← c.check_sum.ensures,
-  eq-eqb _ _ c.if-sum-check_sum.true,
+  ne_eqb _ _ c.if-sum-check_sum.true,
   c.if-is_malformed.false,
 )
 
@@ -22,6 +22,6 @@ returns c = rw (
   ← c.is_malformed.ensures,
   ← c.sum.ensures,
   ← c.check_sum.ensures,
-  ne_eqb _ _ c.if-sum-check_sum.false,
+  eq-eqb _ _ c.if-sum-check_sum.false,
   c.if-is_malformed.false,
 )

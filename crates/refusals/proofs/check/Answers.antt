@@ -6,7 +6,7 @@ use lib.ListN.{length}
 use Rattle.bits.proofs.Cond.{cond_yes}
 use Rattle.refusals.specs.Refusals.{refusal_of}
 use borrow.Author.Tests.{eq-eqb, ne_eqb}
-use Rattle.refusals.proofs.refusal.Goals as goal
+use Rattle.refusals.proofs.check.Goals as goal
 
 pub returns-then-bytes-limits : goal.returns-then-bytes-limits
 unfolding refusal_of

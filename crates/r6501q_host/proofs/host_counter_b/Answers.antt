@@ -1,4 +1,0 @@
-use Rattle.r6501q_host.proofs.host_counter_b.Goals as goal
-
-pub returns : goal.returns
-returns c = rw (← c.one_where.ensures)
