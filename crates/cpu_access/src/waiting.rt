@@ -5,7 +5,7 @@ ghost use Rattle.cpu_access.specs.Waiting.{byte_waits};
 use crate::stack::Write;
 
 // One byte waiting, or none.
-#[derive(Clone, Copy)]
+#[derive(Clone, Copy, PartialEq, Eq)]
 pub enum Waiting {
     Nothing,
     Byte(Write),
