@@ -8,7 +8,7 @@ use crate::time::{Clocks, count_after_gap};
 
 // The counter and its latch.
 #[repr(C)]
-#[derive(Clone, Copy)]
+#[derive(Clone, Copy, PartialEq, Eq)]
 pub struct CounterA {
     pub count: u16,
     pub latch: u16,

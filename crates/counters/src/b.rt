@@ -8,7 +8,7 @@ use crate::time::{Clocks, count_after_gap};
 
 // The counter, latches B and C, and whether the next reload in mode 01 takes latch C.
 #[repr(C)]
-#[derive(Clone, Copy)]
+#[derive(Clone, Copy, PartialEq, Eq)]
 pub struct CounterB {
     pub count: u16,
     pub latchb: u16,

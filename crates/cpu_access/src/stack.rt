@@ -7,7 +7,7 @@ ghost use Rattle.cpu_access.specs.Stack.{push_interrupt, pull_of, pull_address, 
 use crate::{Bus, Got};
 use memory::is_register;
 
-#[derive(Clone, Copy)]
+#[derive(Clone, Copy, PartialEq, Eq)]
 pub struct Write {
     pub address: u16,
     pub value: u8,

@@ -3,15 +3,15 @@ ghost use Rattle.std.specs.Prelude.{◌≡◌};
 ghost use Rattle.r6501q_events.specs.Events.{same_levels, levels_change, ports_fresh, control_fresh, transmitter_idle};
 ghost use Rattle.r6501q_events.specs.Events.{receiver_idle, is_reset, reset_changes};
 
-use r6501q_state::state::{Control, Levels, Ports, State};
-use serial_receiver::Receiver;
-use serial_transmitter::Transmitter;
+use r6501q_state::state::{Control, Levels, Ports, State, fresh_control, fresh_ports};
+use serial_receiver::{Receiver, idle_receiver};
+use serial_transmitter::{Transmitter, idle_transmitter};
 
 // Whether two levels of the 34 pins are the same.
 fn same_levels(a: Levels, b: Levels) -> bool
     ensures { result ≡ same_levels a b }
 {
-    (a.ports == b.ports) & (a.nmi == b.nmi) & (a.res == b.res)
+    a == b
 }
 
 // Whether the pins' levels are unlike the last ones.
@@ -26,28 +26,28 @@ pub fn levels_change(s: State) -> bool
 fn ports_fresh(p: Ports) -> bool
     ensures { result ≡ ports_fresh p }
 {
-    (p.a == 255) & (p.b == 255) & (p.c == 255) & (p.d == 255)
+    p == fresh_ports()
 }
 
 // Whether the control registers have their fresh values.
 fn control_fresh(c: Control) -> bool
     ensures { result ≡ control_fresh c }
 {
-    (c.ifr == 0) & (c.ier == 0) & (c.mcr == 0) & (c.sccr == 0) & (c.scsr == 64)
+    c == fresh_control()
 }
 
 // Whether the transmitter's progress is 0.
 fn transmitter_idle(t: Transmitter) -> bool
     ensures { result ≡ transmitter_idle t }
 {
-    (t.left == 0) & (t.phase == 0) & (t.register == 0)
+    t == idle_transmitter()
 }
 
 // Whether the receiver's progress is 0.
 fn receiver_idle(t: Receiver) -> bool
     ensures { result ≡ receiver_idle t }
 {
-    (t.subinterval == 0) & !t.half & (t.left == 0) & (t.register == 0)
+    t == idle_receiver()
 }
 
 // Whether RES low would change no field.

@@ -11,7 +11,7 @@ use serial_receiver::{Receiver, idle_receiver};
 use serial_transmitter::{Transmitter, idle_transmitter};
 
 // The CPU's registers, the clocks that the present instruction still takes, and the byte that it puts on the last.
-#[derive(Clone, Copy)]
+#[derive(Clone, Copy, PartialEq, Eq)]
 pub struct Cpu {
     pub a: u8,
     pub x: u8,
@@ -25,7 +25,7 @@ pub struct Cpu {
 
 // The entries that are due.
 #[repr(C)]
-#[derive(Clone, Copy)]
+#[derive(Clone, Copy, PartialEq, Eq)]
 pub struct Due {
     pub reset: bool,
     pub nmi: bool,
@@ -33,7 +33,7 @@ pub struct Due {
 
 // The port output latches.
 #[repr(C)]
-#[derive(Clone, Copy)]
+#[derive(Clone, Copy, PartialEq, Eq)]
 pub struct Ports {
     pub a: u8,
     pub b: u8,
@@ -43,7 +43,7 @@ pub struct Ports {
 
 // Interrupt flags (bits 0 to 5) and enables, mode control, serial control and status.
 #[repr(C)]
-#[derive(Clone, Copy)]
+#[derive(Clone, Copy, PartialEq, Eq)]
 pub struct Control {
     pub ifr: u8,
     pub ier: u8,
@@ -54,7 +54,7 @@ pub struct Control {
 
 // The serial data to be sent and the data received.
 #[repr(C)]
-#[derive(Clone, Copy)]
+#[derive(Clone, Copy, PartialEq, Eq)]
 pub struct SerialData {
     pub sent: u8,
     pub received: u8,
@@ -62,7 +62,7 @@ pub struct SerialData {
 
 // All that stands behind the registers.
 #[repr(C)]
-#[derive(Clone, Copy)]
+#[derive(Clone, Copy, PartialEq, Eq)]
 pub struct Peripherals {
     pub ports: Ports,
     pub countera: CounterA,
@@ -75,7 +75,7 @@ pub struct Peripherals {
 
 // The levels of the 34 pins: PA0 in bit 0 of ports, PD7 in bit 31.
 #[repr(C)]
-#[derive(Clone, Copy)]
+#[derive(Clone, Copy, PartialEq, Eq)]
 pub struct Levels {
     pub ports: u32,
     pub nmi: bool,
@@ -83,7 +83,7 @@ pub struct Levels {
 }
 
 // The whole chip.
-#[derive(Clone, Copy)]
+#[derive(Clone, Copy, PartialEq, Eq)]
 pub struct State {
     pub cpu: Cpu,
     pub due: Due,

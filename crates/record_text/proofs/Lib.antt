@@ -1,2 +1,2 @@
-pub mod Laws
-pub mod Examples
+mod Laws
+mod Examples

@@ -1,140 +1,65 @@
 // What a program prints of a run, as text: a line for each record, `10 FFFFFF55`, then the end line, `end 100 0`.
-//
-// Each `put` function writes characters into the lent text from `at` on, and gives the place behind them.
 #![tactic(auto)]
 
-ghost use Rattle.std.specs.Prelude.{◌≡◌, ◌+◌, ◌*◌, ◌≤◌, ◌<◌, length};
-ghost use Rattle.record_text.specs.Lines.{
-  digit_of,
-  digits_of,
-  digit_count,
-  decimal_of,
-  hex_word,
-  record_line,
-  record_lines,
-  end_line,
-  outcome_lines,
-  filled,
-  put_of,
-};
+ghost use Rattle.std.specs.Prelude.{◌≡◌, Some, length};
+ghost use Rattle.record_text.specs.Lines.{record_line, end_line, outcome_lines};
 
-// The most characters of a line: ten decimal digits, a space, eight hex digits and the line's end.
-pub const LINE_LENGTH: usize = 20;
+use std::fmt;
 
-// A digit, a letter in upper case.
-fn digit(value: u32) -> u8
-    requires { value < 16 }
-    ensures { result ≡ digit_of value }
-{
-    if value < 10 {
-        return b'0' + value as u8;
+// A record, whose line it prints.
+#[derive(Clone, Copy)]
+struct Record {
+    clock: u32,
+    word: u32,
+}
+
+impl fmt::Display for Record {
+    ghost output = { λ r. Some (record_line r.clock r.word) };
+
+    fn fmt<W: fmt::Write>(&self, f: &mut fmt::Formatter<W>) -> fmt::Result {
+        let clock = self.clock;
+        let word = self.word;
+        writeln!(f, "{clock} {word:08X}")
     }
-    b'A' + (value - 10) as u8
 }
 
-// How many decimal digits a number has.
-fn digit_count(n: u32) -> usize
-    ensures { result ≡ digit_count 9 n }
-{
-    let mut count = 1;
-    let mut rest = n;
-    while 10 <= rest {
-        rest /= 10;
-        count += 1;
+// How a run ended, which prints the end line: the clocks done, and the number that ended them, or 0.
+#[derive(Clone, Copy)]
+pub struct End {
+    pub done: u32,
+    pub number: u8,
+}
+
+impl fmt::Display for End {
+    ghost output = { λ e. Some (end_line e.done e.number) };
+
+    fn fmt<W: fmt::Write>(&self, f: &mut fmt::Formatter<W>) -> fmt::Result {
+        let done = self.done;
+        let number = self.number;
+        writeln!(f, "end {done} {number}")
     }
-    count
 }
 
-fn put_characters(characters: &[u8], text: &mut [u8], at: usize) -> usize
-    requires { at + length characters.now ≤ length text.old }
-    ensures { filled result text.new ≡ put_of characters.now (filled at text.old) }
-{
-    let mut i = 0;
-    while i < characters.len() {
-        text[at + i] = characters[i];
-        i += 1;
+// The records of a run and its end, which print its lines.
+#[derive(Clone, Copy)]
+pub struct Outcome<'a> {
+    pub times: &'a [u32],
+    pub words: &'a [u32],
+    pub end: End,
+}
+
+impl fmt::Display for Outcome<'_> {
+    ghost output = { λ o. Some (outcome_lines o.times.now o.words.now o.end.done o.end.number) };
+
+    fn fmt<W: fmt::Write>(&self, f: &mut fmt::Formatter<W>) -> fmt::Result {
+        for (clock, word) in self.times.iter().zip(self.words.iter()) {
+            let record = Record {
+                clock: *clock,
+                word: *word,
+            };
+            write!(f, "{record}")?;
+        }
+        let end = self.end;
+        write!(f, "{end}")
     }
-    at + i
-}
-
-// The last `count` digits of a number, the highest first.
-fn put_digits(n: u32, base: u32, count: usize, text: &mut [u8], at: usize) -> usize
-    requires base_nonzero { (0 < base) × (base ≤ 16) }
-    requires count_in_bounds { at + count ≤ length text.old }
-    ensures { filled result text.new ≡ put_of (digits_of base count n) (filled at text.old) }
-{
-    let mut left = count;
-    let mut rest = n;
-    while 0 < left {
-        left -= 1;
-        text[at + left] = digit(rest % base);
-        rest /= base;
-    }
-    at + count
-}
-
-fn put_decimal(n: u32, text: &mut [u8], at: usize) -> usize
-    requires { at + length (decimal_of n) ≤ length text.old }
-    ensures { filled result text.new ≡ put_of (decimal_of n) (filled at text.old) }
-{
-    put_digits(n, 10, digit_count(n), text, at)
-}
-
-fn put_word(word: u32, text: &mut [u8], at: usize) -> usize
-    requires { at + 8 ≤ length text.old }
-    ensures { filled result text.new ≡ put_of (hex_word word) (filled at text.old) }
-{
-    put_digits(word, 16, 8, text, at)
-}
-
-// The line of a record.
-fn put_line(clock: u32, word: u32, text: &mut [u8], at: usize) -> usize
-    requires { at + 20 ≤ length text.old }
-    ensures { filled result text.new ≡ put_of (record_line clock word) (filled at text.old) }
-{
-    let after_clock = put_decimal(clock, text, at);
-    let after_space = put_characters(b" ", text, after_clock);
-    let after_word = put_word(word, text, after_space);
-    put_characters(b"\n", text, after_word)
-}
-
-// A line for each record.
-fn put_records(times: &[u32], words: &[u32], text: &mut [u8], at: usize) -> usize
-    requires times_len { length times.now ≡ length words.now }
-    requires times_in_bounds { at + 20 * length times.now ≤ length text.old }
-    ensures { filled result text.new
-        ≡ put_of (record_lines times.now words.now) (filled at text.old) }
-{
-    let mut place = at;
-    let mut i = 0;
-    while i < times.len() {
-        place = put_line(times[i], words[i], text, place);
-        i += 1;
-    }
-    place
-}
-
-// The end line: the clocks done, and the number that ended them, or 0.
-pub fn put_end(done: u32, number: u8, text: &mut [u8], at: usize) -> usize
-    requires { at + 20 ≤ length text.old }
-    ensures text_after { filled result text.new ≡ put_of (end_line done number) (filled at text.old) }
-    ensures upper_bound { result ≤ length text.new }
-{
-    let after_end = put_characters(b"end ", text, at);
-    let after_done = put_decimal(done, text, after_end);
-    let after_space = put_characters(b" ", text, after_done);
-    let after_number = put_decimal(number as u32, text, after_space);
-    put_characters(b"\n", text, after_number)
-}
-
-// The lines of a run: its records, then the end line. Gives how many characters they are.
-pub fn put_outcome(times: &[u32], words: &[u32], done: u32, number: u8, text: &mut [u8]) -> usize
-    requires times_len { length times.now ≡ length words.now }
-    requires times_in_bounds { 20 * (length times.now + 1) ≤ length text.old }
-    ensures text_after { filled result text.new
-        ≡ put_of (outcome_lines times.now words.now done number) (filled 0 text.old) }
-    ensures upper_bound { result ≤ length text.new }
-{
-    let place = put_records(times, words, text, 0);
-    put_end(done, number, text, place)
 }

@@ -27,7 +27,7 @@ const BYTE: u16 = 8;
 
 // The sub-interval, whether the next tick makes a look, the bits left to come, and the bits, the last one in bit 10.
 #[repr(C)]
-#[derive(Clone, Copy)]
+#[derive(Clone, Copy, PartialEq, Eq)]
 pub struct Receiver {
     pub subinterval: u8,
     pub half: bool,

@@ -19,7 +19,7 @@ const LINE: u16 = 1;
 
 // The bits left to send, the phase, and the bits themselves, the present one lowest.
 #[repr(C)]
-#[derive(Clone, Copy)]
+#[derive(Clone, Copy, PartialEq, Eq)]
 pub struct Transmitter {
     pub left: u8,
     pub phase: u8,

@@ -17,7 +17,7 @@ ghost use Rattle.std.specs.Prelude.{◌≡◌, ◌≤◌, length};
 use memory::MEMORY_LENGTH;
 use r6501q_advance::Progress;
 use r6501q_state::state::fresh_state;
-use record_text::{LINE_LENGTH, put_end, put_outcome};
+use record_text::{End, Outcome};
 use scenario::{INPUTS, RECORDS, SETTINGS_MARK, Settings, read_inputs, read_settings};
 use std::io;
 use std::io::Read;
@@ -25,18 +25,14 @@ use test_text::next_mark;
 
 mod scenario; // scenario.rt: the parts of a scenario's text
 
-// The most characters that a scenario prints: a line for each record, and the end line.
-const TEXT_LENGTH: usize = LINE_LENGTH * (RECORDS + 1);
-
 // The most characters of the scenarios; what follows them on standard input plays no part.
 const SCENARIOS_LENGTH: usize = 32768;
 
-// What a scenario comes to: the clocks done, the records written, and the number that ended it, or 0.
+// What a scenario comes to: the records written, and how it ended.
 #[derive(Clone, Copy)]
 struct ScenarioEnd {
-    done: u32,
     written: usize,
-    number: u8,
+    end: End,
 }
 
 // A scenario's calls taken together, before the first.
@@ -55,13 +51,7 @@ fn begin() -> Progress
 fn moved_on(place: usize, by: usize, end: usize) -> usize
     ensures { result ≤ end }
 {
-    if end <= place {
-        return end;
-    }
-    if by <= end - place {
-        return place + by;
-    }
-    end
+    place.saturating_add(by).min(end)
 }
 
 // One single-clock call, with the inputs not yet read and the output space that is still free.
@@ -113,52 +103,25 @@ fn run_clocks(
     ensures { result.written ≤ length times.old }
 {
     let mut p = begin();
-    let mut done = 0;
-    while done < limit {
+    for done in 0..limit {
         p = single_clock(p, memory, clocks, codes, times, words);
         if p.stop != 0 {
             return ScenarioEnd {
-                done: done,
                 written: p.written,
-                number: p.stop,
+                end: End {
+                    done,
+                    number: p.stop,
+                },
             };
         }
-        done += 1;
     }
     ScenarioEnd {
-        done: done,
         written: p.written,
-        number: 0,
+        end: End {
+            done: limit,
+            number: 0,
+        },
     }
-}
-
-// The line of a scenario whose tape is refused.
-fn print_refused(rt: &impl Print, number: u8) -> io::Result<()> {
-    let mut text = [0u8; LINE_LENGTH];
-    let put = put_end(0, number, &mut text, 0);
-    rt.write_all(&text[..put])
-}
-
-// The lines of a scenario's outcome.
-fn print_outcome(
-    rt: &impl Print,
-    outcome: ScenarioEnd,
-    times: &[u32],
-    words: &[u32],
-) -> io::Result<()>
-    requires { (outcome.written ≤ length times.now) × (outcome.written ≤ length words.now)
-        × (outcome.written ≤ 64) }
-{
-    let written = outcome.written;
-    let mut text = [0u8; TEXT_LENGTH];
-    let put = put_outcome(
-        &times[..written],
-        &words[..written],
-        outcome.done,
-        outcome.number,
-        &mut text,
-    );
-    rt.write_all(&text[..put])
 }
 
 // Runs a scenario on the lent lists and prints what it comes to.
@@ -172,10 +135,15 @@ fn run_lent(
     words: &mut [u32],
 ) -> io::Result<()>
     requires clocks_len { length clocks.now ≡ length codes.now }
-    requires times_len { (length times.old ≡ length words.old) × (length times.old ≤ 64) }
+    requires times_len { length times.old ≡ length words.old }
 {
     let outcome = run_clocks(limit, memory, clocks, codes, times, words);
-    print_outcome(rt, outcome, times, words)
+    let written = outcome.written;
+    rt.print(Outcome {
+        times: &times[..written],
+        words: &words[..written],
+        end: outcome.end,
+    })
 }
 
 // Runs a scenario whose tape is loaded; its inputs stand in `text` from `place` on.
@@ -185,9 +153,7 @@ fn run_loaded(
     text: &[u8],
     place: usize,
     settings: Settings,
-) -> io::Result<()>
-    requires { settings.records ≤ 64 }
-{
+) -> io::Result<()> {
     let mut clocks = [0u32; INPUTS];
     let mut codes = [0u8; INPUTS];
     let count = read_inputs(text, place, &mut clocks, &mut codes);
@@ -206,13 +172,14 @@ fn run_loaded(
 }
 
 // Runs a scenario: `text` is all of it before its settings. One whose tape is refused does no clock.
-fn run_scenario(rt: &impl Print, text: &[u8], settings: Settings) -> io::Result<()>
-    requires { settings.records ≤ 64 }
-{
+fn run_scenario(rt: &impl Print, text: &[u8], settings: Settings) -> io::Result<()> {
     let mut memory = [0u8; MEMORY_LENGTH];
     match tape::load(text, &mut memory) {
         Ok(place) => run_loaded(rt, &mut memory, text, place, settings),
-        Err(error) => print_refused(rt, error.fault.into()),
+        Err(error) => rt.print(End {
+            done: 0,
+            number: error.fault.into(),
+        }),
     }
 }
 

@@ -1,6 +1,7 @@
 // The parts of a scenario's text: its inputs `+CCCCCCCC KK` and its settings `=NNNN RR`.
 ghost use Rattle.std.specs.Prelude.{◌≡◌, ◌≤◌, ◌<◌, length};
 
+use tape_records::digits::value;
 use test_text::next_mark;
 
 // Begin an input and the settings.
@@ -18,44 +19,24 @@ pub const RECORDS: usize = 64;
 pub struct Settings {
     pub clocks: u32,
     pub records: usize,
+    ghost in_range: { records ≤ 64 },
 }
 
-// The value of a hex digit; 0 of any other character.
-fn value(c: u8) -> u32
-    ensures { result < 16 }
-{
-    if c < b'0' {
-        return 0;
-    }
-    if c <= b'9' {
-        return (c - b'0') as u32;
-    }
-    if c < b'A' {
-        return 0;
-    }
-    if c <= b'F' {
-        return (c - b'A' + 10) as u32;
-    }
-    0
-}
-
-// The value of the digit at a place; 0 where no text is left.
+// The value of the hex digit at a place; 0 of any other character, and where no text is left.
 fn value_at(text: &[u8], place: usize) -> u32
     ensures { result < 16 }
 {
-    if place < text.len() {
-        return value(text[place]);
+    match text.get(place) {
+        Some(c) => value(*c) as u32,
+        None => 0,
     }
-    0
 }
 
 // The number that the digits from `from` up to `end` write; of more than eight digits the last eight.
 fn number(text: &[u8], from: usize, end: usize) -> u32 {
     let mut n: u32 = 0;
-    let mut i = from;
-    while i < end {
+    for i in from..end {
         n = n % 0x10000000 * 16 + value_at(text, i);
-        i += 1;
     }
     n
 }
@@ -86,16 +67,10 @@ pub fn read_inputs(text: &[u8], from: usize, clocks: &mut [u32], codes: &mut [u8
 }
 
 // The settings, whose mark stands first in `text`.
-pub fn read_settings(text: &[u8]) -> Settings
-    ensures { result.records ≤ 64 }
-{
-    let clocks = number(text, 1, 5);
+pub fn read_settings(text: &[u8]) -> Settings {
     let records = number(text, 6, 8) as usize;
-    if records <= RECORDS {
-        return Settings { clocks, records };
-    }
     Settings {
-        clocks,
-        records: RECORDS,
+        clocks: number(text, 1, 5),
+        records: records.min(RECORDS),
     }
 }

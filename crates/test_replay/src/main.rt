@@ -7,10 +7,9 @@
 // most, and so many are free.
 #![tactic(auto)]
 
-use replay_text::{TEXT_LENGTH, replay};
+use replay_text::replay;
 use std::io;
 use std::io::Read;
-use test_text::next_mark;
 
 // Stands between two tapes: neither `;` nor a digit.
 const SEPARATOR: u8 = b'=';
@@ -18,18 +17,9 @@ const SEPARATOR: u8 = b'=';
 // The most characters of the tapes; what follows them on standard input plays no part.
 const TAPES_LENGTH: usize = 16384;
 
-fn print_replay(rt: &impl Print, tape: &[u8]) -> io::Result<()> {
-    let mut text = [0u8; TEXT_LENGTH];
-    let put = replay(tape, &mut text);
-    rt.write_all(&text[..put])
-}
-
 fn print_replays(rt: &impl Print, tapes: &[u8]) -> io::Result<()> {
-    let mut from = 0;
-    while from <= tapes.len() {
-        let end = next_mark(tapes, from, SEPARATOR);
-        print_replay(rt, &tapes[from..end])?;
-        from = end + 1;
+    for tape in tapes.split(|c| *c == SEPARATOR) {
+        rt.print(replay(tape))?;
     }
     Ok(())
 }

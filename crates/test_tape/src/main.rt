@@ -5,7 +5,6 @@
 use memory::MEMORY_LENGTH;
 use std::io;
 use std::io::Read;
-use test_text::next_mark;
 
 // Stands between two tapes: neither `;` nor a digit.
 const SEPARATOR: u8 = b'=';
@@ -13,29 +12,21 @@ const SEPARATOR: u8 = b'=';
 // The most characters of the text; what follows them on standard input plays no part.
 const TEXT_LENGTH: usize = 16384;
 
-fn print_byte(rt: &impl Print, b: u8) -> io::Result<()> {
-    print!(rt; " {b:02x}")
-}
-
 fn print_load(rt: &impl Print, tape: &[u8]) -> io::Result<()> {
     let mut memory = [0u8; MEMORY_LENGTH];
     match tape::load(tape, &mut memory) {
         Ok(place) => print!(rt; "0 {place}")?,
         Err(error) => print!(rt; "{} {}", u8::from(error.fault), error.place)?,
     }
-    print_byte(rt, memory[0x3F])?;
-    print_byte(rt, memory[0x40])?;
-    print_byte(rt, memory[0x200])?;
-    print_byte(rt, memory[0xFFFD])?;
+    for address in [0x3F, 0x40, 0x200, 0xFFFD] {
+        print!(rt; " {:02x}", memory[address])?;
+    }
     println!(rt)
 }
 
 fn print_tapes(rt: &impl Print, text: &[u8]) -> io::Result<()> {
-    let mut from = 0;
-    while from <= text.len() {
-        let end = next_mark(text, from, SEPARATOR);
-        print_load(rt, &text[from..end])?;
-        from = end + 1;
+    for tape in text.split(|c| *c == SEPARATOR) {
+        print_load(rt, tape)?;
     }
     Ok(())
 }

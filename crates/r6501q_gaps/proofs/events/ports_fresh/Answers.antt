@@ -1,7 +1,7 @@
+use Rattle.std.proofs.Math.Bool.{and_assoc}
 use Rattle.r6501q_events.specs.Events.{ports_fresh}
-use mathlib.Core.Path.{refl}
 use Rattle.r6501q_gaps.proofs.events.ports_fresh.Goals as goal
 
 pub returns : goal.returns
 unfolding ports_fresh
-returns c = refl
+returns c = simp and_assoc (rw c.fresh_ports.ensures at c.eq.ensures)

@@ -1,7 +1,7 @@
+use Rattle.std.proofs.Math.Bool.{and_assoc}
 use Rattle.r6501q_events.specs.Events.{transmitter_idle}
-use mathlib.Core.Path.{refl}
 use Rattle.r6501q_gaps.proofs.events.transmitter_idle.Goals as goal
 
 pub returns : goal.returns
 unfolding transmitter_idle
-returns c = refl
+returns c = simp and_assoc (rw c.idle_transmitter.ensures at c.eq.ensures)
