@@ -124,11 +124,7 @@ pub fn plp(w: Work, memory: &[u8], pc: u16, length: u8) -> Attempt
         return failed_attempt(w);
     }
     let stacked = with_sp(with_pc(w.registers, pc), pulled.sp);
-    started_next(
-        w,
-        with_status(stacked, Status::from(pulled.value)),
-        length,
-    )
+    started_next(w, with_status(stacked, Status::from(pulled.value)), length)
 }
 
 // JSR.

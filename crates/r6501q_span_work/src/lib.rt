@@ -47,7 +47,13 @@ fn continue_work(
 }
 
 // The next instruction by the outcome of its accesses one after the other.
-fn work_outcome(s: State, w: Work, memory: &mut [u8], sums: &mut [u16], halt: Option<u16>) -> Working
+fn work_outcome(
+    s: State,
+    w: Work,
+    memory: &mut [u8],
+    sums: &mut [u16],
+    halt: Option<u16>,
+) -> Working
     requires { (w.gone.0 + w.wait + 1 ≤ 4294967295) × (w.leaps + 1 ≤ 4294967295) }
     ensures value { result ≡ work_by halt w (outcome_within s w.registers memory.old) }
     ensures memory_after { memory.new
