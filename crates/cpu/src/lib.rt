@@ -29,13 +29,10 @@ pub struct Ask {
     pub writes: Writes,
 }
 
-// The next clock would start an undefined opcode.
-pub const UNDEFINED: u8 = 6;
-
-// What an instruction comes to: the number of a stop, a question, or its end.
+// What an instruction comes to: its opcode is undefined, a question, or its end.
 #[derive(Clone, Copy)]
 pub enum Outcome {
-    Stopped(u8),
+    Undefined,
     Asked(Ask),
     Done(Worked),
 }
@@ -181,7 +178,7 @@ pub fn instruction(
     }
     let decoded = cpu_opcodes::decode_in(entries, opcode.value);
     let Decoded::Defined(entry) = decoded else {
-        return Outcome::Stopped(UNDEFINED);
+        return Outcome::Undefined;
     };
     execute(
         answers,

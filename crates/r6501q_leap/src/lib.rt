@@ -1,7 +1,7 @@
 // One leap of a run: the gap, the gap passed, and the event clock.
 #![tactic(auto)]
 
-ghost use Rattle.std.specs.Prelude.{◌≡◌, ◌+◌, ◌-◌, ◌≤◌, ◌<◌, length, drop};
+ghost use Rattle.std.specs.Prelude.{◌≡◌, None, ◌+◌, ◌-◌, ◌≤◌, ◌<◌, length, drop};
 ghost use Rattle.page_sums.specs.PageSums.{sums_after};
 ghost use Rattle.leaps.specs.Leaps.{leap_of, left_after};
 ghost use Rattle.cpu_opcodes.specs.TableInCode.{opcode_table};
@@ -72,7 +72,7 @@ fn leap(
     halt: Halt,
 ) -> Progress
     requires leaping { Leaping p left.0 inputclocks.now inputcodes.now outputclocks.old outputwords.old }
-    requires stop_value { p.stop ≡ 0 }
+    requires stop_value { p.stop ≡ None }
     requires gap_value { gap ≡ gap_of left.0 p.state (drop p.read inputclocks.now) }
     requires entries_value { entries.now ≡ opcode_table }
     ensures outputwords_value { world_at_exit result memory inputclocks inputcodes outputclocks outputwords
@@ -110,7 +110,7 @@ pub fn leap_once(
 ) -> Leaped
     requires leaping { Leaping at.progress at.left.0 inputclocks.now inputcodes.now outputclocks.old
         outputwords.old }
-    requires left_nonzero { (0 < at.left.0) × (at.progress.stop ≡ 0) }
+    requires left_nonzero { (0 < at.left.0) × (at.progress.stop ≡ None) }
     requires left_bound { at.leaps + at.left.0 ≤ 4294967295 }
     requires entries_value { entries.now ≡ opcode_table }
     ensures outputwords_value { world_at_exit result.progress memory inputclocks inputcodes outputclocks outputwords

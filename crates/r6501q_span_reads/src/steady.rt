@@ -52,7 +52,7 @@ pub fn outcome_within(s: State, registers: CpuRegisters, memory: &[u8], entries:
     let answers = [0u8; 0];
     let outcome = instruction(registers, &answers, memory, entries);
     match outcome {
-        Outcome::Stopped(number) => Outcome::Stopped(number),
+        Outcome::Undefined => Outcome::Undefined,
         Outcome::Asked(ask) => answered_once(s, ask, registers, memory, entries),
         Outcome::Done(worked) => Outcome::Done(worked),
     }

@@ -1,5 +1,5 @@
 -- One instruction by a run for all its clocks: what a case starts from, and what it has to come to.
-use Rattle.std.specs.Prelude.{ℕ, ◌-◌, true, false, List, [], ◌∷◌}
+use Rattle.std.specs.Prelude.{Ok, Err, ℕ, ◌-◌, true, false, List, [], ◌∷◌}
 use Rattle.r6501q_state.specs.declared.state.Cpu.{Cpu}
 use Rattle.r6501q_state.specs.declared.state.Peripherals.{Peripherals}
 use Rattle.r6501q_state.specs.declared.state.State.{State}
@@ -12,10 +12,9 @@ use Rattle.cpu_access.specs.declared.halt.Halt.TheVariants.{Nowhere}
 use Rattle.cpu_access.specs.declared.waiting.Waiting.{Waiting}
 use Rattle.cpu_access.specs.declared.waiting.Waiting.TheVariants.{Nothing, Byte}
 use Rattle.cpu_access.specs.Stack.{no_writes, one_write}
-use Rattle.r6501q_clock.specs.declared.Clocked.{Clocked}
-use Rattle.r6501q_clock.specs.declared.Clocked.TheVariants.{Stopped, Done}
 use Rattle.leaps.specs.CallLists.{run_of}
 use Rattle.leaps.specs.Calls.{call_start}
+use Rattle.r6501q_clock.specs.Clock.{Clocked}
 use Rattle.r6501q_chip.specs.R6501q.{Handed, Result, machine}
 
 -- fresh but for the registers, with no reset due
@@ -75,5 +74,5 @@ writes_with pushes (Byte w) = one_write w
 
 -- the same by what the first clock comes to; nothing where it stops
 abbrev pub writes_in : Clocked → Writes
-writes_in (Stopped number) = no_writes
-writes_in (Done ended) = writes_with ended.writes ended.state.cpu.waiting
+writes_in (Err stop) = no_writes
+writes_in (Ok ended) = writes_with ended.writes ended.state.cpu.waiting
