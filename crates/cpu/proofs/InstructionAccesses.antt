@@ -48,10 +48,10 @@ use Rattle.cpu_effects.specs.Effects.{branch_operand, bit_branched, jumped, push
 use Rattle.cpu_effects.specs.Effects.{returned_from_interrupt, interrupted, break_taken}
 use Rattle.cpu_operations.specs.Operations.{operate_of}
 use Rattle.cpu.specs.declared.Outcome.{Outcome}
-use Rattle.cpu.specs.declared.Outcome.TheVariants.{Stopped, Asked, Done}
+use Rattle.cpu.specs.declared.Outcome.TheVariants.{Undefined, Asked, Done}
 use Rattle.cpu.specs.InstructionInCode.{ask_with, outcome_of, operand_byte, operand_of, carried_out, writes_asked}
 use Rattle.cpu.specs.InstructionInCode.{jsr_outcome, execute_of, decoded_to, instruction_of}
-use Rattle.cpu.specs.InstructionAccesses.{Conclusion, Ending, undefined, leaves, undefined_stop, conclusion}
+use Rattle.cpu.specs.InstructionAccesses.{Conclusion, Ending, undefined, leaves, conclusion}
 use Rattle.cpu.specs.InstructionAccesses.{completion}
 use Rattle.cpu.specs.InstructionAccesses.{store_at, store_back, modify_accesses, branch_on, bit_branch_accesses, jump_to}
 use Rattle.cpu.specs.InstructionAccesses.{push_accesses, pull_accesses, return_accesses, interrupt_return_accesses}
@@ -89,7 +89,7 @@ worked_of l pushes = record { registers = l.registers; writing = writing_as l.wa
 
 abbrev pub outcome_from : Reply Ending → Outcome
 outcome_from (asks modify a ws) = Asked (record { address = a; modify = modify; writes = in_order ws })
-outcome_from (over undefined ws) = Stopped undefined_stop
+outcome_from (over undefined ws) = Undefined
 outcome_from (over (leaves l) ws) = Done (worked_of l ws)
 
 abbrev left : Accesses Conclusion → Accesses Ending

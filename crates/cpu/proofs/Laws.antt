@@ -33,7 +33,7 @@ use Rattle.cpu.specs.declared.Ask.{Ask}
 use Rattle.cpu_effects.specs.declared.Worked.{Worked}
 use Rattle.cpu_effects.specs.declared.Writing.TheVariants.{Pushed, Stored}
 use Rattle.cpu.specs.declared.Outcome.{Outcome}
-use Rattle.cpu.specs.declared.Outcome.TheVariants.{Stopped, Asked, Done}
+use Rattle.cpu.specs.declared.Outcome.TheVariants.{Undefined, Asked, Done}
 use Rattle.cpu_effects.specs.declared.Executed.{Executed}
 use Rattle.cpu_operations.specs.declared.Access.{Access}
 use Rattle.cpu_operations.specs.declared.Access.TheVariants.{Nothing, Read, Modify, Jsr}
@@ -64,7 +64,7 @@ pub record AskedBy (P : ℕ → Bus → Type 0) (q : Ask) : Type 0 where
   pub writes : q.writes.count ≤ 3
 
 abbrev pub Lawful : (ℕ → Bus → Type 0) → Outcome → Type 0
-Lawful P (Stopped number) = Unit
+Lawful P Undefined = Unit
 Lawful P (Asked q) = AskedBy P q
 Lawful P (Done w) = Fits w
 

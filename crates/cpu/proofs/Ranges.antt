@@ -70,7 +70,7 @@ use Rattle.cpu_effects.specs.Effects.{break_taken}
 use Rattle.cpu_kinds.specs.Kinds.{with_read, changed_by, byte_to_store, byte_to_push, with_pulled, with_register}
 use Rattle.cpu_operations.specs.Operations.{access_of, is_jsr, operate_of}
 use Rattle.cpu.specs.declared.Outcome.{Outcome}
-use Rattle.cpu.specs.declared.Outcome.TheVariants.{Stopped, Asked, Done}
+use Rattle.cpu.specs.declared.Outcome.TheVariants.{Undefined, Asked, Done}
 use Rattle.cpu.specs.EntriesInCode.{reset_entry, interrupt_entry}
 use Rattle.cpu.specs.InstructionInCode.{ask_with, outcome_of, operand_byte, operand_of, carried_out, writes_asked}
 use Rattle.cpu.specs.InstructionInCode.{jsr_to}
@@ -355,7 +355,7 @@ pushed_fits o r v h i =
 
 -- what is done is in range; a question says nothing of registers
 abbrev pub DoneFits : Outcome → Type 0
-DoneFits (Stopped number) = Unit
+DoneFits Undefined = Unit
 DoneFits (Asked q) = Unit
 DoneFits (Done w) = WorkedFits w
 

@@ -16,8 +16,7 @@ use Rattle.cpu_access.specs.Stack.{no_writes, down, push_address, read_after}
 use Rattle.cpu_modes.specs.Modes.{locate_of}
 use Rattle.cpu.specs.declared.Ask.{Ask}
 use Rattle.cpu.specs.declared.Outcome.{Outcome}
-use Rattle.cpu.specs.declared.Outcome.TheVariants.{Stopped, Asked, Done}
-use Rattle.cpu.specs.InstructionAccesses.{undefined_stop}
+use Rattle.cpu.specs.declared.Outcome.TheVariants.{Undefined, Asked, Done}
 use Rattle.cpu_effects.specs.declared.Writing.TheVariants.{Pushed}
 use Rattle.cpu_effects.specs.Operand.{Operand}
 use Rattle.cpu_effects.specs.declared.Executed.{Executed}
@@ -87,7 +86,7 @@ execute_of answers memory e r b =
     (outcome_of no_writes (carried_out answers memory e r b))
 
 abbrev pub decoded_to : List ℕ → List ℕ → CpuRegisters → Bus → Option Entry → Outcome
-decoded_to answers memory r b None = Stopped undefined_stop
+decoded_to answers memory r b None = Undefined
 decoded_to answers memory r b (Some e) = execute_of answers memory e r b
 
 -- an opcode that has to be asked for is no opcode yet

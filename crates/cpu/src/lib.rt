@@ -29,13 +29,10 @@ pub struct Ask {
     pub writes: Writes,
 }
 
-// The next clock would start an undefined opcode.
-pub const UNDEFINED: u8 = 6;
-
-// What an instruction comes to: the number of a stop, a question, or its end.
+// What an instruction comes to: its opcode is undefined, a question, or its end.
 #[derive(Clone, Copy)]
 pub enum Outcome {
-    Stopped(u8),
+    Undefined,
     Asked(Ask),
     Done(Worked),
 }
@@ -175,7 +172,7 @@ pub fn instruction(registers: CpuRegisters, answers: &[u8], memory: &[u8]) -> Ou
         return Outcome::Asked(ask_with(no_writes(), bus));
     }
     let Some(entry) = cpu_opcodes::decode(opcode.value) else {
-        return Outcome::Stopped(UNDEFINED);
+        return Outcome::Undefined;
     };
     execute(
         answers,

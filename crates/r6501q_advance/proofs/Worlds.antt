@@ -1,7 +1,7 @@
 -- One plain clock, by what it comes to.
 use Rattle.std.specs.Prelude.{Option}
-use mathlib.Core.Path.{◌≡◌}
-use mathlib.Core.Bool.{Bool}
+use mathlib.Core.Path.{◌≡◌, refl}
+use mathlib.Core.Bool.{Bool, true, false, cond}
 use mathlib.Core.List.{List}
 use Prim.Native.Nat.{ℕ, ◌+◌, ◌-◌, ◌≤◌}
 use native.Mathlib.Omega.{arith}
@@ -9,36 +9,53 @@ use lib.Dec.{ltb}
 use lib.ListN.{length, take, drop, length-drop}
 use lib.Seq.{take_all}
 use borrow.Author.Tests.{eq-eqb}
+use Rattle.std.specs.Prelude.{Option, None, Some, is_some, unwrap_or, Ok, Err}
+use Rattle.std.specs.Bool.{then_some}
 use Rattle.bits.specs.Bits.{one_where}
+use Rattle.stops.specs.declared.Stop.{Stop}
+use Rattle.stops.specs.declared.Stop.TheVariants.{Halted}
+use Rattle.stops.specs.Stops.{stop_number, number_of}
 use Rattle.pin_lists.specs.PinLists.{input_count}
 use Rattle.pin_lists.proofs.PinLists.{input_count_within}
-use Rattle.leaps.specs.World.{stopped_at, moved_to, input_count_in, plain_of}
+use Rattle.leaps.specs.World.{stopped_at, moved_to, input_count_in, plain_of, put_record}
 use Rattle.r6501q_clock.specs.declared.Ended.{Ended}
-use Rattle.r6501q_clock.specs.declared.Clocked.TheVariants.{Stopped, Done}
-use Rattle.r6501q_clock.specs.Clock.{clock_of}
+use Rattle.r6501q_clock.specs.Clock.{halt_stop, clock_of}
 use Rattle.r6501q_advance.specs.declared.Progress.{Progress}
-use Rattle.r6501q_chip.specs.R6501q.{World, stop_after, r6501q, end_of}
-use Rattle.r6501q_advance.specs.World.{progress_to}
+use Rattle.r6501q_chip.specs.R6501q.{World, r6501q, end_of}
+use Rattle.r6501q_advance.specs.World.{halted_after, progress_to}
 
 module _ (halt : Option ℕ) (w : World) (inputs : ℕ) (free : Bool) (on : w.stop ≡ 0)
     (counted : inputs ≡ input_count_in (r6501q halt) w) where
   -- a clock that stops
-  pub plain_stops : (number : ℕ) → clock_of w.state (take inputs w.input_codes) w.memory free ≡ Stopped number
-      → free ≡ ltb w.written (length w.output_clocks) → stopped_at number w ≡ plain_of (r6501q halt) w
+  pub plain_stops : (stop : Stop) → clock_of w.state (take inputs w.input_codes) w.memory free ≡ Err stop
+      → free ≡ ltb w.written (length w.output_clocks) → stopped_at (stop_number stop) w ≡ plain_of (r6501q halt) w
   unfolding plain_of
-  plain_stops number e room = rw (eq-eqb w.stop 0 on, ← counted, ← room, e)
+  plain_stops stop e room = rw (eq-eqb w.stop 0 on, ← counted, ← room, e)
 
   -- a clock that is done
-  pub plain_moves : (e : Ended) → clock_of w.state (take inputs w.input_codes) w.memory free ≡ Done e
+  pub plain_moves : (e : Ended) → clock_of w.state (take inputs w.input_codes) w.memory free ≡ Ok e
       → free ≡ ltb w.written (length w.output_clocks)
       → moved_to (r6501q halt) (end_of halt w.memory e) inputs w ≡ plain_of (r6501q halt) w
   unfolding plain_of
   plain_moves ended e room = rw (eq-eqb w.stop 0 on, ← counted, ← room, e)
 
+-- the stop that a clock which is done ends in, by its number
+pub halted_number : (t : Bool) → number_of (then_some t Halted) ≡ cond t halt_stop 0
+halted_number true = refl
+halted_number false = refl
+
+-- where there is no record, no word is put
+pub put_any : (output : Option ℕ) (other at : ℕ) (list : List ℕ)
+    → put_record (is_some output) at (unwrap_or output 0) list
+    ≡ put_record (is_some output) at (unwrap_or output other) list
+unfolding put_record
+put_any None other at list = refl
+put_any (Some word) other at list = refl
+
 -- what the code carries once a clock is done, field by field
 pub progress_done : (halt : Option ℕ) (e : Ended) (inputs : ℕ) (p r : Progress) → r.state ≡ e.state
     → r.read ≡ p.read + inputs
-    → r.written ≡ p.written + one_where e.differs → r.stop ≡ stop_after halt e.writes
+    → r.written ≡ p.written + one_where (is_some e.output) → r.stop ≡ halted_after halt e.writes
     → r ≡ progress_to halt e inputs p
 progress_done halt e inputs p r a b c d = rw (← a, ← b, ← c, ← d)
 

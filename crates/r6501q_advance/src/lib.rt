@@ -1,7 +1,7 @@
 // One clock of the chip with its memory and pin lists.
 #![tactic(auto)]
 
-ghost use Rattle.std.specs.Prelude.{◌≡◌, ◌+◌, ◌≤◌, ◌<◌, ◌^◌, length, take, drop};
+ghost use Rattle.std.specs.Prelude.{◌≡◌, ◌+◌, ◌≤◌, ◌<◌, ◌^◌, length, take, drop, set, is_some, unwrap_or};
 ghost use Rattle.bits.specs.Bits.{one_where};
 ghost use Rattle.page_sums.specs.PageSums.{sums_after};
 ghost use Rattle.pin_lists.specs.PinLists.{input_count};
@@ -9,42 +9,56 @@ ghost use Rattle.refusals.specs.Refusals.{last_clock};
 ghost use Rattle.leaps.specs.World.{put_record};
 ghost use Rattle.memory_writes.specs.Commit.{committed};
 ghost use Rattle.r6501q_clock.specs.Clock.{clock_of};
-ghost use Rattle.r6501q_chip.specs.R6501q.{stop_after, plain};
-ghost use Rattle.r6501q_advance.specs.World.{progress_to, stopped_with, Going, world_at_entry, world_at_exit};
+ghost use Rattle.r6501q_chip.specs.R6501q.{word_after, plain};
+ghost use Rattle.r6501q_advance.specs.World.{halted_after, progress_to, stopped_with, Going, world_at_entry, world_at_exit};
 
 use cpu_access::halt::halts;
 use cpu_access::stack::Writes;
 use memory_writes::commit;
 use pin_lists::input_count;
-use r6501q_clock::{Clocked, Ended, HALTED};
+use r6501q_clock::Ended;
 use r6501q_state::state::State;
+use stops::Stop;
 
-// How far a call has come: the state, the inputs read, the records written, and the stop, 0 where nothing stopped.
+// How far a call has come: the state, the inputs read, the records written, and the stop, if any.
 #[derive(Clone, Copy)]
 pub struct Progress {
     pub state: State,
     pub read: usize,
     pub written: usize,
-    pub stop: u8,
+    pub stop: Option<Stop>,
 }
 
-// A record into one of the output lists.
-fn put_record(list: &mut [u32], differs: bool, at: usize, value: u32)
-    ensures { list.new ≡ put_record differs at value list.old }
+// A value into one of the output lists.
+fn put_value(list: &mut [u32], at: usize, value: u32)
+    ensures { list.new ≡ set list.old at value }
 {
-    if differs {
-        if at < list.len() {
-            list[at] = value;
-        }
+    if at < list.len() {
+        list[at] = value;
     }
 }
 
-// The records written once one more is, where the word differs.
-fn written_after(written: usize, differs: bool) -> usize
+// The record of a clock, if any, into the output lists, and how many are written then.
+#[tactic(auto, unfolding(leaps::specs::World::put_record))]
+fn put_record(
+    output: Option<u32>,
+    clock: u32,
+    written: usize,
+    outputclocks: &mut [u32],
+    outputwords: &mut [u32],
+) -> usize
     requires { written + 1 < 2 ^ 64 }
-    ensures { result ≡ written + one_where differs }
+    ensures value { result ≡ written + one_where (is_some output) }
+    ensures outputclocks_after { outputclocks.new ≡ put_record (is_some output) written clock outputclocks.old }
+    ensures outputwords_after { outputwords.new
+        ≡ put_record (is_some output) written (unwrap_or output 0) outputwords.old }
 {
-    if differs { written + 1 } else { written }
+    let Some(word) = output else {
+        return written;
+    };
+    put_value(outputclocks, written, clock);
+    put_value(outputwords, written, word);
+    written + 1
 }
 
 // How many inputs of a clock stand at the front of the part of the list that begins at its first unread entry.
@@ -56,7 +70,13 @@ fn input_count_from(inputclocks: &[u32], from: usize, clock: u32) -> usize
 }
 
 // What the next clock comes to, which has `inputs` inputs.
-fn outcome_from(p: Progress, inputs: usize, memory: &[u8], inputcodes: &[u8], free: bool) -> Clocked
+fn outcome_from(
+    p: Progress,
+    inputs: usize,
+    memory: &[u8],
+    inputcodes: &[u8],
+    free: bool,
+) -> Result<Ended, Stop>
     requires { (p.state.clock < last_clock) × (p.read + inputs ≤ length inputcodes.now) }
     ensures { result ≡ clock_of p.state (take inputs (drop p.read inputcodes.now))
         memory.now free }
@@ -66,14 +86,11 @@ fn outcome_from(p: Progress, inputs: usize, memory: &[u8], inputcodes: &[u8], fr
     r6501q_clock::clock(p.state, &inputcodes[from..upto], memory, free)
 }
 
-// The stop that a clock with these writes ends in, or 0.
-fn stop_after(writes: Writes, halt: Option<u16>) -> u8
-    ensures { result ≡ stop_after halt writes }
+// The stop that a clock with these writes ends in, if any.
+fn stop_after(writes: Writes, halt: Option<u16>) -> Option<Stop>
+    ensures { result ≡ halted_after halt writes }
 {
-    if halts(writes, halt) {
-        return HALTED;
-    }
-    0
+    halts(writes, halt).then_some(Stop::Halted)
 }
 
 // A clock that is done: its writes, its record, its inputs, and the stop where it wrote the halt address.
@@ -91,35 +108,33 @@ fn complete(
     ensures value { result ≡ progress_to halt ended inputs p }
     ensures memory_after { memory.new ≡ committed memory.old ended.writes }
     ensures outputclocks_after { outputclocks.new
-        ≡ put_record ended.differs p.written ended.state.clock outputclocks.old }
+        ≡ put_record (is_some ended.output) p.written ended.state.clock outputclocks.old }
     ensures outputwords_after { outputwords.new
-        ≡ put_record ended.differs p.written ended.word outputwords.old }
+        ≡ put_record (is_some ended.output) p.written (word_after ended) outputwords.old }
     ensures sums_after { sums.new ≡ sums_after sums.old memory.old memory.new }
 {
     let state = ended.state;
-    let written = p.written;
-    let differs = ended.differs;
+    let output = ended.output;
     commit(memory, sums, ended.writes);
-    put_record(outputclocks, differs, written, state.clock);
-    put_record(outputwords, differs, written, ended.word);
+    let written = put_record(output, state.clock, p.written, outputclocks, outputwords);
     Progress {
         state: state,
         read: p.read + inputs,
-        written: written_after(written, differs),
+        written: written,
         stop: stop_after(ended.writes, halt),
     }
 }
 
-// A clock that stops changes nothing but the number.
-fn stop_at(number: u8, p: Progress) -> Progress
-    ensures { result ≡ stopped_with number p }
+// A clock that stops changes nothing else.
+fn stop_at(stop: Stop, p: Progress) -> Progress
+    ensures { result ≡ stopped_with stop p }
 {
     let state = p.state;
     Progress {
         state: state,
         read: p.read,
         written: p.written,
-        stop: number,
+        stop: Some(stop),
     }
 }
 
@@ -143,8 +158,8 @@ pub fn advance(
     let free = p.written < outputclocks.len();
     let clocked = outcome_from(p, inputs, memory, inputcodes, free);
     match clocked {
-        Clocked::Stopped(number) => stop_at(number, p),
-        Clocked::Done(ended) => complete(
+        Err(stop) => stop_at(stop, p),
+        Ok(ended) => complete(
             p,
             inputs,
             ended,

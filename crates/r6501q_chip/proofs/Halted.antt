@@ -9,7 +9,10 @@ use native.Mathlib.Omega.{arith}
 use lib.Dec.{ltb, eqb}
 use lib.ListN.{length, take, set}
 use borrow.Author.Tests.{eq-eqb, eqb-true, eqb-false, lt-ltb, le-ltb, ltb-true, ltb-false}
+use Rattle.std.specs.Prelude.{Ok, Err}
 use Rattle.bits.proofs.Cond.{cond_no}
+use Rattle.stops.specs.declared.Stop.{Stop}
+use Rattle.stops.specs.Stops.{stop_number}
 use Rattle.pin_lists.specs.PinLists.{pins_right, input_count}
 use Rattle.cpu_access.specs.declared.stack.Write.{Write}
 use Rattle.cpu_access.specs.declared.stack.Writes.{Writes}
@@ -21,9 +24,7 @@ use Rattle.leaps.specs.World.{stopped_at, after, input_count_in, running_in, pla
 use Rattle.r6501q_state.specs.declared.state.State.{State}
 use Rattle.r6501q_state.specs.Inputs.{last_pin}
 use Rattle.r6501q_state.specs.Pins.{driven_word}
-use Rattle.r6501q_clock.specs.declared.Clocked.{Clocked}
-use Rattle.r6501q_clock.specs.declared.Clocked.TheVariants.{Stopped, Done}
-use Rattle.r6501q_clock.specs.Clock.{halt_stop, finished, clock_of}
+use Rattle.r6501q_clock.specs.Clock.{Clocked, halt_stop, finished, clock_of}
 use Rattle.memory_writes.specs.Commit.{put_write, committed}
 use Rattle.r6501q_clock.proofs.Ends.{stop_either}
 use Rattle.r6501q_events.specs.Events.{has_input, event_of}
@@ -36,8 +37,8 @@ use Rattle.r6501q_chip.specs.R6501q.{World, clock_outcome, r6501q, plain, system
 
 -- the writes of a clock that is done; nothing where it stops
 abbrev pub told_by : Clocked → Writes
-told_by (Stopped number) = no_writes
-told_by (Done e) = e.writes
+told_by (Err stop) = no_writes
+told_by (Ok e) = e.writes
 
 -- what the next clock comes to: no halt address has a part in it
 abbrev pub clock_in : World → Clocked
@@ -64,10 +65,10 @@ stop_twelve halt w on = rw (eq-eqb w.stop 0 on) (by_clock (clock_in w) refl)
     by_clock : (x : Clocked) → clock_in w ≡ x
         → eqb (after (r6501q halt) w (input_count_in (r6501q halt) w) (clock_outcome halt w.memory x)).stop 12
         ≡ halts halt (told_by x)
-    by_clock (Stopped number) e =
-        stop_either (λ (k : ℕ). eqb k 12 ≡ false) refl refl w.state _ w.memory _ number e
+    by_clock (Err stop) e =
+        stop_either (λ (k : Stop). eqb (stop_number k) 12 ≡ false) refl refl w.state _ w.memory _ stop e
         ∙ sym (unwritten halt no_writes refl)
-    by_clock (Done e) d = twelve_itself (halts halt e.writes)
+    by_clock (Ok e) d = twelve_itself (halts halt e.writes)
 
 -- ---- with a halt address and with none
 
@@ -89,10 +90,10 @@ plain_halts halt w = by_running (running_in w) refl
         ≡ cond (halts halt (told_by x))
         (stopped_at halt_stop (after (r6501q None) w inputs (clock_outcome None w.memory x)))
         (after (r6501q None) w inputs (clock_outcome None w.memory x))
-    by_clock (Stopped number) = sym (cond_no (halts halt no_writes) _ _ (unwritten halt no_writes refl))
-    by_clock (Done e) =
+    by_clock (Err stop) = sym (cond_no (halts halt no_writes) _ _ (unwritten halt no_writes refl))
+    by_clock (Ok e) =
         stop_chosen (halts halt e.writes)
-        (after (r6501q None) w (input_count_in (r6501q halt) w) (clock_outcome None w.memory (Done e)))
+        (after (r6501q None) w (input_count_in (r6501q halt) w) (clock_outcome None w.memory (Ok e)))
 
     by_running : (t : Bool) → running_in w ≡ t
         → cond t (after (r6501q halt) w (input_count_in (r6501q halt) w) (clock_outcome halt w.memory (clock_in w))) w
@@ -254,8 +255,8 @@ memory_told halt w e = rw e (by_clock (clock_in w))
     by_clock : (x : Clocked)
         → (after (r6501q halt) w (input_count_in (r6501q halt) w) (clock_outcome halt w.memory x)).memory
         ≡ in_turn stored_in (told (told_by x)) w.memory
-    by_clock (Stopped number) = refl
-    by_clock (Done ended) = committed_told w.memory ended.writes
+    by_clock (Err stop) = refl
+    by_clock (Ok ended) = committed_told w.memory ended.writes
 
 -- ---- leaps
 

@@ -30,9 +30,8 @@ use Rattle.r6501q_state.specs.Pins.{drive_a, drive_d, driven_word, levels_of, ro
 use Rattle.r6501q_state.specs.Pins.{sensed_at, sensed}
 use Rattle.r6501q_clock.specs.Clock.{with_inputs, count_a, count_b, sent_by, heard_by, peripherals_clock}
 use Rattle.r6501q_clock.specs.Clock.{with_peripherals_clock, before_cpu}
-use Rattle.r6501q_clock.specs.Clock.{finished, recorded, clock_of}
+use Rattle.r6501q_clock.specs.Clock.{Clocked, finished, recorded, clock_of}
 use Rattle.r6501q_clock.specs.Copies.{with_external}
-use Rattle.r6501q_clock.specs.declared.Clocked.{Clocked}
 use Rattle.r6501q_events.specs.Events.{has_input, same_levels, levels_change, underflows_a, underflows_b, reset_changes}
 use Rattle.r6501q_events.specs.Events.{cpu_starts, puts_byte, event_of}
 use Rattle.leaps.specs.Chip.{ClockOutcome, stopped, ended}

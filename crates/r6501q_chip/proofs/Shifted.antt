@@ -8,7 +8,10 @@ use native.Mathlib.Omega.{arith}
 use lib.Dec.{ltb, eqb}
 use lib.ListN.{length}
 use borrow.Author.Tests.{eq-eqb}
+use Rattle.std.specs.Prelude.{Option, is_some, Ok, Err}
+use Rattle.std.specs.Bool.{then_some}
 use Rattle.bits.proofs.Cond.{cond_map, cond_along}
+use Rattle.stops.specs.declared.Stop.TheVariants.{Full}
 use Rattle.cpu_access.specs.declared.stack.Write.{Write}
 use Rattle.cpu.specs.InstructionAccesses.{Ending, undefined, leaves, instruction_accesses}
 use Rattle.memory.specs.Memory.{memory_length}
@@ -26,12 +29,9 @@ use Rattle.r6501q_state.specs.declared.state.Peripherals.{Peripherals}
 use Rattle.r6501q_state.specs.State.{fresh, well_formed}
 use Rattle.r6501q_state.specs.Pins.{driven_word, levels_of, with_edges, reset_of, sensed_at, sensed}
 use Rattle.r6501q_cpu.specs.declared.Next.{Next}
-use Rattle.r6501q_cpu.specs.declared.Processed.{Processed}
-use Rattle.r6501q_cpu.specs.declared.Processed.TheVariants as processed
-use Rattle.r6501q_cpu.specs.Processor.{registers_of, performed_in, processed_by, irq_due, whole_instruction, reset_start}
+use Rattle.r6501q_cpu.specs.Processor.{Processed, registers_of, performed_in, processed_by, irq_due, whole_instruction, reset_start}
 use Rattle.r6501q_cpu.specs.Processor.{nmi_start, irq_start, start_of, without_writes, byte_put, waited_by, processor_of}
-use Rattle.r6501q_clock.specs.declared.Clocked.TheVariants.{Stopped, Done}
-use Rattle.r6501q_clock.specs.Clock.{inputs_set, before_cpu, full_stop, ended_with, finished, recorded, clock_of}
+use Rattle.r6501q_clock.specs.Clock.{inputs_set, before_cpu, ended_with, finished, recorded, clock_of}
 use Rattle.r6501q_events.specs.Events.{levels_change, underflows_a, underflows_b, reset_changes, cpu_starts, puts_byte, is_reset}
 use Rattle.r6501q_events.specs.Events.{event_of}
 use Rattle.r6501q_events.specs.Gaps.{to_input, to_change, to_underflow_a, to_underflow_b, to_reset, to_cpu, gap_of, pass_of}
@@ -60,8 +60,8 @@ module _ (k : ℕ) where
   shifted_next n = record { state = shifted_state k n.state; writes = n.writes }
 
   abbrev shifted_processed : Processed → Processed
-  shifted_processed (processed.Stopped number) = processed.Stopped number
-  shifted_processed (processed.Done n) = processed.Done (shifted_next n)
+  shifted_processed (Err stop) = Err stop
+  shifted_processed (Ok n) = Ok (shifted_next n)
 
   instruction_shifted : (s : State) (memory : List ℕ)
       → whole_instruction (shifted_state k s) memory ≡ shifted_processed (whole_instruction s memory)
@@ -79,9 +79,9 @@ module _ (k : ℕ) where
       → start_of (shifted_state k s) memory ≡ shifted_processed (start_of s memory)
   unfolding start_of reset_start nmi_start irq_start irq_due
   start_shifted s memory =
-      sym (cond_along shifted_processed s.due.reset (processed.Done (reset_start s memory)) _ refl
-      (cond_along shifted_processed s.due.nmi (processed.Done (nmi_start s memory)) _ refl
-      (cond_along shifted_processed (irq_due s) (processed.Done (irq_start s memory)) (whole_instruction s memory) refl
+      sym (cond_along shifted_processed s.due.reset (Ok (reset_start s memory)) _ refl
+      (cond_along shifted_processed s.due.nmi (Ok (nmi_start s memory)) _ refl
+      (cond_along shifted_processed (irq_due s) (Ok (irq_start s memory)) (whole_instruction s memory) refl
       (sym (instruction_shifted s memory)))))
 
   waited_shifted : (s : State) (w : Option Write) → waited_by (shifted_state k s) w ≡ shifted_processed (waited_by s w)
@@ -103,17 +103,18 @@ module _ (k : ℕ) where
       → clock_outcome halt memory (recorded before free (shifted_processed x))
       ≡ shifted_outcome shifted_state k (clock_outcome halt memory (recorded before free x))
   unfolding finished
-  recorded_shifted halt memory before free (processed.Stopped number) = refl
-  recorded_shifted halt memory before free (processed.Done n) =
+  recorded_shifted halt memory before free (Err stop) = refl
+  recorded_shifted halt memory before free (Ok n) =
       let word = driven_word n.state.peripherals in
-      by_test word (not (eqb word before)) (not (eqb word before) && not free)
+      let due = then_some (not (eqb word before)) word in
+      by_test due (is_some due && not free)
     where
-      by_test : (word : ℕ) (differs full : Bool)
-          → clock_outcome halt memory (cond full (Stopped full_stop) (Done (ended_with (shifted_next n) word differs)))
+      by_test : (word : Option ℕ) (full : Bool)
+          → clock_outcome halt memory (cond full (Err Full) (Ok (ended_with (shifted_next n) word)))
           ≡ shifted_outcome shifted_state k
-          (clock_outcome halt memory (cond full (Stopped full_stop) (Done (ended_with n word differs))))
-      by_test word differs true = refl
-      by_test word differs false = refl
+          (clock_outcome halt memory (cond full (Err Full) (Ok (ended_with n word))))
+      by_test word true = refl
+      by_test word false = refl
 
   outcome_shifted : (halt : Option ℕ) (s : State) (codes memory : List ℕ) (free : Bool)
       → clock_outcome halt memory (clock_of (shifted_state k s) codes memory free)

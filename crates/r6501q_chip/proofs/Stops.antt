@@ -8,8 +8,9 @@ use Prim.Native.Nat.{ℕ}
 use lib.Dec.{ltb, eqb}
 use lib.ListN.{length, take}
 use borrow.Author.Tests.{eq-eqb}
-use Rattle.std.specs.Prelude.{Option, Some, None}
+use Rattle.std.specs.Prelude.{Option, Some, None, Ok, Err}
 use Rattle.bits.proofs.Cond.{cond_yes, cond_both}
+use Rattle.stops.specs.Stops.{stop_number}
 use Rattle.cpu_access.specs.Halt.{halts}
 use Rattle.cpu_opcodes.specs.declared.Entry.{Entry}
 use Rattle.cpu_opcodes.specs.Decode.{decode_of}
@@ -17,9 +18,7 @@ use Rattle.leaps.specs.World.{after, input_count_in, running_in, plain_of}
 use Rattle.r6501q_state.specs.declared.state.State.{State}
 use Rattle.r6501q_state.specs.Pins.{driven_word}
 use Rattle.r6501q_cpu.specs.declared.Next.{Next}
-use Rattle.r6501q_cpu.specs.declared.Processed.{Processed}
-use Rattle.r6501q_cpu.specs.declared.Processed.TheVariants as processed
-use Rattle.r6501q_cpu.specs.Processor.{waited_by, whole_instruction, opcode_at, irq_due, start_of, processor_of}
+use Rattle.r6501q_cpu.specs.Processor.{waited_by, whole_instruction, opcode_at, irq_due, start_of, processor_of, Processed}
 use Rattle.r6501q_cpu.proofs.Undefined.{undefined_opcode, defined_opcode}
 use Rattle.r6501q_clock.specs.Clock.{halt_stop, before_cpu, finished, recorded, clock_of}
 use Rattle.r6501q_chip.specs.R6501q.{World, clock_outcome, r6501q, plain}
@@ -36,8 +35,8 @@ starts_undefined s memory =
     && is_undefined (decode_of (opcode_at s memory))
 
 abbrev stops_with_six : Processed → Bool
-stops_with_six (processed.Stopped number) = eqb number 6
-stops_with_six (processed.Done n) = false
+stops_with_six (Err stop) = eqb (stop_number stop) 6
+stops_with_six (Ok n) = false
 
 instruction_undefined : (s : State) (memory : List ℕ)
     → stops_with_six (whole_instruction s memory) ≡ is_undefined (decode_of (opcode_at s memory))
@@ -45,8 +44,8 @@ instruction_undefined s memory = by_opcode (decode_of (opcode_at s memory)) refl
   where
     done : (e : Entry) → decode_of (opcode_at s memory) ≡ Some e → (p : Processed)
         → whole_instruction s memory ≡ p → stops_with_six p ≡ false
-    done e d (processed.Stopped number) u = absurd (defined_opcode s memory e number d u)
-    done e d (processed.Done n) u = refl
+    done e d (Err stop) u = absurd (defined_opcode s memory e stop d u)
+    done e d (Ok n) u = refl
 
     by_opcode : (d : Option Entry) → decode_of (opcode_at s memory) ≡ d
         → stops_with_six (whole_instruction s memory) ≡ is_undefined d
@@ -68,8 +67,8 @@ processor_undefined s memory =
   where
     by_tests : (h z r m q : Bool) (x : Processed) → stops_with_six x ≡ false → (b c d e : Next) (i : Processed)
         → stops_with_six i ≡ is_undefined (decode_of (opcode_at s memory))
-        → stops_with_six (cond h (cond z x (cond r (processed.Done b)
-        (cond m (processed.Done c) (cond q (processed.Done d) i)))) (processed.Done e))
+        → stops_with_six (cond h (cond z x (cond r (Ok b)
+        (cond m (Ok c) (cond q (Ok d) i)))) (Ok e))
         ≡ (h && not z && not r && not m && not q && is_undefined (decode_of (opcode_at s memory)))
     by_tests false z r m q x done b c d e i u = refl
     by_tests true true r m q x done b c d e i u = done
@@ -83,18 +82,18 @@ halt_not_six : (t : Bool) → eqb (cond t halt_stop 0) 6 ≡ false
 halt_not_six true = refl
 halt_not_six false = refl
 
-by_record : (halt : Option ℕ) (w : World) (inputs : ℕ) (n : Next) (word : ℕ) (differs free : Bool)
-    → eqb (after (r6501q halt) w inputs (clock_outcome halt w.memory (finished n word differs free))).stop 6 ≡ false
+by_record : (halt : Option ℕ) (w : World) (inputs : ℕ) (n : Next) (word : Option ℕ) (free : Bool)
+    → eqb (after (r6501q halt) w inputs (clock_outcome halt w.memory (finished n word free))).stop 6 ≡ false
 unfolding finished
-by_record halt w inputs n word true true = halt_not_six (halts halt n.writes)
-by_record halt w inputs n word true false = refl
-by_record halt w inputs n word false free = halt_not_six (halts halt n.writes)
+by_record halt w inputs n (Some word) true = halt_not_six (halts halt n.writes)
+by_record halt w inputs n (Some word) false = refl
+by_record halt w inputs n None free = halt_not_six (halts halt n.writes)
 
 by_end : (halt : Option ℕ) (w : World) (inputs : ℕ) (free : Bool) (p : Processed)
     → eqb (after (r6501q halt) w inputs
     (clock_outcome halt w.memory (recorded (driven_word w.state.peripherals) free p))).stop 6 ≡ stops_with_six p
-by_end halt w inputs free (processed.Stopped number) = refl
-by_end halt w inputs free (processed.Done n) = by_record halt w inputs n _ _ free
+by_end halt w inputs free (Err stop) = refl
+by_end halt w inputs free (Ok n) = by_record halt w inputs n _ free
 
 -- A plain clock stops with 6 just where its steps 1 to 3 leave such a state.
 pub stop_six : (halt : Option ℕ) (w : World) → w.stop ≡ 0

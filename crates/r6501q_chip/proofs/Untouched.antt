@@ -20,8 +20,8 @@ use Rattle.r6501q_state.specs.declared.state.State.{State}
 use Rattle.r6501q_state.specs.Pins.{driven_word}
 use Rattle.r6501q_cpu.specs.Processor.{registers_of, register_file, performed_in, whole_instruction, reset_start, nmi_start}
 use Rattle.r6501q_cpu.specs.Processor.{irq_start, start_of, processor_of}
-use Rattle.r6501q_clock.specs.declared.Clocked.{Clocked}
-use Rattle.r6501q_clock.specs.declared.Clocked.TheVariants.{Stopped, Done}
+use Rattle.r6501q_clock.specs.Clock.{Clocked}
+use Rattle.std.specs.Prelude.{Ok, Err}
 use Rattle.r6501q_clock.specs.Clock.{before_cpu, recorded, clock_of}
 use Rattle.memory_writes.specs.Commit.{put_write, committed}
 use Rattle.leaps.specs.World.{after, input_count_in, running_in, plain_of}
@@ -100,8 +100,8 @@ module _ (first : List ℕ) (whole : length first ≡ register_end) where
   after_untouched : (halt : Option ℕ) (w : World) (inputs : ℕ) (c : Clocked)
       → after (r6501q halt) (world_with_untouched first w) inputs (clock_outcome halt (with_untouched first w.memory) c)
       ≡ world_with_untouched first (after (r6501q halt) w inputs (clock_outcome halt w.memory c))
-  after_untouched halt w inputs (Stopped number) = refl
-  after_untouched halt w inputs (Done e) = rw (committed_untouched w.memory e.writes)
+  after_untouched halt w inputs (Err stop) = refl
+  after_untouched halt w inputs (Ok e) = rw (committed_untouched w.memory e.writes)
 
   -- Memory at 0 to 3Fh is neither read nor written by a plain clock: with other bytes there, all that it comes to is
   -- the same, and these bytes come back as they were.

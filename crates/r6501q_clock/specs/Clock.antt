@@ -1,6 +1,10 @@
 -- Document 01, "One clock, in this order": steps 1 to 5. What a clock comes to is decided before anything is written.
-use Rattle.std.specs.Prelude.{Bool, ◌&&◌, not, cond, List, [], ◌∷◌, ℕ, ◌+◌, eqb}
+use Rattle.std.specs.Prelude.{Option, is_some, Result, Ok, Err, Bool, ◌&&◌, not, cond, List, [], ◌∷◌, ℕ, ◌+◌, eqb}
 use Rattle.bits.specs.Bits.{bit, set_where, flip_where}
+use Rattle.std.specs.Bool.{then_some}
+use Rattle.stops.specs.declared.Stop.{Stop}
+use Rattle.stops.specs.declared.Stop.TheVariants.{Full, Halted}
+use Rattle.stops.specs.Stops.{stop_number}
 use Rattle.counters.specs.declared.time.Ticks.{Ticks}
 use Rattle.counters.specs.Counters.{CountedA, CountedB, clock_a, clock_b, toggles, ticks_of}
 use Rattle.serial_transmitter.specs.Transmitter.{transmitter_clock}
@@ -13,14 +17,10 @@ use Rattle.r6501q_state.specs.Inputs.{with_input}
 use Rattle.r6501q_state.specs.Control.{mode_a, mode_b}
 use Rattle.r6501q_state.specs.Pins.{driven_word, rose, sensed}
 use Rattle.r6501q_cpu.specs.declared.Next.{Next}
-use Rattle.r6501q_cpu.specs.declared.Processed.{Processed}
-use Rattle.r6501q_cpu.specs.declared.Processed.TheVariants as processed
-use Rattle.r6501q_cpu.specs.Processor.{processor_of}
+use Rattle.r6501q_cpu.specs.Processor.{Processed, processor_of}
 use Rattle.r6501q_clock.specs.Copies.{with_external, after_sending, after_receiving}
 use Rattle.r6501q_clock.specs.declared.Counted.{Counted}
 use Rattle.r6501q_clock.specs.declared.Ended.{Ended}
-use Rattle.r6501q_clock.specs.declared.Clocked.{Clocked}
-use Rattle.r6501q_clock.specs.declared.Clocked.TheVariants.{Stopped, Done}
 
 -- step 1: "inputs of that clock set external levels", in the order of the list
 unfoldable pub with_inputs : Levels → List ℕ → Levels
@@ -82,29 +82,29 @@ with_peripherals_clock before s = with_peripherals s (peripherals_clock s.periph
 unfoldable pub before_cpu : State → List ℕ → State
 before_cpu s codes = with_peripherals_clock s.last.ports (sensed (inputs_set s codes))
 
--- 01, What is handed back: "7 | the next clock needs a record, none free"
-abbrev pub full_stop : ℕ
-full_stop = 7
-
 -- 02, U4: "12: halted at a write"
 abbrev pub halt_stop : ℕ
-halt_stop = 12
+halt_stop = stop_number Halted
 
-abbrev pub ended_with : Next → ℕ → Bool → Ended
-ended_with next word differs = record { state = next.state; writes = next.writes; word = word; differs = differs }
+-- what a clock comes to: its end, or a stop
+abbrev pub Clocked : Type 0
+Clocked = Result Ended Stop
+
+abbrev pub ended_with : Next → Option ℕ → Ended
+ended_with next word = record { state = next.state; writes = next.writes; output = word }
 
 -- "One record follows each clock after which the word differs": needed, and none free, is a stop
-unfoldable pub finished : Next → ℕ → Bool → Bool → Clocked
-finished next word differs free = cond (differs && not free) (Stopped full_stop) (Done (ended_with next word differs))
+unfoldable pub finished : Next → Option ℕ → Bool → Clocked
+finished next word free = cond (is_some word && not free) (Err Full) (Ok (ended_with next word))
 
 -- step 5 behind step 4, where the word before this clock was `before`
 abbrev pub compared_with : ℕ → Bool → Next → ℕ → Clocked
-compared_with before free next word = finished next word (not (eqb word before)) free
+compared_with before free next word = finished next (then_some (not (eqb word before)) word) free
 
 -- "6 before 7": the CPU's one stop is that of an undefined opcode (`processed_by`)
 abbrev pub recorded : ℕ → Bool → Processed → Clocked
-recorded before free (processed.Stopped number) = Stopped number
-recorded before free (processed.Done next) = compared_with before free next (driven_word next.state.peripherals)
+recorded before free (Err stop) = Err stop
+recorded before free (Ok next) = compared_with before free next (driven_word next.state.peripherals)
 
 -- 01, One clock, 1 to 5, given the codes of this clock's inputs and whether an output entry is free
 unfoldable pub clock_of : State → List ℕ → List ℕ → Bool → Clocked

@@ -6,34 +6,21 @@ ghost use Rattle.std.specs.Prelude.{◌≡◌, ◌<◌};
 ghost use Rattle.refusals.specs.Refusals.{last_clock};
 ghost use Rattle.r6501q_clock.specs.Clock.{with_inputs, count_a, count_b, sent_by, heard_by, peripherals_clock};
 ghost use Rattle.r6501q_clock.specs.Clock.{before_cpu};
-ghost use Rattle.r6501q_clock.specs.Clock.{full_stop, finished, clock_of};
+ghost use Rattle.r6501q_clock.specs.Clock.{finished, clock_of};
 
 use counters::time::{Ticks, ticks_of, toggles_output};
 use cpu_access::stack::Writes;
-use r6501q_cpu::{Next, Processed};
+use r6501q_cpu::Next;
 use r6501q_state::pins::pin_rose;
 use r6501q_state::state::{Levels, Peripherals, State};
+use stops::Stop;
 
-// The next clock needs a record, and no entry is free.
-const FULL: u8 = 7;
-
-// The clock that was done wrote the halt address.
-pub const HALTED: u8 = 12;
-
-// A clock that is done: the state after it, what it writes, and its driven word.
+// A clock that is done: the state after it, what it writes, and the driven word where that differs, its output record.
 #[derive(Clone, Copy)]
 pub struct Ended {
     pub state: State,
     pub writes: Writes,
-    pub word: u32,
-    pub differs: bool,
-}
-
-// What a clock comes to: the number of a stop, or its end.
-#[derive(Clone, Copy)]
-pub enum Clocked {
-    Stopped(u8),
-    Done(Ended),
+    pub output: Option<u32>,
 }
 
 // The peripherals after counter A, and the clock's ticks.
@@ -155,35 +142,35 @@ pub fn before_cpu(s: State, codes: &[u8]) -> State
 }
 
 // A record that is needed must find a free entry.
-fn finish(next: Next, word: u32, differs: bool, free: bool) -> Clocked
-    ensures { result ≡ finished next word differs free }
+fn finish(next: Next, output: Option<u32>, free: bool) -> Result<Ended, Stop>
+    ensures { result ≡ finished next output free }
 {
-    let full = differs & !free;
+    let full = output.is_some() & !free;
     if full {
-        return Clocked::Stopped(FULL);
+        return Err(Stop::Full);
     }
     let state = next.state;
     let writes = next.writes;
-    Clocked::Done(Ended {
+    Ok(Ended {
         state: state,
         writes: writes,
-        word: word,
-        differs: differs,
+        output: output,
     })
 }
 
 // Steps 1 to 5 of a clock, given the codes of its inputs and whether an output entry is free.
-pub fn clock(s: State, codes: &[u8], memory: &[u8], free: bool) -> Clocked
+pub fn clock(
+    s: State,
+    codes: &[u8],
+    memory: &[u8],
+    free: bool,
+) -> Result<Ended, Stop>
     requires { s.clock < last_clock }
     ensures { result ≡ clock_of s codes.now memory.now free }
 {
     let before = s.peripherals.driven_word();
-    let processed = r6501q_process::process(before_cpu(s, codes), memory);
-    match processed {
-        Processed::Stopped(number) => Clocked::Stopped(number),
-        Processed::Done(next) => {
-            let word = next.state.peripherals.driven_word();
-            finish(next, word, word != before, free)
-        }
-    }
+    let next = r6501q_process::process(before_cpu(s, codes), memory)?;
+    let word = next.state.peripherals.driven_word();
+    let output = (word != before).then_some(word);
+    finish(next, output, free)
 }

@@ -7,7 +7,9 @@ use native.Mathlib.Omega.{arith}
 use lib.Dec.{ltb}
 use lib.ListN.{length}
 use borrow.Author.Tests.{ltb-true, ltb-false}
+use Rattle.std.specs.Prelude.{Err}
 use Rattle.memory.specs.Memory.{is_register}
+use Rattle.stops.specs.declared.Stop.TheVariants.{Undefined}
 use Rattle.cpu_alu.specs.Status.{pushed}
 use Rattle.r6501q_state.specs.declared.state.Due.{Due}
 use Rattle.r6501q_state.specs.declared.state.Peripherals.{Peripherals}
@@ -25,12 +27,11 @@ use Rattle.cpu_access.proofs.Answering.{all_written, performs}
 use Rattle.cpu_effects.specs.Effects.{pushes_of, waiting_of, interrupted}
 use Rattle.cpu.specs.EntriesInCode.{reset_entry, interrupt_entry}
 use Rattle.cpu.specs.InstructionInCode.{instruction_of}
-use Rattle.cpu.specs.InstructionAccesses.{Ending, undefined, leaves, undefined_stop, entry_accesses}
+use Rattle.cpu.specs.InstructionAccesses.{Ending, undefined, leaves, entry_accesses}
 use Rattle.cpu.specs.InstructionAccesses.{instruction_accesses}
 use Rattle.cpu.specs.InstructionAccesses.{reset_accesses, interrupt_accesses}
 use Rattle.cpu.proofs.Laws.{done_fits, asked_writes, asks_end}
 use Rattle.cpu.proofs.InstructionAccesses.{pushes_as, waiting_as, worked_of, outcome_from, unpushed, instruction_asked}
-use Rattle.r6501q_cpu.specs.declared.Processed.TheVariants.{Stopped}
 use Rattle.r6501q_cpu.specs.Processor.{registers_of, register_file, performed_in, next_after, processed_by}
 use Rattle.r6501q_cpu.specs.Processor.{processed_after, whole_instruction, reset_start, nmi_start, irq_start}
 use Rattle.r6501q_cpu.specs.Asking.{put_register, registers_after, answer_of, next_of, round_by, round_of}
@@ -68,27 +69,27 @@ module _ (s : State) (memory : List ℕ) where
   round_at p answers x e = ap (round_by s p) (outcome_at answers x e)
 
   over_from : (n : ℕ) (p : Peripherals) (answers : List ℕ) (x : Ending) (ws : List Write) → round answers ≡ over x ws
-      → instruction_from (Stopped undefined_stop) (suc n) s p answers memory ≡ processed_by s (all_written file p ws) ws x
+      → instruction_from (Err Undefined) (suc n) s p answers memory ≡ processed_by s (all_written file p ws) ws x
   over_from n p answers undefined ws e =
-      round_over (Stopped undefined_stop) s p answers memory (suc n) _ (omega arith)
+      round_over (Err Undefined) s p answers memory (suc n) _ (omega arith)
       (round_at p answers (over undefined ws) e)
   over_from n p answers (leaves l) ws e =
       let fits = done_fits registers answers memory (worked_of l ws) (outcome_at answers (over (leaves l) ws) e) in
       let pushes = pushes_as l.waiting ws fits.writes in
       let few : (in_order ws).count ≤ 3 = rw pushes at fits.writes in
-      round_over (Stopped undefined_stop) s p answers memory (suc n) _ (omega arith)
+      round_over (Err Undefined) s p answers memory (suc n) _ (omega arith)
       (round_at p answers (over (leaves l) ws) e)
       ∙ rw (waiting_as l.waiting ws fits.writes, pushes, all_after s.last.ports p ws few) refl
 
   asks_from : (n : ℕ) (p : Peripherals) (answers : List ℕ) (modify : Bool) (a : ℕ) (ws : List Write)
       → round answers ≡ asks modify a ws
-      → instruction_from (Stopped undefined_stop) (suc n) s p answers memory
-      ≡ instruction_from (Stopped undefined_stop) n s (after_read p a)
+      → instruction_from (Err Undefined) (suc n) s p answers memory
+      ≡ instruction_from (Err Undefined) n s (after_read p a)
       (answers ++ (register_value (all_written file p ws) s.last.ports modify a ∷ [])) memory
   unfolding answer_of
   asks_from n p answers modify a ws e =
       let few = asked_writes registers answers memory _ (outcome_at answers (asks modify a ws) e) in
-      round_answered (Stopped undefined_stop) s p answers memory (suc n) n _ refl
+      round_answered (Err Undefined) s p answers memory (suc n) n _ refl
       (round_at p answers (asks modify a ws) e)
       ∙ rw (all_after s.last.ports p ws few) refl
 
@@ -107,7 +108,7 @@ module _ (s : State) (memory : List ℕ) where
   unfolding whole_instruction answered_instruction all_written
   instruction_answered =
       sym (performs file read_write_commute memory round
-      (λ n p answers. instruction_from (Stopped undefined_stop) n s p answers memory) (processed_after s) 5
+      (λ n p answers. instruction_from (Err Undefined) n s p answers memory) (processed_after s) 5
       over_from asks_from bound (instruction_accesses registers) 5 s.peripherals [] [] (omega arith) (λ more. refl))
 
   -- ---- the entries

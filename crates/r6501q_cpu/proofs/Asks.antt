@@ -4,6 +4,9 @@ use mathlib.Core.List.{List, [], ◌∷◌, ◌++◌}
 use Prim.Native.Nat.{ℕ, zero, suc, ◌+◌, ◌≤◌, ◌<◌}
 use native.Mathlib.Omega.{arith}
 use lib.ListN.{length, length-append}
+use Rattle.std.specs.Prelude.{Err}
+use Rattle.std.specs.declared.ops.ControlFlow.TheVariants.{Continue, Break}
+use Rattle.stops.specs.declared.Stop.TheVariants.{Undefined}
 use Rattle.r6501q_state.specs.declared.state.Peripherals.{Peripherals}
 use Rattle.r6501q_state.specs.declared.state.State.{State}
 use Rattle.r6501q_registers.specs.declared.read.Reading.{Reading}
@@ -11,24 +14,20 @@ use Rattle.cpu.specs.declared.Ask.{Ask}
 use Rattle.cpu.specs.declared.Outcome.{Outcome}
 use Rattle.cpu.specs.declared.Outcome.TheVariants as outcome
 use Rattle.cpu.specs.InstructionInCode.{instruction_of}
-use Rattle.cpu.specs.InstructionAccesses.{undefined_stop}
 use Rattle.cpu.proofs.Laws.{asks_end}
-use Rattle.r6501q_cpu.specs.declared.Processed.{Processed}
-use Rattle.r6501q_cpu.specs.declared.Processed.TheVariants.{Stopped}
-use Rattle.r6501q_cpu.specs.declared.Round.TheVariants.{Over, Answered}
-use Rattle.r6501q_cpu.specs.Processor.{registers_of}
+use Rattle.r6501q_cpu.specs.Processor.{Processed, registers_of}
 use Rattle.r6501q_cpu.specs.Asking.{round_by, after_round, round_of, instruction_from, answered_instruction}
 
 module _ (spent : Processed) (s : State) (p : Peripherals) (answers memory : List ℕ) where
   -- the last round
-  pub round_over : (n : ℕ) (x : Processed) → 0 < n → round_of s p answers memory ≡ Over x
+  pub round_over : (n : ℕ) (x : Processed) → 0 < n → round_of s p answers memory ≡ Break x
       → instruction_from spent n s p answers memory ≡ x
   unfolding instruction_from
   round_over zero x h e = absurd (omega arith)
   round_over (suc n) x h e = rw (e)
 
   -- a round with a question
-  pub round_answered : (n m : ℕ) (r : Reading) → n ≡ suc m → round_of s p answers memory ≡ Answered r
+  pub round_answered : (n m : ℕ) (r : Reading) → n ≡ suc m → round_of s p answers memory ≡ Continue r
       → instruction_from spent n s p answers memory
       ≡ instruction_from spent m s r.peripherals (answers ++ (r.value ∷ [])) memory
   unfolding instruction_from
@@ -44,7 +43,7 @@ module _ (s : State) (p : Peripherals) (answers memory : List ℕ) (go_on go_on'
     where
       by_outcome : (o : Outcome) → instruction_of (registers_of s.cpu) answers memory ≡ o
           → after_round go_on (round_by s p o) ≡ after_round go_on' (round_by s p o)
-      by_outcome (outcome.Stopped number) e = refl
+      by_outcome outcome.Undefined e = refl
       by_outcome (outcome.Asked q) e = same q _ e
       by_outcome (outcome.Done w) e = refl
 
@@ -70,4 +69,4 @@ pub bound_unmet :
 unfolding answered_instruction
 bound_unmet spent k s memory =
     let e : 6 + k ≡ suc (5 + k) = omega arith in
-    rw e (more_rounds spent (Stopped undefined_stop) k 5 s s.peripherals [] memory (omega arith))
+    rw e (more_rounds spent (Err Undefined) k 5 s s.peripherals [] memory (omega arith))

@@ -29,16 +29,16 @@ use Rattle.cpu_access.specs.Waiting.{byte_waits}
 use Rattle.cpu_access.specs.Accesses.{peripherals_written}
 use Rattle.cpu_effects.specs.declared.Worked.{Worked}
 use Rattle.cpu_effects.specs.Effects.{interrupted, pushes_of, waiting_of}
+use Rattle.std.specs.Prelude.{Ok, Err}
+use Rattle.stops.specs.declared.Stop.TheVariants.{Undefined}
 use Rattle.cpu.specs.declared.Outcome.{Outcome}
 use Rattle.cpu.specs.declared.Outcome.TheVariants as outcome
 use Rattle.cpu.specs.EntriesInCode.{reset_entry, interrupt_entry}
 use Rattle.cpu_access.specs.Bus.{nmi_vector, irq_vector}
 use Rattle.cpu.specs.InstructionInCode.{instruction_of}
-use Rattle.cpu.specs.InstructionAccesses.{undefined_stop}
 use Rattle.cpu.proofs.Laws.{Fits, done_fits}
 use Rattle.r6501q_cpu.specs.declared.Next.{Next}
-use Rattle.r6501q_cpu.specs.declared.Processed.{Processed}
-use Rattle.r6501q_cpu.specs.declared.Processed.TheVariants.{Stopped, Done}
+use Rattle.r6501q_cpu.specs.Processor.{Processed}
 use Rattle.r6501q_cpu.specs.Processor.{registers_of, cpu_of, irq_due, start_of, without_writes, wait_less, byte_put}
 use Rattle.r6501q_cpu.specs.Processor.{waited_by, processor_of}
 use Rattle.r6501q_cpu.specs.Asking.{put_register, registers_after, answer_of, next_of, round_by, after_round, round_of}
@@ -102,8 +102,8 @@ interrupt_entry_fits memory vector r =
 
 -- of the end of a clock's CPU part, where there is one
 abbrev pub Ends : (Next → Type 0) → Processed → Type 0
-Ends P (Stopped number) = Unit {0}
-Ends P (Done n) = P n
+Ends P (Err stop) = Unit {0}
+Ends P (Ok n) = P n
 
 -- What holds of the peripherals before, and after each read, and what follows of the state after an entry or an
 -- instruction, of one with a clock less to wait, and of one that RES holds: that holds of the CPU's part.
@@ -118,12 +118,12 @@ module _ (s : State) (memory : List ℕ) (Q : Peripherals → Type 0) (P : Next 
     where
       by_outcome : (o : Outcome) → instruction_of (registers_of s.cpu) answers memory ≡ o
           → Ends P (after_round go_on (round_by s p o))
-      by_outcome (outcome.Stopped number) e = tt
+      by_outcome outcome.Undefined e = tt
       by_outcome (outcome.Asked ask) e = on _ (reads p ask.address q)
       by_outcome (outcome.Done w) e = ends s.due p w q (done_fits (registers_of s.cpu) answers memory w e)
 
   instruction_ends : (n : ℕ) (p : Peripherals) (answers : List ℕ) → Q p
-      → Ends P (instruction_from (Stopped undefined_stop) n s p answers memory)
+      → Ends P (instruction_from (Err Undefined) n s p answers memory)
   unfolding instruction_from
   instruction_ends zero p answers q = tt
   instruction_ends (suc n) p answers q =

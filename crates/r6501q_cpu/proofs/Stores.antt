@@ -28,8 +28,8 @@ use Rattle.cpu.proofs.Conclusions.{Concludes, ends_then, performed_ends, operati
 use Rattle.r6501q_state.specs.declared.state.Peripherals.{Peripherals}
 use Rattle.r6501q_state.specs.declared.state.State.{State}
 use Rattle.r6501q_cpu.specs.declared.Next.{Next}
-use Rattle.r6501q_cpu.specs.declared.Processed.{Processed}
-use Rattle.r6501q_cpu.specs.declared.Processed.TheVariants.{Done}
+use Rattle.std.specs.Prelude.{Ok}
+use Rattle.r6501q_cpu.specs.Processor.{Processed}
 use Rattle.r6501q_cpu.specs.Processor.{registers_of, cpu_of, register_file, performed_in, next_after, processed_by}
 use Rattle.r6501q_cpu.specs.Processor.{whole_instruction, opcode_at, irq_due, start_of, without_writes, wait_less}
 use Rattle.r6501q_cpu.specs.Processor.{byte_put, waited_by, processor_of}
@@ -48,7 +48,7 @@ record Concluding (e : Entry) (s : Status) (pushes : List Write) (x : Ending) : 
 -- then nothing is written, and it waits for the rest of its row's clocks, two at least.
 pub record Begun (s : State) (memory : List ℕ) (e : Entry) (x : Processed) : Type 0 where
   pub next : Next
-  pub done : x ≡ Done next
+  pub done : x ≡ Ok next
   pub conclusion : Conclusion
   pub ended : (performed_in s memory (instruction_accesses (registers_of s.cpu))).end ≡ leaves conclusion
   pub cpu : next.state.cpu ≡ cpu_of conclusion.registers (conclusion.clocks - 1) conclusion.waiting
@@ -136,7 +136,7 @@ waited_less s h = by_waiting s.cpu.waiting h
 -- the last clock: the byte is put, on the state that steps 1 to 3 leave, and it is all that is written
 pub byte_put_lem : (s : State) (memory : List ℕ) (w : Write) → s.last.res ≡ true → s.cpu.wait ≡ 1
     → s.cpu.waiting ≡ Some w
-    → processor_of s memory ≡ Done (byte_put s w)
+    → processor_of s memory ≡ Ok (byte_put s w)
 byte_put_lem s memory w high last waits =
     clock_waits s memory high (omega arith) ∙ ap (waited_by s) waits
     ∙ cond_yes (eqb s.cpu.wait 1) _ _ (eq-eqb s.cpu.wait 1 last)

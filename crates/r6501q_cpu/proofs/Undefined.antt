@@ -5,8 +5,10 @@ use mathlib.Core.Path.{◌≡◌, refl, sym, ap, subst, ◌∙◌}
 use mathlib.Core.List.{List, []}
 use Prim.Native.Nat.{ℕ}
 use lib.Dec.{ltb, eqb}
-use Rattle.std.specs.Prelude.{Option, Some, None}
+use Rattle.std.specs.Prelude.{Option, Some, None, Ok, Err}
 use Rattle.bits.proofs.Cond.{cond_both}
+use Rattle.stops.specs.declared.Stop.{Stop}
+use Rattle.stops.specs.declared.Stop.TheVariants.{Undefined}
 use Rattle.cpu_opcodes.specs.Decode.{decode_of}
 use Rattle.cpu_opcodes.specs.declared.Entry.{Entry}
 use Rattle.r6501q_state.specs.declared.state.Peripherals.{Peripherals}
@@ -16,12 +18,10 @@ use Rattle.cpu_access.specs.Accesses.{Accesses, ends, reads, writes, ◌>>=◌, 
 use Rattle.cpu_access.specs.Accesses.{value_read, performed}
 use Rattle.cpu_access.specs.Bus.{next_address}
 use Rattle.cpu_effects.specs.Effects.{with_pc}
-use Rattle.cpu.specs.InstructionAccesses.{Conclusion, Ending, undefined, leaves, undefined_stop, operation_accesses}
+use Rattle.cpu.specs.InstructionAccesses.{Conclusion, Ending, undefined, leaves, operation_accesses}
 use Rattle.cpu.specs.InstructionAccesses.{opcode_accesses}
 use Rattle.cpu.specs.InstructionAccesses.{instruction_accesses}
-use Rattle.r6501q_cpu.specs.declared.Processed.{Processed}
-use Rattle.r6501q_cpu.specs.declared.Processed.TheVariants.{Stopped, Done}
-use Rattle.r6501q_cpu.specs.Processor.{registers_of, register_file, performed_in, processed_by, processed_after}
+use Rattle.r6501q_cpu.specs.Processor.{Processed, registers_of, register_file, performed_in, processed_by, processed_after}
 use Rattle.r6501q_cpu.specs.Processor.{whole_instruction, opcode_at, irq_due, start_of, waited_by, processor_of}
 
 -- an instruction after its opcode
@@ -39,7 +39,7 @@ by_opcode s memory = refl
 
 -- an instruction whose opcode is undefined is undefined
 pub undefined_opcode : (s : State) (memory : List ℕ) → decode_of (opcode_at s memory) ≡ None
-    → whole_instruction s memory ≡ Stopped undefined_stop
+    → whole_instruction s memory ≡ Err Undefined
 unfolding performed
 undefined_opcode s memory e = by_opcode s memory ∙ ap (decoded_by s memory) e
 
@@ -55,8 +55,8 @@ module _ {P : Type 0} (file : RegisterFile P) (memory : List ℕ) where
 
 -- what is not undefined
 abbrev Concluded : Processed → Type 0
-Concluded (Stopped number) = ⊥
-Concluded (Done n) = Unit {0}
+Concluded (Err stop) = ⊥
+Concluded (Ok n) = Unit {0}
 
 concluded : (s : State) (p : Peripherals) (pushes : List Write) (x : Ending) (l : Conclusion) → x ≡ leaves l
     → Concluded (processed_by s p pushes x)
@@ -64,9 +64,9 @@ concluded s p pushes x l e = rw e tt
 
 -- an instruction whose opcode is defined is not undefined
 pub defined_opcode :
-    (s : State) (memory : List ℕ) (e : Entry) (number : ℕ) → decode_of (opcode_at s memory) ≡ Some e
-    → whole_instruction s memory ≡ Stopped number → ⊥
-defined_opcode s memory e number defined same =
+    (s : State) (memory : List ℕ) (e : Entry) (stop : Stop) → decode_of (opcode_at s memory) ≡ Some e
+    → whole_instruction s memory ≡ Err stop → ⊥
+defined_opcode s memory e stop defined same =
     let file = register_file s.last.ports in
     let t =
     operation_accesses e.operation e.mode e.length (with_pc (next_address s.cpu.pc) (registers_of s.cpu)) in
@@ -76,8 +76,8 @@ defined_opcode s memory e number defined same =
 
 -- a stop is that of an undefined opcode
 abbrev StopsUndefined : Processed → Type 0
-StopsUndefined (Stopped number) = number ≡ undefined_stop
-StopsUndefined (Done n) = Unit {0}
+StopsUndefined (Err stop) = stop ≡ Undefined
+StopsUndefined (Ok n) = Unit {0}
 
 instruction_stop : (s : State) (p : Peripherals) (pushes : List Write) (x : Ending)
     → StopsUndefined (processed_by s p pushes x)
@@ -97,10 +97,10 @@ waited_stop : (s : State) (w : Option Write) → StopsUndefined (waited_by s w)
 waited_stop s None = tt
 waited_stop s (Some w) = cond_both StopsUndefined (eqb s.cpu.wait 1) _ _ (λ _. tt) (λ _. tt)
 
-pub processor_stop : (s : State) (memory : List ℕ) (number : ℕ) → processor_of s memory ≡ Stopped number
-    → number ≡ undefined_stop
+pub processor_stop : (s : State) (memory : List ℕ) (stop : Stop) → processor_of s memory ≡ Err stop
+    → stop ≡ Undefined
 unfolding processor_of
-processor_stop s memory number e =
+processor_stop s memory stop e =
     subst StopsUndefined e
     (cond_both StopsUndefined s.last.res _ _
     (λ _. cond_both StopsUndefined (ltb 0 s.cpu.wait) _ _ (λ _. waited_stop s s.cpu.waiting)

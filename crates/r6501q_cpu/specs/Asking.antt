@@ -1,6 +1,9 @@
 -- How the code works an instruction: it asks for a register, is answered, and is worked again from its start with one
 -- answer more. That this is the instruction of `Processor.antt` is `instruction_answered`.
-use Rattle.std.specs.Prelude.{Bool, ◌&&◌, cond, List, [], ◌∷◌, ◌++◌, ℕ, zero, suc, ◌-◌}
+use Rattle.std.specs.Prelude.{Ok, Err, Bool, ◌&&◌, cond, List, [], ◌∷◌, ◌++◌, ℕ, zero, suc, ◌-◌}
+use Rattle.std.specs.declared.ops.ControlFlow.{ControlFlow}
+use Rattle.std.specs.declared.ops.ControlFlow.TheVariants.{Continue, Break}
+use Rattle.stops.specs.declared.Stop.TheVariants.{Undefined}
 use Rattle.r6501q_state.specs.declared.state.Due.{Due}
 use Rattle.r6501q_state.specs.declared.state.Peripherals.{Peripherals}
 use Rattle.r6501q_state.specs.declared.state.State.{State}
@@ -17,13 +20,8 @@ use Rattle.cpu.specs.declared.Ask.{Ask}
 use Rattle.cpu.specs.declared.Outcome.{Outcome}
 use Rattle.cpu.specs.declared.Outcome.TheVariants as outcome
 use Rattle.cpu.specs.InstructionInCode.{instruction_of}
-use Rattle.cpu.specs.InstructionAccesses.{undefined_stop}
 use Rattle.r6501q_cpu.specs.declared.Next.{Next}
-use Rattle.r6501q_cpu.specs.declared.Processed.{Processed}
-use Rattle.r6501q_cpu.specs.declared.Processed.TheVariants.{Stopped, Done}
-use Rattle.r6501q_cpu.specs.declared.Round.{Round}
-use Rattle.r6501q_cpu.specs.declared.Round.TheVariants.{Over, Answered}
-use Rattle.r6501q_cpu.specs.Processor.{registers_of, cpu_of}
+use Rattle.r6501q_cpu.specs.Processor.{Processed, registers_of, cpu_of}
 
 -- a write at a register's address, where there is one
 unfoldable pub put_register : Bool → Write → Peripherals → Peripherals
@@ -56,18 +54,22 @@ next_of s due p w = record {
   writes = pushes_of w.writing;
 }
 
+-- an instruction with the answers so far: it is over, or one more answer is given
+abbrev pub Round : Type 0
+Round = ControlFlow Processed Reading
+
 -- what an instruction comes to with the answers so far: it is undefined, it is done, or it asks, and is answered
 abbrev pub round_by : State → Peripherals → Outcome → Round
-round_by s p (outcome.Stopped number) = Over (Stopped number)
-round_by s p (outcome.Asked ask) = Answered (answer_of p s.last.ports ask)
-round_by s p (outcome.Done w) = Over (Done (next_of s s.due p w))
+round_by s p outcome.Undefined = Break (Err Undefined)
+round_by s p (outcome.Asked ask) = Continue (answer_of p s.last.ports ask)
+round_by s p (outcome.Done w) = Break (Ok (next_of s s.due p w))
 
 unfoldable pub round_of : State → Peripherals → List ℕ → List ℕ → Round
 round_of s p answers memory = round_by s p (instruction_of (registers_of s.cpu) answers memory)
 
 abbrev pub after_round : (Reading → Processed) → Round → Processed
-after_round go_on (Over x) = x
-after_round go_on (Answered r) = go_on r
+after_round go_on (Break x) = x
+after_round go_on (Continue r) = go_on r
 
 -- Each question is answered in turn, and the instruction worked on with the answer. No instruction asks more than five
 -- times (`asks_end` of `cpu/proofs/Laws.antt`): what stands for a sixth question, `spent`, is never met, and may be
@@ -80,4 +82,4 @@ instruction_from spent (suc n) s p answers memory =
 
 -- one whole instruction
 unfoldable pub answered_instruction : State → List ℕ → Processed
-answered_instruction s memory = instruction_from (Stopped undefined_stop) 6 s s.peripherals [] memory
+answered_instruction s memory = instruction_from (Err Undefined) 6 s s.peripherals [] memory

@@ -1,6 +1,8 @@
 -- Document 01, "One clock", 4: the CPU, on the state that steps 1 to 3 leave.
-use Rattle.std.specs.Prelude.{Bool, false, ◌&&◌, not, cond, List, [], ℕ, ◌-◌, ltb, eqb, None, Option, Some}
+use Rattle.std.specs.Prelude.{Bool, false, ◌&&◌, not, cond, List, [], ℕ, ◌-◌, ltb, eqb, None, Option, Some, Result, Ok, Err}
 use Rattle.bits.specs.Bits.{bit}
+use Rattle.stops.specs.declared.Stop.{Stop}
+use Rattle.stops.specs.declared.Stop.TheVariants.{Undefined}
 use Rattle.cpu_alu.specs.Status.{packed, unpacked}
 use Rattle.r6501q_state.specs.declared.state.Cpu.{Cpu}
 use Rattle.r6501q_state.specs.declared.state.Due.{Due}
@@ -16,12 +18,10 @@ use Rattle.cpu_access.specs.Bus.{memory_byte, nmi_vector, irq_vector}
 use Rattle.memory.specs.Memory.{is_register}
 use Rattle.cpu_access.specs.Stack.{no_writes, one_write}
 use Rattle.cpu_access.specs.Accesses.{Accesses, RegisterFile, Performed, peripherals_written, performed, in_order}
-use Rattle.cpu.specs.InstructionAccesses.{Conclusion, Ending, undefined, leaves, undefined_stop, instruction_accesses}
+use Rattle.cpu.specs.InstructionAccesses.{Conclusion, Ending, undefined, leaves, instruction_accesses}
 use Rattle.cpu.specs.InstructionAccesses.{reset_accesses}
 use Rattle.cpu.specs.InstructionAccesses.{interrupt_accesses}
 use Rattle.r6501q_cpu.specs.declared.Next.{Next}
-use Rattle.r6501q_cpu.specs.declared.Processed.{Processed}
-use Rattle.r6501q_cpu.specs.declared.Processed.TheVariants.{Stopped, Done}
 
 -- the CPU's registers as the instruction has them: P as its flags
 abbrev pub registers_of : Cpu → CpuRegisters
@@ -49,6 +49,10 @@ register_file levels = record {
   after_write = write_of;
 }
 
+-- what the CPU's part of a clock comes to: the state after it, or a stop
+abbrev pub Processed : Type 0
+Processed = Result Next Stop
+
 -- ---- the first clock
 
 -- "All its reads and writes happen now, each once": the reads, and the pushes (02, U6: "Stack pushes remain on the
@@ -72,8 +76,8 @@ next_after s due x = record {
 }
 
 abbrev pub processed_by : State → Peripherals → List Write → Ending → Processed
-processed_by s p pushes undefined = Stopped undefined_stop
-processed_by s p pushes (leaves l) = Done (next_after s s.due (record { end = l; peripherals = p; writes = pushes }))
+processed_by s p pushes undefined = Err Undefined
+processed_by s p pushes (leaves l) = Ok (next_after s s.due (record { end = l; peripherals = p; writes = pushes }))
 
 abbrev pub processed_after : State → Performed Peripherals Ending → Processed
 processed_after s x = processed_by s x.peripherals x.writes x.end
@@ -110,13 +114,13 @@ irq_start s memory = next_after s s.due (performed_in s memory (interrupt_access
 -- "Otherwise start: reset, then NMI, then IRQ ..; else one whole instruction."
 unfoldable pub start_of : State → List ℕ → Processed
 start_of s memory =
-    cond s.due.reset (Done (reset_start s memory))
-    (cond s.due.nmi (Done (nmi_start s memory))
-    (cond (irq_due s) (Done (irq_start s memory)) (whole_instruction s memory)))
+    cond s.due.reset (Ok (reset_start s memory))
+    (cond s.due.nmi (Ok (nmi_start s memory))
+    (cond (irq_due s) (Ok (irq_start s memory)) (whole_instruction s memory)))
 
 -- nothing is written
 abbrev pub without_writes : State → Processed
-without_writes s = Done (record { state = s; writes = no_writes })
+without_writes s = Ok (record { state = s; writes = no_writes })
 
 -- ---- the clocks after the first
 
@@ -141,7 +145,7 @@ byte_put s w = record {
 -- the last clock is that with wait 1
 abbrev pub waited_by : State → Option Write → Processed
 waited_by s None = wait_less s
-waited_by s (Some w) = cond (eqb s.cpu.wait 1) (Done (byte_put s w)) (wait_less s)
+waited_by s (Some w) = cond (eqb s.cpu.wait 1) (Ok (byte_put s w)) (wait_less s)
 
 -- ---- step 4
 

@@ -8,7 +8,7 @@ ghost use Rattle.r6501q_cpu.specs.Asking.{put_register, registers_after, answer_
 ghost use Rattle.r6501q_cpu.specs.Asking.{instruction_from};
 ghost use Rattle.r6501q_cpu.specs.Asking.{answered_instruction};
 
-use cpu::{Ask, Outcome, UNDEFINED, instruction};
+use cpu::{Ask, Outcome, instruction};
 use cpu_access::CpuRegisters;
 use cpu_access::stack::{Write, Writes};
 use cpu_alu::Status;
@@ -16,6 +16,8 @@ use cpu_effects::{Worked, pushes_of, waiting_of};
 use memory::is_register;
 use r6501q_registers::read::Reading;
 use r6501q_state::state::{Cpu, Due, Peripherals, State};
+use std::ops::ControlFlow;
+use stops::Stop;
 
 // The state after the CPU's part of a clock, and its writes: those at register addresses are done, the others are not
 // yet.
@@ -23,20 +25,6 @@ use r6501q_state::state::{Cpu, Due, Peripherals, State};
 pub struct Next {
     pub state: State,
     pub writes: Writes,
-}
-
-// What the CPU's part of a clock comes to: the number of a stop, or the state after it.
-#[derive(Clone, Copy)]
-pub enum Processed {
-    Stopped(u8),
-    Done(Next),
-}
-
-// An instruction with the answers so far: it is over, or one more answer is given.
-#[derive(Clone, Copy)]
-pub enum Round {
-    Over(Processed),
-    Answered(Reading),
 }
 
 // More answers than an instruction asks for.
@@ -129,20 +117,25 @@ pub fn next_state(s: State, due: Due, p: Peripherals, w: Worked) -> Next
     }
 }
 
-// An instruction worked with the answers so far.
-fn one_round(s: State, p: Peripherals, answers: &[u8], memory: &[u8]) -> Round
+// An instruction worked with the answers so far: it is over, or one more answer is given.
+fn one_round(
+    s: State,
+    p: Peripherals,
+    answers: &[u8],
+    memory: &[u8],
+) -> ControlFlow<Result<Next, Stop>, Reading>
     ensures { result ≡ round_of s p answers.now memory.now }
 {
     let outcome = instruction(registers_of(s.cpu), answers, memory);
     match outcome {
-        Outcome::Stopped(number) => Round::Over(Processed::Stopped(number)),
-        Outcome::Asked(ask) => Round::Answered(answer(p, s.last.ports, ask)),
-        Outcome::Done(worked) => Round::Over(Processed::Done(next_state(s, s.due, p, worked))),
+        Outcome::Undefined => ControlFlow::Break(Err(Stop::Undefined)),
+        Outcome::Asked(ask) => ControlFlow::Continue(answer(p, s.last.ports, ask)),
+        Outcome::Done(worked) => ControlFlow::Break(Ok(next_state(s, s.due, p, worked))),
     }
 }
 
 // One whole instruction: each question is answered in turn.
-pub fn answered_instruction(s: State, memory: &[u8]) -> Processed
+pub fn answered_instruction(s: State, memory: &[u8]) -> Result<Next, Stop>
     ensures { result ≡ answered_instruction s memory.now }
 {
     let mut answers = [0u8; ANSWERS];
@@ -151,15 +144,15 @@ pub fn answered_instruction(s: State, memory: &[u8]) -> Processed
     while count < ANSWERS {
         let round = one_round(s, peripherals, &answers[..count], memory);
         match round {
-            Round::Over(processed) => {
+            ControlFlow::Break(processed) => {
                 return processed;
             }
-            Round::Answered(reading) => {
+            ControlFlow::Continue(reading) => {
                 answers[count] = reading.value;
                 peripherals = reading.peripherals;
                 count += 1;
             }
         }
     }
-    Processed::Stopped(UNDEFINED)
+    Err(Stop::Undefined)
 }

@@ -15,7 +15,7 @@ use Rattle.cpu_access.specs.declared.stack.Write.{Write}
 use Rattle.cpu_access.specs.Waiting.{byte_waits}
 use Rattle.r6501q_state.specs.declared.state.State.{State}
 use Rattle.r6501q_state.specs.Copies.{with_wait}
-use Rattle.r6501q_cpu.specs.declared.Processed.TheVariants.{Done}
+use Rattle.std.specs.Prelude.{Ok}
 use Rattle.r6501q_clock.specs.Clock.{count_a, count_b, with_peripherals_clock}
 use Rattle.r6501q_cpu.specs.Processor.{processor_of, start_of, byte_put, without_writes}
 use Rattle.r6501q_events.specs.Events.{underflows_a, underflows_b, cpu_starts, puts_byte}
@@ -51,7 +51,7 @@ module _ (before : ℕ) (s : State) where
       rw (res, le-ltb 0 s.cpu.wait (omega arith))
 
   pub step_put : (memory : List ℕ) (w : Write) → s.cpu.waiting ≡ Some w → puts_byte s ≡ true
-      → processor_of (with_peripherals_clock before s) memory ≡ Done (byte_put (with_peripherals_clock before s) w)
+      → processor_of (with_peripherals_clock before s) memory ≡ Ok (byte_put (with_peripherals_clock before s) w)
   unfolding processor_of puts_byte
   step_put memory w waits e =
       let last = and_right (s.last.res && byte_waits s.cpu.waiting) _ e in

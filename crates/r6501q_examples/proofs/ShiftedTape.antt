@@ -27,12 +27,9 @@ use Rattle.r6501q_state.specs.State.{fresh, well_formed}
 use Rattle.r6501q_state.specs.Inputs.{res_high}
 use Rattle.r6501q_state.specs.Pins.{driven_word, levels_of, with_edges, reset_of, sensed_at, sensed}
 use Rattle.r6501q_cpu.specs.declared.Next.{Next}
-use Rattle.r6501q_cpu.specs.declared.Processed.{Processed}
-use Rattle.r6501q_cpu.specs.declared.Processed.TheVariants as processed
 use Rattle.r6501q_cpu.specs.Processor.{registers_of, performed_in, processed_by, irq_due, whole_instruction, reset_start}
 use Rattle.r6501q_cpu.specs.Processor.{nmi_start, irq_start, start_of, without_writes, byte_put, waited_by, processor_of}
-use Rattle.r6501q_clock.specs.declared.Clocked.TheVariants.{Stopped, Done}
-use Rattle.r6501q_clock.specs.Clock.{inputs_set, before_cpu, full_stop, ended_with, finished, recorded, clock_of}
+use Rattle.r6501q_clock.specs.Clock.{inputs_set, before_cpu, ended_with, finished, recorded, clock_of}
 use Rattle.r6501q_events.specs.Events.{levels_change, underflows_a, underflows_b, reset_changes, cpu_starts, puts_byte, is_reset}
 use Rattle.r6501q_events.specs.Events.{event_of}
 use Rattle.r6501q_events.specs.Gaps.{to_input, to_change, to_underflow_a, to_underflow_b, to_reset, to_cpu, gap_of, pass_of}

@@ -19,8 +19,9 @@ use Rattle.cpu.proofs.Laws.{stores_of}
 use Rattle.r6501q_state.specs.declared.state.State.{State}
 use Rattle.r6501q_state.specs.Pins.{driven_word}
 use Rattle.r6501q_cpu.specs.declared.Next.{Next}
-use Rattle.r6501q_cpu.specs.declared.Processed.{Processed}
-use Rattle.r6501q_cpu.specs.declared.Processed.TheVariants as processed
+use Rattle.std.specs.Prelude.{Ok, is_some}
+use Rattle.std.specs.Bool.{then_some}
+use Rattle.r6501q_cpu.specs.Processor.{Processed}
 use Rattle.r6501q_cpu.specs.Processor.{irq_due, opcode_at, byte_put, processor_of}
 use Rattle.r6501q_cpu.proofs.Stores.{instruction_starts, instruction_begun, clock_waits, waited_less, byte_put_lem}
 use Rattle.r6501q_cpu.proofs.Stores.{held_writes}
@@ -42,17 +43,24 @@ never_told : (t : Bool) → cond {A = Writes} t no_writes no_writes ≡ no_write
 never_told true = refl
 never_told false = refl
 
+some_where : (t : Bool) (n : ℕ) → is_some (then_some t n) ≡ t
+some_where true n = refl
+some_where false n = refl
+
 module _ (w : World) where
   -- a clock tells what step 4 writes, unless it is not done
-  pub told_by_lem : (n : Next) → processor_of (ready_in w) w.memory ≡ processed.Done n
+  pub told_by_lem : (n : Next) → processor_of (ready_in w) w.memory ≡ Ok n
       → told_by (clock_in w) ≡ cond (full_in w n) no_writes n.writes
   unfolding clock_of finished
   told_by_lem n e =
-      ap (λ (x : Processed). told_by
-      (recorded (driven_word w.state.peripherals) (ltb w.written (length w.output_clocks)) x)) e
-      ∙ cond_map told_by (full_in w n) _ _
+      let word = driven_word n.state.peripherals in
+      let free = ltb w.written (length w.output_clocks) in
+      let differs = not (eqb word (driven_word w.state.peripherals)) in
+      ap (λ (x : Processed). told_by (recorded (driven_word w.state.peripherals) free x)) e
+      ∙ cond_map told_by (is_some (then_some differs word) && not free) _ _
+      ∙ ap (λ (t : Bool). cond (t && not free) no_writes n.writes) (some_where differs word)
 
-  untold : (n : Next) → processor_of (ready_in w) w.memory ≡ processed.Done n → n.writes ≡ no_writes
+  untold : (n : Next) → processor_of (ready_in w) w.memory ≡ Ok n → n.writes ≡ no_writes
       → told_by (clock_in w) ≡ no_writes
   untold n e none = told_by_lem n e ∙ ap (λ (x : Writes). cond (full_in w n) no_writes x) none ∙ never_told (full_in w n)
 

@@ -18,9 +18,10 @@ use Rattle.r6501q_state.specs.declared.state.State.{State}
 use Rattle.r6501q_state.specs.State.{well_formed}
 use Rattle.r6501q_state.specs.Pins.{driven_word}
 use Rattle.r6501q_clock.specs.declared.Ended.{Ended}
-use Rattle.r6501q_clock.specs.declared.Clocked.{Clocked}
-use Rattle.r6501q_clock.specs.declared.Clocked.TheVariants.{Stopped, Done}
-use Rattle.r6501q_clock.specs.Clock.{halt_stop, ended_with, finished, clock_of}
+use Rattle.std.specs.Prelude.{None, Ok, Err}
+use Rattle.stops.specs.declared.Stop.{Stop}
+use Rattle.stops.specs.Stops.{stop_number}
+use Rattle.r6501q_clock.specs.Clock.{Clocked, halt_stop, ended_with, finished, clock_of}
 use Rattle.memory_writes.specs.Commit.{put_write, committed}
 use Rattle.r6501q_clock.proofs.Ends.{done_clock, done_room, done_formed, commit_length, stop_either}
 use Rattle.r6501q_events.specs.Gaps.{clocks_of, gap_of, pass_of}
@@ -31,7 +32,7 @@ use Rattle.r6501q_chip.specs.R6501q.{end_of, clock_outcome, r6501q, system}
 -- what holds of each end of a clock holds of the end that the theory sees, and of a stop likewise
 module _ (halt : Option ℕ) (s : State) (codes memory : List ℕ) (free : Bool) where
   along_done : (P : ClockEnd State → Type 0)
-      → ((e : Ended) → clock_of s codes memory free ≡ Done e → P (end_of halt memory e))
+      → ((e : Ended) → clock_of s codes memory free ≡ Ok e → P (end_of halt memory e))
       → (d : ClockEnd State) → clock_outcome halt memory (clock_of s codes memory free) ≡ ended d → P d
   along_done P h d q = by_clocked (clock_of s codes memory free) refl q
     where
@@ -43,8 +44,8 @@ module _ (halt : Option ℕ) (s : State) (codes memory : List ℕ) (free : Bool)
       held x p e = rw e at p
 
       by_clocked : (x : Clocked) → clock_of s codes memory free ≡ x → clock_outcome halt memory x ≡ ended d → P d
-      by_clocked (Stopped number) e z = held (stopped number) tt z
-      by_clocked (Done end) e z = held (ended (end_of halt memory end)) (h end e) z
+      by_clocked (Err stop) e z = held (stopped (stop_number stop)) tt z
+      by_clocked (Ok end) e z = held (ended (end_of halt memory end)) (h end e) z
 
   along_stopped : (number : ℕ) → clock_outcome halt memory (clock_of s codes memory free) ≡ stopped number
       → is_stop number ≡ true
@@ -59,9 +60,10 @@ module _ (halt : Option ℕ) (s : State) (codes memory : List ℕ) (free : Bool)
 
       by_clocked : (x : Clocked) → clock_of s codes memory free ≡ x → clock_outcome halt memory x ≡ stopped number
           → is_stop number ≡ true
-      by_clocked (Stopped k) e z =
-          held (stopped k) (stop_either (λ (m : ℕ). is_stop m ≡ true) refl refl s codes memory free k e) z
-      by_clocked (Done end) e z = held (ended (end_of halt memory end)) tt z
+      by_clocked (Err stop) e z =
+          held (stopped (stop_number stop))
+          (stop_either (λ (k : Stop). is_stop (stop_number k) ≡ true) refl refl s codes memory free stop e) z
+      by_clocked (Ok end) e z = held (ended (end_of halt memory end)) tt z
 
 -- the stop that a clock which is done ends in, 12 or none, is its own
 halt_stop_lem : (t : Bool) → stop_of (cond t halt_stop 0) ≡ cond t halt_stop 0
@@ -72,8 +74,7 @@ halt_stop_lem false = refl
 -- the first clock of a gap
 module _ (n : ℕ) (s : State) (clocks memory : List ℕ) (free : Bool) (inside : 0 < (gap_of n s clocks).0) where
   gap_clocked : clock_of s [] memory free
-      ≡ Done
-      (ended_with (record { state = pass_of s (clocks_of 1); writes = no_writes }) (driven_word s.peripherals) false)
+      ≡ Ok (ended_with (record { state = pass_of s (clocks_of 1); writes = no_writes }) None)
   unfolding clock_of finished
   gap_clocked =
       rw (
@@ -92,7 +93,7 @@ module _ (n : ℕ) (s : State) (clocks memory : List ℕ) (free : Bool) (inside 
         stop = 0;
       })
   unfolding committed put_write
-  gap_outcome halt = rw (gap_clocked, unwritten halt no_writes refl)
+  gap_outcome halt = rw (gap_clocked, pass_driven s 1, unwritten halt no_writes refl)
 
 pub laws : (halt : Option ℕ) → ChipLaws (r6501q halt)
 laws halt = record {

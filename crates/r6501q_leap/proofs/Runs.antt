@@ -8,11 +8,13 @@ use native.Mathlib.Nat.{zero-add, add-zero, add_assoc}
 use native.Mathlib.Omega.{arith}
 use lib.Dec.{ltb, eqb}
 use lib.ListN.{length, drop, length-drop}
-use borrow.Author.Tests.{ltb-true, lt-ltb, le-ltb, eq-eqb, ne_eqb, eqb-true}
+use borrow.Author.Tests.{ltb-true, lt-ltb, le-ltb, eq-eqb, ne_eqb}
 use Rattle.bits.proofs.Cond.{cond_both, one_where_le, and_left, and_right}
 use Rattle.counters.specs.declared.time.Clocks.{Clocks}
 use Rattle.refusals.specs.Refusals.{last_clock, refusal_of}
 use Rattle.refusals.proofs.Accepted.{accepted}
+use Rattle.std.specs.Prelude.{None, is_none}
+use Rattle.stops.proofs.Numbers.{number_none, none_true}
 use Rattle.leaps.specs.Leaps.{Run, leap_of, left_after, moved_of, run}
 use Rattle.leaps.specs.World.{running_in, pass_in}
 use Rattle.leaps.specs.CallLists.{handed_run, run_of, plain_run_of}
@@ -108,7 +110,8 @@ pub run_ended_lem : (halt : Option ℕ) (l : Leaped) (memory clocks codes times 
     → run_ended l memory clocks codes times words ≡ run_from halt l memory clocks codes times words
 run_ended_lem halt l memory clocks codes times words e =
     rw (
-      run_over (system halt) (lawful halt) l.left.0 (world_of l.progress memory clocks codes times words) e,
+      run_over (system halt) (lawful halt) l.left.0 (world_of l.progress memory clocks codes times words)
+          (rw (number_none l.progress.stop) e),
       add-zero l.leaps,
     )
 
@@ -172,7 +175,7 @@ gap_fits p n clocks codes times words gap l e =
 -- an event clock that is reached may be done
 pub passed_goes : (p : Progress) (n : ℕ) (clocks codes times words : List ℕ) (gap : Clocks)
     → Leaping p n clocks codes times words
-    → p.stop ≡ 0 → gap.0 < n → Going (passed_by gap p) clocks codes times words
+    → p.stop ≡ None → gap.0 < n → Going (passed_by gap p) clocks codes times words
 passed_goes p n clocks codes times words gap l on h = record {
   clock = omega (arith, l.clock, pass_clock p.state gap.0);
   read = l.read;
@@ -198,7 +201,7 @@ leap_falls_short halt n w gap e h = rw (← e, le-ltb gap.0 n h)
 -- a leap more of a run
 module _ (halt : Option ℕ) (memory clocks codes times words memory' times' words' : List ℕ) (at r : Leaped)
     (l : Leaping at.progress at.left.0 clocks codes times words) (some : 0 < at.left.0)
-    (on : at.progress.stop ≡ 0)
+    (on : at.progress.stop ≡ None)
     (bound : at.leaps + at.left.0 ≤ last_clock)
     (e : world_of r.progress memory' clocks codes times' words'
     ≡ leap_of (system halt) at.left.0 (world_of at.progress memory clocks codes times words))
@@ -212,7 +215,7 @@ module _ (halt : Option ℕ) (memory clocks codes times words memory' times' wor
   later_run =
       rw (left, leaps)
       (leap_run halt at.left.0 at.leaps before (world_of r.progress memory' clocks codes times' words') some
-      (eq-eqb at.progress.stop 0 on) e)
+      (rw on refl) e)
 
   pub later_leaping : Leaping r.progress r.left.0 clocks codes times' words'
   later_leaping =
@@ -230,7 +233,7 @@ module _ (halt : Option ℕ) (memory clocks codes times words memory' times' wor
 
 -- clocks are left and nothing has stopped
 pub goes_some : (l : Leaped) → goes_on l ≡ true → 0 < l.left.0
-goes_some l e = ltb-true 0 l.left.0 (and_left (ltb 0 l.left.0) (eqb l.progress.stop 0) e)
+goes_some l e = ltb-true 0 l.left.0 (and_left (ltb 0 l.left.0) (is_none l.progress.stop) e)
 
-pub goes_unstopped : (l : Leaped) → goes_on l ≡ true → l.progress.stop ≡ 0
-goes_unstopped l e = eqb-true l.progress.stop 0 (and_right (ltb 0 l.left.0) (eqb l.progress.stop 0) e)
+pub goes_unstopped : (l : Leaped) → goes_on l ≡ true → l.progress.stop ≡ None
+goes_unstopped l e = none_true l.progress.stop (and_right (ltb 0 l.left.0) (is_none l.progress.stop) e)

@@ -1,5 +1,5 @@
 -- A run in code: what it carries, and what it starts from.
-use Rattle.std.specs.Prelude.{◌≡◌, Bool, ◌&&◌, List, ℕ, ◌+◌, ◌≤◌, ltb, eqb, length, Option}
+use Rattle.std.specs.Prelude.{◌≡◌, Bool, ◌&&◌, List, ℕ, ◌+◌, ◌≤◌, ltb, eqb, length, Option, is_none}
 use Rattle.counters.specs.declared.time.Clocks.{Clocks}
 use Rattle.refusals.specs.Refusals.{last_clock}
 use Rattle.leaps.specs.Leaps.{Run, run}
@@ -17,7 +17,7 @@ passed_by gap p = record { state = pass_of p.state gap; read = p.read; written =
 
 -- clocks are left and nothing has stopped
 abbrev pub goes_on : Leaped → Bool
-goes_on l = ltb 0 l.left.0 && eqb l.progress.stop 0
+goes_on l = ltb 0 l.left.0 && is_none l.progress.stop
 
 -- what the code has come to, and the run of what is left
 abbrev pub run_from : Option ℕ → Leaped → List ℕ → List ℕ → List ℕ → List ℕ → List ℕ → Run World

@@ -1,7 +1,7 @@
 // One leap of a run: the gap, the gap passed, and the event clock.
 #![tactic(auto)]
 
-ghost use Rattle.std.specs.Prelude.{◌≡◌, ◌+◌, ◌-◌, ◌≤◌, ◌<◌, length, drop};
+ghost use Rattle.std.specs.Prelude.{◌≡◌, None, ◌+◌, ◌-◌, ◌≤◌, ◌<◌, length, drop};
 ghost use Rattle.page_sums.specs.PageSums.{sums_after};
 ghost use Rattle.leaps.specs.Leaps.{leap_of, left_after};
 ghost use Rattle.r6501q_events.specs.Gaps.{gap_of, clocks_of};
@@ -69,7 +69,7 @@ fn leap(
     halt: Option<u16>,
 ) -> Progress
     requires leaping { Leaping p left.0 inputclocks.now inputcodes.now outputclocks.old outputwords.old }
-    requires stop_value { p.stop ≡ 0 }
+    requires stop_value { p.stop ≡ None }
     requires gap_value { gap ≡ gap_of left.0 p.state (drop p.read inputclocks.now) }
     ensures outputwords_value { world_at_exit result memory inputclocks inputcodes outputclocks outputwords
         ≡ leap_of (system halt) left.0 (world_at_entry p memory inputclocks inputcodes outputclocks outputwords) }
@@ -104,7 +104,7 @@ pub fn leap_once(
 ) -> Leaped
     requires leaping { Leaping at.progress at.left.0 inputclocks.now inputcodes.now outputclocks.old
         outputwords.old }
-    requires left_nonzero { (0 < at.left.0) × (at.progress.stop ≡ 0) }
+    requires left_nonzero { (0 < at.left.0) × (at.progress.stop ≡ None) }
     requires left_bound { at.leaps + at.left.0 ≤ 4294967295 }
     ensures outputwords_value { world_at_exit result.progress memory inputclocks inputcodes outputclocks outputwords
         ≡ leap_of (system halt) at.left.0

@@ -8,8 +8,9 @@ ghost use Rattle.r6501q_cpu.specs.Processor.{byte_put, waited_by, processor_of};
 use cpu::entries::{interrupt_entry, reset_entry};
 use cpu_access::stack::{Write, no_writes, one_write};
 use cpu_access::{IRQ_VECTOR, NMI_VECTOR};
-use r6501q_cpu::{Next, Processed, answered_instruction, next_state, put_register, registers_of};
+use r6501q_cpu::{Next, answered_instruction, next_state, put_register, registers_of};
 use r6501q_state::state::{Due, State};
+use stops::Stop;
 
 // The interrupt disable bit of P.
 const INTERRUPT_DISABLE: u8 = 2;
@@ -51,34 +52,34 @@ fn start_irq(s: State, memory: &[u8]) -> Next
 }
 
 // What starts: an entry that is due, or one whole instruction.
-fn start(s: State, memory: &[u8]) -> Processed
+fn start(s: State, memory: &[u8]) -> Result<Next, Stop>
     ensures { result ≡ start_of s memory.now }
 {
     if s.due.reset {
-        return Processed::Done(start_reset(s, memory));
+        return Ok(start_reset(s, memory));
     }
     if s.due.nmi {
-        return Processed::Done(start_nmi(s, memory));
+        return Ok(start_nmi(s, memory));
     }
     if irq_due(s) {
-        return Processed::Done(start_irq(s, memory));
+        return Ok(start_irq(s, memory));
     }
     answered_instruction(s, memory)
 }
 
 // Nothing is written.
-fn without_writes(s: State) -> Processed
+fn without_writes(s: State) -> Result<Next, Stop>
     ensures { result ≡ without_writes s }
 {
     let writes = no_writes();
-    Processed::Done(Next {
+    Ok(Next {
         state: s,
         writes: writes,
     })
 }
 
 // A clock less to wait.
-fn wait_less(s: State) -> Processed
+fn wait_less(s: State) -> Result<Next, Stop>
     requires { 0 < s.cpu.wait }
     ensures { result ≡ wait_less s }
 {
@@ -105,18 +106,18 @@ fn put_byte(s: State, w: Write) -> Next
 }
 
 // A clock after the first.
-fn wait_on(s: State) -> Processed
+fn wait_on(s: State) -> Result<Next, Stop>
     requires { 0 < s.cpu.wait }
     ensures { result ≡ waited_by s s.cpu.waiting }
 {
     match s.cpu.waiting {
-        Some(w) if s.cpu.wait == 1 => Processed::Done(put_byte(s, w)),
+        Some(w) if s.cpu.wait == 1 => Ok(put_byte(s, w)),
         _ => wait_less(s),
     }
 }
 
 // The CPU's part of a clock.
-pub fn process(s: State, memory: &[u8]) -> Processed
+pub fn process(s: State, memory: &[u8]) -> Result<Next, Stop>
     ensures { result ≡ processor_of s memory.now }
 {
     if s.last.res {

@@ -22,7 +22,7 @@ use refusals::Refusal;
 fn goes_on(at: Leaped) -> bool
     ensures { result ≡ goes_on at }
 {
-    (0 < at.left.0) & (at.progress.stop == 0)
+    (0 < at.left.0) & at.progress.stop.is_none()
 }
 
 // Leaps, until no clock is left or one stops. The input lists that each is lent begin at the first unread entry, and

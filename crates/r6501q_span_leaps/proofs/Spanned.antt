@@ -22,7 +22,7 @@ use Rattle.cpu.specs.Work.{WithinSpan}
 use Rattle.leaps.specs.Leaps.{run, no_leap}
 use Rattle.leaps.proofs.Laws.{by_leaps_run}
 use Rattle.r6501q_state.specs.declared.state.State.{State}
-use Rattle.r6501q_clock.specs.declared.Clocked.TheVariants.{Done}
+use Rattle.std.specs.Prelude.{Ok}
 use Rattle.memory_writes.specs.Commit.{put_write, committed}
 use Rattle.r6501q_chip.specs.R6501q.{system}
 use Rattle.r6501q_advance.specs.World.{world_of}
@@ -61,7 +61,7 @@ work_either halt s span w memory P room none next = by_test (leb (span - w.gone.
 
     by_outcome : (o : Outcome) → w.gone.0 + w.wait < span → outcome_within s w.registers memory ≡ o
         → P (work_by halt w o) (memory_by halt memory o)
-    by_outcome (outcome.Stopped number) inside e = none
+    by_outcome outcome.Undefined inside e = none
     by_outcome (outcome.Asked ask) inside e = none
     by_outcome (outcome.Done worked) inside e =
         by_writes worked inside e (ends_span halt (pushes_of worked.writing)) refl

@@ -28,7 +28,7 @@ use Rattle.r6501q_state.specs.declared.state.Peripherals.{Peripherals}
 use Rattle.r6501q_state.specs.declared.state.State.{State}
 use Rattle.r6501q_state.specs.Pins.{driven_word}
 use Rattle.r6501q_events.specs.Gaps.{clocks_of, counting_a, until_cpu, gap_of, pass_of}
-use Rattle.r6501q_clock.specs.declared.Clocked.TheVariants.{Done}
+use Rattle.std.specs.Prelude.{None, Ok}
 use Rattle.r6501q_clock.specs.Clock.{ended_with, clock_of}
 use Rattle.memory_writes.specs.Commit.{committed}
 use Rattle.r6501q_unseen.specs.declared.Ticking.{Ticking}
@@ -91,7 +91,7 @@ leaps_clocks : {W : Type 0} (S : System W) {n : ℕ} {w : W} {k m : ℕ} {v : W}
 leaps_clocks S no_leap = omega arith
 leaps_clocks S (one_more before on some reached) = omega (arith, leaps_clocks S before, some)
 
-module _ (halt : Option ℕ) (at : Leaped) (clocks : List ℕ) (span : ℕ) (on : at.progress.stop ≡ 0)
+module _ (halt : Option ℕ) (at : Leaped) (clocks : List ℕ) (span : ℕ) (on : at.progress.stop ≡ None)
     (a : AloneSeen at.left.0 at.progress.state (drop at.progress.read clocks) span) where
   abbrev s : State
   s = at.progress.state
@@ -121,7 +121,7 @@ module _ (halt : Option ℕ) (at : Leaped) (clocks : List ℕ) (span : ℕ) (on 
       (passed : pass_of (ticked_state s v) (clocks_of e) ≡ ticked_state s (waited v e))
       (memory : List ℕ) (next : Working) (writes : Writes)
       (acts : (free : Bool) → clock_of (ticked_state s (waited v e)) [] memory free
-      ≡ Done (ended_with (record { state = ticked_state s next; writes = writes }) (driven_word s.peripherals) false))
+      ≡ Ok (ended_with (record { state = ticked_state s next; writes = writes }) None))
       (neither : ends_span halt writes ≡ false) (gone : next.work.gone.0 ≡ v.work.gone.0 + e + 1) where
     abbrev n : ℕ
     n = at.left.0 - v.work.gone.0
@@ -166,7 +166,7 @@ module _ (halt : Option ℕ) (at : Leaped) (clocks : List ℕ) (span : ℕ) (on 
         → Reached (made + 1) memory₀ next (committed memory writes)
     reached_more made memory₀ so_far codes times words =
         rw (← event_leap codes times words, ← event_left codes times words)
-        (one_more (so_far codes times words) (eq-eqb at.progress.stop 0 on) (omega (arith, gap-there, a.left))
+        (one_more (so_far codes times words) (rw on refl) (omega (arith, gap-there, a.left))
         (rw gap-there (event_done codes times words)))
 
   -- a tick on a clock on which the CPU does not act: nothing is written
@@ -196,7 +196,7 @@ module _ (halt : Option ℕ) (at : Leaped) (clocks : List ℕ) (span : ℕ) (on 
     pub until : until_cpu (ticked_state s v).cpu ≡ d
     pub inside : v.work.gone.0 + d < span
     pub acts : (free : Bool) → clock_of (ticked_state s (waited v d)) [] memory free
-        ≡ Done (ended_with (record { state = ticked_state s next; writes = writes }) (driven_word s.peripherals) false)
+        ≡ Ok (ended_with (record { state = ticked_state s next; writes = writes }) None)
     pub gone : next.work.gone.0 ≡ v.work.gone.0 + d + 1
 
   module _ (memory₀ memory : List ℕ) (next : Working) (writes : Writes) (neither : ends_span halt writes ≡ false) where

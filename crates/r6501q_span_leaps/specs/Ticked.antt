@@ -1,5 +1,5 @@
 -- The leaps of a span that goes on through ticks.
-use Rattle.std.specs.Prelude.{◌≡◌, cond, List, ℕ, ◌+◌, ◌-◌, ◌≤◌, ltb, drop, length, Option}
+use Rattle.std.specs.Prelude.{◌≡◌, cond, List, ℕ, ◌+◌, ◌-◌, ◌≤◌, ltb, drop, length, Option, None}
 use Rattle.bits.specs.Bits.{one_where}
 use Rattle.cpu.specs.Work.{WithinSpan}
 use Rattle.r6501q_state.specs.declared.state.State.{State}
@@ -16,7 +16,7 @@ use Rattle.r6501q_leap.specs.declared.Leaped.{Leaped}
 
 -- at its start nothing has stopped, and in the span only the CPU does what can be seen
 pub record SpanBegun (at : Leaped) (input_clocks : List ℕ) (span : ℕ) : Type 0 where
-  pub on : at.progress.stop ≡ 0
+  pub on : at.progress.stop ≡ None
   pub alone : AloneSeen at.left.0 at.progress.state (drop at.progress.read input_clocks) span
   pub short : span ≤ 2147483647
 

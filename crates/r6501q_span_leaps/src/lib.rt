@@ -32,7 +32,7 @@ fn span_from(at: Leaped, inputclocks: &[u32]) -> Clocks
     if at.left.0 == 0 {
         return Clocks(0);
     }
-    if at.progress.stop != 0 {
+    if at.progress.stop.is_some() {
         return Clocks(0);
     }
     let from = at.progress.read;

@@ -12,7 +12,7 @@ use Rattle.cpu_access.specs.declared.stack.Writes.{Writes}
 use Rattle.cpu_effects.specs.declared.Worked.{Worked}
 use Rattle.cpu.specs.declared.Ask.{Ask}
 use Rattle.cpu.specs.declared.Outcome.{Outcome}
-use Rattle.cpu.specs.declared.Outcome.TheVariants.{Stopped, Asked, Done}
+use Rattle.cpu.specs.declared.Outcome.TheVariants.{Undefined, Asked, Done}
 use Rattle.cpu.specs.InstructionInCode.{instruction_of}
 use Rattle.r6501q_state.specs.declared.state.Peripherals.{Peripherals}
 use Rattle.r6501q_state.specs.declared.state.State.{State}
@@ -23,7 +23,7 @@ use Rattle.r6501q_span_reads.specs.Steady.{steady_at, steady_ask, outcome_within
 use Rattle.r6501q_span_reads.proofs.SteadyAddresses.{not_at}
 
 abbrev pub is_done : Outcome → Bool
-is_done (Stopped number) = false
+is_done Undefined = false
 is_done (Asked ask) = false
 is_done (Done worked) = true
 

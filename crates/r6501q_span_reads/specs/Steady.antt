@@ -3,7 +3,7 @@ use Rattle.std.specs.Prelude.{Bool, ◌&&◌, ◌||◌, cond, List, [], ◌∷�
 use Rattle.cpu_access.specs.declared.CpuRegisters.{CpuRegisters}
 use Rattle.cpu.specs.declared.Ask.{Ask}
 use Rattle.cpu.specs.declared.Outcome.{Outcome}
-use Rattle.cpu.specs.declared.Outcome.TheVariants.{Stopped, Asked, Done}
+use Rattle.cpu.specs.declared.Outcome.TheVariants.{Undefined, Asked, Done}
 use Rattle.cpu.specs.InstructionInCode.{instruction_of}
 use Rattle.r6501q_state.specs.declared.state.State.{State}
 use Rattle.r6501q_registers.specs.Addresses.{serial_data_address, start_b_address}
@@ -24,7 +24,7 @@ steady_answer s ask = register_value s.peripherals s.last.ports ask.modify ask.a
 
 -- one such question is answered
 abbrev pub answered_once : State → CpuRegisters → List ℕ → Outcome → Outcome
-answered_once s r memory (Stopped number) = Stopped number
+answered_once s r memory Undefined = Undefined
 answered_once s r memory (Asked ask) =
     cond (steady_ask ask) (instruction_of r (steady_answer s ask ∷ []) memory) (Asked ask)
 answered_once s r memory (Done worked) = Done worked

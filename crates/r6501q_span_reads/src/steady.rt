@@ -42,7 +42,7 @@ pub fn outcome_within(s: State, registers: CpuRegisters, memory: &[u8]) -> Outco
     let answers = [0u8; 0];
     let outcome = instruction(registers, &answers, memory);
     match outcome {
-        Outcome::Stopped(number) => Outcome::Stopped(number),
+        Outcome::Undefined => Outcome::Undefined,
         Outcome::Asked(ask) => answered_once(s, ask, registers, memory),
         Outcome::Done(worked) => Outcome::Done(worked),
     }

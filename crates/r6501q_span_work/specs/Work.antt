@@ -7,7 +7,7 @@ use Rattle.cpu_access.specs.Halt.{ends_span}
 use Rattle.cpu_effects.specs.declared.Worked.{Worked}
 use Rattle.cpu_effects.specs.Effects.{pushes_of}
 use Rattle.cpu.specs.declared.Outcome.{Outcome}
-use Rattle.cpu.specs.declared.Outcome.TheVariants.{Stopped, Asked, Done}
+use Rattle.cpu.specs.declared.Outcome.TheVariants.{Undefined, Asked, Done}
 use Rattle.cpu.specs.declared.work.Work.{Work}
 use Rattle.memory_writes.specs.Commit.{committed}
 use Rattle.r6501q_span_reads.specs.Steady.{outcome_within}
@@ -27,12 +27,12 @@ committed_by halt memory worked =
 
 -- an instruction that still asks for a register, or is undefined, is left to the clock's own rules
 abbrev pub work_by : Option ℕ → Work → Outcome → Working
-work_by halt w (Stopped number) = none_waiting w
+work_by halt w Undefined = none_waiting w
 work_by halt w (Asked ask) = none_waiting w
 work_by halt w (Done worked) = continued_by halt w worked
 
 abbrev pub memory_by : Option ℕ → List ℕ → Outcome → List ℕ
-memory_by halt memory (Stopped number) = memory
+memory_by halt memory Undefined = memory
 memory_by halt memory (Asked ask) = memory
 memory_by halt memory (Done worked) = committed_by halt memory worked
 

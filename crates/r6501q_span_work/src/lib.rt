@@ -62,7 +62,7 @@ fn work_outcome(
 {
     let outcome = outcome_within(s, w.registers, memory);
     match outcome {
-        Outcome::Stopped(_) => none_waiting(w),
+        Outcome::Undefined => none_waiting(w),
         Outcome::Asked(_) => none_waiting(w),
         Outcome::Done(worked) => continue_work(w, worked, memory, sums, halt),
     }

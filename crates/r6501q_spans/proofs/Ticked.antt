@@ -27,14 +27,14 @@ use Rattle.memory.specs.Memory.{is_register}
 use Rattle.cpu_effects.specs.declared.Worked.{Worked}
 use Rattle.cpu_effects.specs.Effects.{pushes_of}
 use Rattle.cpu.specs.declared.Ask.{Ask}
+use Rattle.std.specs.Prelude.{None, Ok, Err}
+use Rattle.std.specs.declared.ops.ControlFlow.TheVariants.{Continue, Break}
+use Rattle.stops.specs.declared.Stop.TheVariants.{Undefined}
 use Rattle.cpu.specs.declared.Outcome.{Outcome}
 use Rattle.cpu.specs.declared.Outcome.TheVariants as outcome
 use Rattle.cpu.specs.declared.work.Work.{Work}
 use Rattle.cpu.specs.InstructionInCode.{instruction_of}
-use Rattle.cpu.specs.InstructionAccesses.{undefined_stop}
-use Rattle.r6501q_cpu.specs.declared.Processed.{Processed}
-use Rattle.r6501q_cpu.specs.declared.Processed.TheVariants as processed
-use Rattle.r6501q_cpu.specs.declared.Round.TheVariants.{Over, Answered}
+use Rattle.r6501q_cpu.specs.Processor.{Processed}
 use Rattle.r6501q_cpu.specs.Processor.{irq_due, byte_put, processor_of}
 use Rattle.r6501q_cpu.specs.Asking.{put_register, registers_after, round_of, instruction_from, answered_instruction}
 use Rattle.r6501q_cpu.proofs.Asks.{round_over, round_answered}
@@ -49,7 +49,6 @@ use Rattle.r6501q_events.specs.Gaps.{until_cpu, to_cpu, gap_of, wait_after, pass
 use Rattle.r6501q_events.proofs.Same.{same_levels_lem}
 use Rattle.r6501q_events.proofs.Quiet.{not_put, not_over, before_cpu_peripherals}
 use Rattle.r6501q_events.proofs.Gaps.{no_event, no_input_next}
-use Rattle.r6501q_clock.specs.declared.Clocked.TheVariants.{Done}
 use Rattle.r6501q_clock.specs.Clock.{before_cpu, ended_with, finished, clock_of}
 use Rattle.r6501q_unseen.specs.Unseen.{peripherals_clocks, ticks_in, SameSeen, Unseen}
 use Rattle.r6501q_unseen.proofs.TickClocks.{peripherals_add}
@@ -173,9 +172,9 @@ module _ (n : ℕ) (s : State) (clocks : List ℕ) (span : ℕ) (a : AloneSeen n
   -- steps 1 to 5, by what step 4 comes to: the word stays
   pub ticked_clock : (memory : List ℕ) (next : Working) (writes : Writes) → next.work.gone.0 ≤ span
       → processor_of (ticked_state s (counted v)) memory
-      ≡ processed.Done (record { state = ticked_state s next; writes = writes })
+      ≡ Ok (record { state = ticked_state s next; writes = writes })
       → (free : Bool) → clock_of (ticked_state s v) [] memory free
-      ≡ Done (ended_with (record { state = ticked_state s next; writes = writes }) (driven_word s.peripherals) false)
+      ≡ Ok (ended_with (record { state = ticked_state s next; writes = writes }) None)
   unfolding clock_of finished
   ticked_clock memory next writes within acts free =
       rw (
@@ -189,7 +188,7 @@ module _ (n : ℕ) (s : State) (clocks : List ℕ) (span : ℕ) (a : AloneSeen n
   -- where the CPU acts later, it waits
   pub ticked_waits : (memory : List ℕ) → 0 < until_cpu (ticked_state s v).cpu
       → processor_of (ticked_state s (counted v)) memory
-      ≡ processed.Done (record { state = ticked_state s (waited v 1); writes = no_writes })
+      ≡ Ok (record { state = ticked_state s (waited v 1); writes = no_writes })
   unfolding until_cpu
   ticked_waits memory later =
       let waits = byte_waits v.waiting in
@@ -311,11 +310,11 @@ module _ (n : ℕ) (s : State) (clocks : List ℕ) (span : ℕ) (a : AloneSeen n
 
   abbrev next : Processed
   next =
-      processed.Done (record { state = ticked_state s (next_working w worked); writes = pushes_of worked.writing })
+      Ok (record { state = ticked_state s (next_working w worked); writes = pushes_of worked.writing })
 
   -- the round that ends it
   round_there : (answers : List ℕ) → instruction_of w.registers answers memory ≡ outcome.Done worked
-      → round_of begun begun.peripherals answers memory ≡ Over next
+      → round_of begun begun.peripherals answers memory ≡ Break next
   unfolding round_of
   round_there answers e =
       rw (
@@ -327,7 +326,7 @@ module _ (n : ℕ) (s : State) (clocks : List ℕ) (span : ℕ) (a : AloneSeen n
   -- a round that asks for a register whose value stays
   asks_there : (ask : Ask) → instruction_of w.registers [] memory ≡ outcome.Asked ask → steady_ask ask ≡ true
       → round_of begun begun.peripherals [] memory
-      ≡ Answered (record { value = steady_answer s ask; peripherals = begun.peripherals })
+      ≡ Continue (record { value = steady_answer s ask; peripherals = begun.peripherals })
   unfolding round_of
   asks_there ask e t =
       let seen = a.unseen.same (w.gone.0 + w.wait + 1) (omega arith) in
@@ -345,7 +344,7 @@ module _ (n : ℕ) (s : State) (clocks : List ℕ) (span : ℕ) (a : AloneSeen n
           → steady_ask ask ≡ t
           → cond t (instruction_of w.registers (steady_answer s ask ∷ []) memory) (outcome.Asked ask)
           ≡ outcome.Done worked
-          → instruction_from (processed.Stopped undefined_stop) 6 begun begun.peripherals [] memory ≡ next
+          → instruction_from (Err Undefined) 6 begun begun.peripherals [] memory ≡ next
       by_ask ask e true t d =
           round_answered _ begun begun.peripherals [] memory 6 5 _ refl (asks_there ask e t)
           ∙ round_over _ begun begun.peripherals (steady_answer s ask ∷ []) memory 5 _ (omega arith)
@@ -354,14 +353,14 @@ module _ (n : ℕ) (s : State) (clocks : List ℕ) (span : ℕ) (a : AloneSeen n
 
       by_outcome : (o : Outcome) → instruction_of w.registers [] memory ≡ o
           → answered_once s w.registers memory o ≡ outcome.Done worked
-          → instruction_from (processed.Stopped undefined_stop) 6 begun begun.peripherals [] memory ≡ next
-      by_outcome (outcome.Stopped number) e d = absurd (false≢true (ap is_done d))
+          → instruction_from (Err Undefined) 6 begun begun.peripherals [] memory ≡ next
+      by_outcome outcome.Undefined e d = absurd (false≢true (ap is_done d))
       by_outcome (outcome.Asked ask) e d = by_ask ask e (steady_ask ask) refl d
       by_outcome (outcome.Done x) e d =
           round_over _ begun begun.peripherals [] memory 6 _ (omega arith) (round_there [] (e ∙ d))
 
   pub instruction_there : processor_of (ticked_state s (counted (waited (none_waiting w) w.wait))) memory
-      ≡ processed.Done (record { state = ticked_state s (next_working w worked); writes = pushes_of worked.writing })
+      ≡ Ok (record { state = ticked_state s (next_working w worked); writes = pushes_of worked.writing })
   instruction_there =
       let irq = ticked_irq n s clocks span a (counted (waited (none_waiting w) w.wait)) (omega arith) in
       instruction_starts begun memory a.res (omega arith) a.reset a.nmi irq
@@ -389,8 +388,8 @@ module _ (s : State) (w : Work) (x : Write) (high : s.last.res ≡ true) (some :
       rw (not_register x in_memory, gone)
 
   pub byte_there : processor_of (ticked_state s (counted (waited (byte_waiting w x) (w.wait - 1)))) memory
-      ≡ processed.Done (record { state = ticked_state s (put_work w); writes = one_write x })
-  byte_there = byte_put_lem last memory x high (omega arith) refl ∙ ap processed.Done put_there
+      ≡ Ok (record { state = ticked_state s (put_work w); writes = one_write x })
+  byte_there = byte_put_lem last memory x high (omega arith) refl ∙ ap Ok put_there
 
 -- ---- a span's start
 

@@ -1,6 +1,7 @@
 -- What the code of a call hands back.
-use Rattle.std.specs.Prelude.{List, ℕ, ltb}
+use Rattle.std.specs.Prelude.{None, List, ℕ, ltb}
 use Rattle.bits.specs.Bits.{one_where}
+use Rattle.stops.specs.Stops.{number_of}
 use Rattle.leaps.specs.Lent.{Lent}
 use Rattle.r6501q_state.specs.declared.state.State.{State}
 use Rattle.r6501q_advance.specs.declared.Progress.{Progress}
@@ -27,7 +28,7 @@ at_exit r memory output_clocks output_words =
 
 -- a call begins: nothing is read, written or stopped
 abbrev pub begin : State → Progress
-begin s = record { state = s; read = 0; written = 0; stop = 0 }
+begin s = record { state = s; read = 0; written = 0; stop = None }
 
 -- "1 to 5 give back the state given, everything unchanged"; "with nothing read or counted"
 abbrev pub refusal_result : ℕ → State → CallResult
@@ -36,7 +37,7 @@ refusal_result number s = record { number = number; state = s; leaps = 0; read =
 -- "6, 7 state and lists as reached", and so 12; "Number 0: all n clocks done."
 abbrev pub progress_result : ℕ → Progress → CallResult
 progress_result leaps p = record {
-  number = p.stop;
+  number = number_of p.stop;
   state = p.state;
   leaps = leaps;
   read = p.read;

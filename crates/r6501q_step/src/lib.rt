@@ -17,6 +17,7 @@ use r6501q_advance::{Progress, advance};
 use r6501q_state::inputs::LAST_PIN;
 use r6501q_state::state::{State, well_formed};
 use refusals::{Limits, Refusal, check};
+use stops::number_of;
 
 // What a call hands back beside the lent lists: document 01's number, the state, the leaps, the inputs read and the
 // records written.
@@ -85,7 +86,7 @@ pub fn result_of(leaps: u32, p: Progress) -> CallResult
 {
     let state = p.state;
     CallResult {
-        number: p.stop,
+        number: number_of(p.stop),
         state: state,
         leaps: leaps,
         read: p.read,
@@ -108,7 +109,7 @@ pub fn begin(state: State) -> Progress
         state: state,
         read: 0,
         written: 0,
-        stop: 0,
+        stop: None,
     }
 }
 

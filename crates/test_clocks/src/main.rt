@@ -15,8 +15,7 @@
 ghost use Rattle.std.specs.Prelude.{◌≡◌, ◌≤◌, length};
 
 use memory::MEMORY_LENGTH;
-use r6501q_advance::Progress;
-use r6501q_state::state::fresh_state;
+use r6501q_state::state::{State, fresh_state};
 use record_text::{End, Outcome};
 use scenario::{INPUTS, RECORDS, SETTINGS_MARK, Settings, read_inputs, read_settings};
 use std::io;
@@ -35,15 +34,24 @@ struct ScenarioEnd {
     end: End,
 }
 
+// How far a scenario's calls have come: the state, the inputs read, the records written, and the last call's number.
+#[derive(Clone, Copy)]
+struct Reached {
+    state: State,
+    read: usize,
+    written: usize,
+    number: u8,
+}
+
 // A scenario's calls taken together, before the first.
-fn begin() -> Progress
+fn begin() -> Reached
     ensures { (result.read ≡ 0) × (result.written ≡ 0) }
 {
-    Progress {
+    Reached {
         state: fresh_state(),
         read: 0,
         written: 0,
-        stop: 0,
+        number: 0,
     }
 }
 
@@ -56,13 +64,13 @@ fn moved_on(place: usize, by: usize, end: usize) -> usize
 
 // One single-clock call, with the inputs not yet read and the output space that is still free.
 fn single_clock(
-    p: Progress,
+    p: Reached,
     memory: &mut [u8],
     clocks: &[u32],
     codes: &[u8],
     times: &mut [u32],
     words: &mut [u32],
-) -> Progress
+) -> Reached
     requires read_in_bounds { (p.read ≤ length clocks.now) × (length clocks.now ≡ length codes.now) }
     requires written_in_bounds { (p.written ≤ length times.old) × (length times.old ≡ length words.old) }
     ensures { (result.read ≤ length clocks.now) × (result.written ≤ length times.old) }
@@ -81,11 +89,11 @@ fn single_clock(
         None,
     );
     let state = result.state;
-    Progress {
+    Reached {
         state: state,
         read: moved_on(read, result.read, inputs),
         written: moved_on(written, result.written, records),
-        stop: result.number,
+        number: result.number,
     }
 }
 
@@ -105,12 +113,12 @@ fn run_clocks(
     let mut p = begin();
     for done in 0..limit {
         p = single_clock(p, memory, clocks, codes, times, words);
-        if p.stop != 0 {
+        if p.number != 0 {
             return ScenarioEnd {
                 written: p.written,
                 end: End {
                     done,
-                    number: p.stop,
+                    number: p.number,
                 },
             };
         }

@@ -1,5 +1,5 @@
 -- One instruction by a run for all its clocks: what a case starts from, and what it has to come to.
-use Rattle.std.specs.Prelude.{ℕ, ◌-◌, true, false, List, [], ◌∷◌, None, Option, Some}
+use Rattle.std.specs.Prelude.{ℕ, ◌-◌, true, false, List, [], ◌∷◌, None, Option, Some, Ok, Err}
 use Rattle.r6501q_state.specs.declared.state.Cpu.{Cpu}
 use Rattle.r6501q_state.specs.declared.state.Peripherals.{Peripherals}
 use Rattle.r6501q_state.specs.declared.state.State.{State}
@@ -10,10 +10,9 @@ use Rattle.serial_receiver.specs.Receiver.{idle_receiver}
 use Rattle.cpu_access.specs.declared.stack.Write.{Write}
 use Rattle.cpu_access.specs.declared.stack.Writes.{Writes}
 use Rattle.cpu_access.specs.Stack.{no_writes, one_write}
-use Rattle.r6501q_clock.specs.declared.Clocked.{Clocked}
-use Rattle.r6501q_clock.specs.declared.Clocked.TheVariants.{Stopped, Done}
 use Rattle.leaps.specs.CallLists.{run_of}
 use Rattle.leaps.specs.Calls.{call_start}
+use Rattle.r6501q_clock.specs.Clock.{Clocked}
 use Rattle.r6501q_chip.specs.R6501q.{Handed, Result, machine}
 
 -- fresh but for the registers, with no reset due
@@ -73,5 +72,5 @@ writes_with pushes (Some w) = one_write w
 
 -- the same by what the first clock comes to; nothing where it stops
 abbrev pub writes_in : Clocked → Writes
-writes_in (Stopped number) = no_writes
-writes_in (Done ended) = writes_with ended.writes ended.state.cpu.waiting
+writes_in (Err stop) = no_writes
+writes_in (Ok ended) = writes_with ended.writes ended.state.cpu.waiting

@@ -6,10 +6,11 @@ ghost use Rattle.r6501q_step.specs.Calls.{result_from};
 ghost use Rattle.test_instructions.specs.Instruction.{prepared, later, run_alone, done_with, writes_with, writes_in};
 
 use cpu_access::stack::{Writes, no_writes, one_write};
-use r6501q_clock::{Clocked, Ended, clock};
+use r6501q_clock::{Ended, clock};
 use r6501q_state::inputs::RES_HIGH;
 use r6501q_state::state::{Cpu, State, fresh_state};
 use r6501q_step::CallResult;
+use stops::Stop;
 use test_states::same::same_state;
 
 // The leaps of an instruction: one through its first clock, and one through its last.
@@ -69,7 +70,7 @@ pub(crate) fn done_with(res: CallResult, clocks: u8, cpu: Cpu) -> bool
 }
 
 // What the first clock of an instruction comes to, which holds its pushes in order and the byte that waits.
-fn clock_alone(cpu: Cpu, memory: &[u8]) -> Clocked
+fn clock_alone(cpu: Cpu, memory: &[u8]) -> Result<Ended, Stop>
     ensures { result ≡ clock_of (prepared cpu) (res_high ∷ []) memory.now true }
 {
     let codes = [RES_HIGH; 1];
@@ -92,7 +93,7 @@ pub(crate) fn instruction_writes(cpu: Cpu, memory: &[u8]) -> Writes
 {
     let clocked = clock_alone(cpu, memory);
     match clocked {
-        Clocked::Stopped(_) => no_writes(),
-        Clocked::Done(ended) => writes_with(ended),
+        Err(_) => no_writes(),
+        Ok(ended) => writes_with(ended),
     }
 }

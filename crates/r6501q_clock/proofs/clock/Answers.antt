@@ -1,23 +1,29 @@
 use Rattle.r6501q_clock.specs.Clock.{clock_of}
 use mathlib.Core.Path.{refl, ◌∙◌}
+use Rattle.std.proofs.lemmas.Result.{err_from_is_err_and}
 use Rattle.r6501q_clock.proofs.clock.Goals as goal
 
-pub returns-in-Stopped : goal.returns-in-Stopped
+pub returns-in_err-next : goal.returns-in_err-next
 unfolding clock_of
-returns-in-Stopped c = rw (
-  ← c.driven_word-before.ensures,
-  ← c.before_cpu.ensures,
-  ← c.process-processed.ensures,
-  c.in-Stopped.is,
-) refl
+returns-in_err-next c =
+    let p = err_from_is_err_and c.from_residual.result c.from_residual.ensures.1 in
+    rw (
+      p.1,
+      p.2,
+      ← c.driven_word-before.ensures,
+      ← c.before_cpu.ensures,
+      ← c.process.ensures,
+      c.in_err-next.was,
+    ) refl
 
-pub returns-in-Done : goal.returns-in-Done
+pub returns : goal.returns
 unfolding clock_of
-returns-in-Done c = c.finish.ensures
+returns c = c.finish.ensures
     ∙ rw (
+      c.then_some-output.ensures,
       c.driven_word-word.ensures,
       ← c.driven_word-before.ensures,
       ← c.before_cpu.ensures,
-      ← c.process-processed.ensures,
-      c.in-Done.is,
+      ← c.process.ensures,
+      c.in_ok-next.was,
     ) refl

@@ -18,11 +18,11 @@ slice_bounds-answers-end c = rw c.loop-count.invariant.1 c.loop-count.invariant.
 pub slice_bounds-one_round-end : goal.slice_bounds-one_round-end
 slice_bounds-one_round-end c = sym (length-take-le _ _ (rw c.loop-count.invariant.1 c.loop-count.invariant.0))
 
-pub returns-in-Over : goal.returns-in-Over
-returns-in-Over c =
+pub returns-in-Break : goal.returns-in-Break
+returns-in-Break c =
     let at = c.loop-count in
     let left : 0 < 6 - at.count = omega arith in
-    let over = sym c.one_round-round.ensures ∙ c.in-Over.is in
+    let over = sym c.one_round-round.ensures ∙ c.in-Break.is in
     sym (round_over _ _ _ _ _ _ _ left over) ∙ at.invariant.2
 
 pub bounds-answers-count : goal.bounds-answers-count
@@ -39,9 +39,9 @@ loop-count-preserved c =
     let at = c.loop-count in
     let left : 6 - at.count ≡ suc (6 - suc at.count) = omega arith in
     let room : at.count < length at.answers = rw at.invariant.1 (omega arith) in
-    let asked = sym c.one_round-round.ensures ∙ c.in-Answered.is in (
+    let asked = sym c.one_round-round.ensures ∙ c.in-Continue.is in (
       omega arith,
-      rw (length-set at.answers at.count c.in-Answered.reading.value) at.invariant.1,
+      rw (length-set at.answers at.count c.in-Continue.reading.value) at.invariant.1,
       rw (add-one at.count, take-suc-set at.answers at.count _ room)
           (sym (round_answered _ _ _ _ _ _ _ _ left asked) ∙ at.invariant.2),
     )

@@ -1,14 +1,14 @@
 use mathlib.Core.Path.{◌≡◌}
 use Prim.Native.Nat.{◌≤◌, ◌-◌}
 use lib.ListN.{length, take}
-use Rattle.cpu.specs.InstructionAccesses.{undefined_stop}
-use Rattle.r6501q_cpu.specs.declared.Processed.TheVariants.{Stopped}
+use Rattle.std.specs.Prelude.{Err}
+use Rattle.stops.specs.declared.Stop.TheVariants.{Undefined}
 use Rattle.r6501q_cpu.specs.Asking.{instruction_from, answered_instruction}
 use Rattle.r6501q_cpu.proofs.answered_instruction.Given as goal
 
 abbrev pub invariant-loop-count : goal.invariant-loop-count
 invariant-loop-count l = (l.count ≤ 6) × (length l.answers ≡ 6)
-    × (instruction_from (Stopped undefined_stop) (6 - l.count) l.s l.peripherals (take l.count l.answers) l.memory
+    × (instruction_from (Err Undefined) (6 - l.count) l.s l.peripherals (take l.count l.answers) l.memory
     ≡ answered_instruction l.s l.memory)
 
 abbrev pub decreases-loop-count : goal.decreases-loop-count

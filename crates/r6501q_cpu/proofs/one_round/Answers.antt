@@ -1,12 +1,12 @@
 use Rattle.r6501q_cpu.specs.Asking.{round_of}
 use Rattle.r6501q_cpu.proofs.one_round.Goals as goal
 
-pub returns-in-Stopped : goal.returns-in-Stopped
+pub returns-in-Undefined : goal.returns-in-Undefined
 unfolding round_of
-returns-in-Stopped c = rw (
+returns-in-Undefined c = rw (
   ← c.registers_of.ensures,
   ← c.instruction-outcome.ensures,
-  c.in-Stopped.is,
+  c.in-Undefined.is,
 )
 
 pub returns-in-Asked : goal.returns-in-Asked

@@ -4,14 +4,14 @@ use Rattle.page_sums.specs.PageSums.{SixteenBits}
 use Rattle.page_sums.proofs.Sums.{sums_kept}
 use Rattle.r6501q_span_work.proofs.work_outcome.Goals as goal
 
-pub returns-in-Stopped : goal.returns-in-Stopped
-returns-in-Stopped c =
+pub returns-in-Undefined : goal.returns-in-Undefined
+returns-in-Undefined c =
     let at = c.args in
     let words : SixteenBits at.sums.now = λ p. omega (
       arith,
       c.type_inv.sums p,
     ) in
-    let o = sym c.outcome_within-outcome.ensures ∙ c.in-Stopped.is in record {
+    let o = sym c.outcome_within-outcome.ensures ∙ c.in-Undefined.is in record {
       value = rw o c.none_waiting.ensures;
       memory_after = rw o refl;
       sums_after = sums_kept 0 at.sums.now

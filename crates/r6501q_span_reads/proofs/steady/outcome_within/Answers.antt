@@ -2,9 +2,9 @@ use mathlib.Core.Path.{refl, sym, ◌∙◌}
 use Rattle.r6501q_span_reads.specs.Steady.{outcome_within}
 use Rattle.r6501q_span_reads.proofs.steady.outcome_within.Goals as goal
 
-pub returns-in-Stopped : goal.returns-in-Stopped
+pub returns-in-Undefined : goal.returns-in-Undefined
 unfolding outcome_within
-returns-in-Stopped c = rw (sym c.instruction-outcome.ensures ∙ c.in-Stopped.is) refl
+returns-in-Undefined c = rw (sym c.instruction-outcome.ensures ∙ c.in-Undefined.is) refl
 
 pub returns-in-Asked : goal.returns-in-Asked
 unfolding outcome_within

@@ -1,9 +1,9 @@
 use Rattle.std.proofs.Common.{◌∙◌}
 use Rattle.test_instructions.proofs.instruction.instruction_writes.Goals as goal
 
-pub returns-in-Stopped : goal.returns-in-Stopped
-returns-in-Stopped c = c.no_writes.ensures ∙ rw (← c.clock_alone-clocked.ensures, c.in-Stopped.is)
+pub returns-in-Err : goal.returns-in-Err
+returns-in-Err c = c.no_writes.ensures ∙ rw (← c.clock_alone-clocked.ensures, c.in-Err.is)
 
-pub returns-in-Done : goal.returns-in-Done
-returns-in-Done c = c.writes_with.ensures
-    ∙ rw (← c.clock_alone-clocked.ensures, c.in-Done.is)
+pub returns-in-Ok : goal.returns-in-Ok
+returns-in-Ok c = c.writes_with.ensures
+    ∙ rw (← c.clock_alone-clocked.ensures, c.in-Ok.is)
