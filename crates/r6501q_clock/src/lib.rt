@@ -159,12 +159,7 @@ fn finish(next: Next, output: Option<u32>, free: bool) -> Result<Ended, Stop>
 }
 
 // Steps 1 to 5 of a clock, given the codes of its inputs and whether an output entry is free.
-pub fn clock(
-    s: State,
-    codes: &[u8],
-    memory: &[u8],
-    free: bool,
-) -> Result<Ended, Stop>
+pub fn clock(s: State, codes: &[u8], memory: &[u8], free: bool) -> Result<Ended, Stop>
     requires { s.clock < last_clock }
     ensures { result ≡ clock_of s codes.now memory.now free }
 {
