@@ -1,4 +1,5 @@
 // The operations of each kind (source document 001, appendix A): what each computes of registers, flags and a byte.
+// Each is built in where it is called, so that at a constant operation no match is left.
 ghost use Rattle.std.specs.Prelude.{◌≡◌};
 ghost use Rattle.cpu_kinds.specs.Kinds.{with_read, flags_kept, changed_by, byte_to_store, branch_taken};
 ghost use Rattle.cpu_kinds.specs.Kinds.{bit_branch_taken, byte_to_push, with_pulled, with_register, with_flag};
@@ -12,6 +13,7 @@ use cpu_opcodes::operation::{
 };
 
 // The registers after a byte was read.
+#[inline(always)]
 pub fn with_read(operation: ReadOperation, r: CpuRegisters, value: u8) -> CpuRegisters
     ensures { result ≡ with_read operation r value }
 {
@@ -40,6 +42,7 @@ fn flags_kept(value: u8, status: Status) -> Computed
 }
 
 // The byte that goes back, with the flags.
+#[inline(always)]
 pub fn changed(operation: ModifyOperation, value: u8, status: Status) -> Computed
     ensures { result ≡ changed_by operation value status }
 {
@@ -55,6 +58,7 @@ pub fn changed(operation: ModifyOperation, value: u8, status: Status) -> Compute
     }
 }
 
+#[inline(always)]
 pub fn byte_to_store(operation: StoreOperation, r: CpuRegisters) -> u8
     ensures { result ≡ byte_to_store operation r }
 {
@@ -65,6 +69,7 @@ pub fn byte_to_store(operation: StoreOperation, r: CpuRegisters) -> u8
     }
 }
 
+#[inline(always)]
 pub fn branch_taken(operation: BranchOperation, status: Status) -> bool
     ensures { result ≡ branch_taken operation status }
 {
@@ -81,6 +86,7 @@ pub fn branch_taken(operation: BranchOperation, status: Status) -> bool
 }
 
 // Of the byte that is tested.
+#[inline(always)]
 pub fn bit_branch_taken(operation: BitBranchOperation, value: u8) -> bool
     ensures { result ≡ bit_branch_taken operation value }
 {
@@ -90,6 +96,7 @@ pub fn bit_branch_taken(operation: BitBranchOperation, value: u8) -> bool
     }
 }
 
+#[inline(always)]
 pub fn byte_to_push(operation: PushOperation, r: CpuRegisters) -> u8
     ensures { result ≡ byte_to_push operation r }
 {
@@ -100,6 +107,7 @@ pub fn byte_to_push(operation: PushOperation, r: CpuRegisters) -> u8
 }
 
 // The registers after a byte was pulled.
+#[inline(always)]
 pub fn with_pulled(operation: PullOperation, r: CpuRegisters, value: u8) -> CpuRegisters
     ensures { result ≡ with_pulled operation r value }
 {
@@ -109,6 +117,7 @@ pub fn with_pulled(operation: PullOperation, r: CpuRegisters, value: u8) -> CpuR
     }
 }
 
+#[inline(always)]
 pub fn with_register(operation: RegisterOperation, r: CpuRegisters) -> CpuRegisters
     ensures { result ≡ with_register operation r }
 {
@@ -127,6 +136,7 @@ pub fn with_register(operation: RegisterOperation, r: CpuRegisters) -> CpuRegist
     }
 }
 
+#[inline(always)]
 pub fn with_flag(operation: FlagOperation, status: Status) -> Status
     ensures { result ≡ with_flag operation status }
 {

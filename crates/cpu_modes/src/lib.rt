@@ -167,6 +167,7 @@ pub fn at_indirect(answers: &[u8], memory: &[u8], operand: Fetched<u16>) -> Plac
 }
 
 // The place of an instruction's operand; PC stands behind the opcode.
+#[inline(always)]
 pub fn locate(answers: &[u8], memory: &[u8], mode: Mode, registers: CpuRegisters, bus: Bus) -> Place
     ensures { result ≡ locate_of answers.now memory.now mode registers bus }
 {

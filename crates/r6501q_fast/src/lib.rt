@@ -1,16 +1,17 @@
 // Instructions of a span one after the other, by their opcodes.
 #![tactic(auto)]
 
-ghost use Rattle.std.specs.Prelude.{cond, ◌≡◌, ◌+◌, ◌≤◌, ◌<◌};
+ghost use Rattle.std.specs.Prelude.{◌≡◌, ◌+◌, ◌≤◌, ◌<◌};
 ghost use Rattle.page_sums.specs.PageSums.{sums_after};
 ghost use Rattle.cpu.specs.Work.{WithinSpan};
+ghost use Rattle.cpu_attempts.specs.Attempts.{Tries};
 ghost use Rattle.r6501q_fast.specs.Instructions.{ByInstructions, RunsOn, shared_by};
 
 use bits::one_where;
 use counters::time::Clocks;
 use cpu::work::Work;
 use cpu_access::memory_byte;
-use cpu_attempts::same_work;
+use cpu_attempts::Start;
 use memory::{MEMORY_LENGTH, is_register};
 use r6501q_spans::{Working, none_waiting};
 use r6501q_unseen::{Ticking, on_tick};
@@ -52,22 +53,38 @@ fn shared_by(ticking: Ticking, start: u32, gone: u32) -> u32
     first + one_where(on_tick(ticking, gone)) as u32
 }
 
-// The same added to those before, where the instruction was done.
-fn with_shared(ticking: Ticking, shared: u32, start: u32, succeeded: bool, gone: u32) -> u32
-    requires { (0 < ticking.period) × (shared + 2 ≤ 4294967295) }
-    ensures { result ≡ cond succeeded (shared + shared_by ticking start gone) shared }
+// An instruction by its opcode's row. Built into the loop below, so that the work stays in the host's registers.
+#[inline(always)]
+fn tried(start: Start, memory: &mut [u8], sums: &mut [u16]) -> Option<Work>
+    ensures tries { Tries start.halt start.span.0 start.work memory.old result memory.new }
+    ensures sums_after { sums.new ≡ sums_after sums.old memory.old memory.new }
 {
-    if succeeded {
-        return shared + shared_by(ticking, start, gone);
+    let opcode = memory_byte(memory, start.work.registers.pc);
+    match opcode / 16 {
+        0 => cpu_low_opcodes::opcodes_00(start, memory, sums, opcode),
+        1 => cpu_low_opcodes::opcodes_10(start, memory, sums, opcode),
+        2 => cpu_low_opcodes::opcodes_20(start, memory, sums, opcode),
+        3 => cpu_low_opcodes::opcodes_30(start, memory, sums, opcode),
+        4 => cpu_low_opcodes::opcodes_40(start, memory, sums, opcode),
+        5 => cpu_low_opcodes::opcodes_50(start, memory, sums, opcode),
+        6 => cpu_low_opcodes::opcodes_60(start, memory, sums, opcode),
+        7 => cpu_low_opcodes::opcodes_70(start, memory, sums, opcode),
+        8 => cpu_high_opcodes::opcodes_80(start, memory, sums, opcode),
+        9 => cpu_high_opcodes::opcodes_90(start, memory, sums, opcode),
+        10 => cpu_high_opcodes::opcodes_a0(start, memory, sums, opcode),
+        11 => cpu_high_opcodes::opcodes_b0(start, memory, sums, opcode),
+        12 => cpu_high_opcodes::opcodes_c0(start, memory, sums, opcode),
+        13 => cpu_high_opcodes::opcodes_d0(start, memory, sums, opcode),
+        14 => cpu_high_opcodes::opcodes_e0(start, memory, sums, opcode),
+        _ => cpu_high_opcodes::opcodes_f0(start, memory, sums, opcode),
     }
-    shared
 }
 
 // The instructions that start in a span, one after the other, up to the first that is left to `work_once`: one that
 // reads a register, writes to one or at the halt address, BRK, an undefined opcode, a store whose last clock lies
-// behind the span, or one whose bytes may be at a register's address. The match stands in the loop itself, so that the
-// work stays in the host's registers; and the memory's length is looked at before it, so that no access within asks
-// again.
+// behind the span, or one whose bytes may be at a register's address. The memory's length is looked at before the loop,
+// so that no access within asks again.
+#[tactic(auto, using(page_sums::proofs::Sums::sums_kept))]
 pub fn run_opcodes(
     start: Work,
     span: Clocks,
@@ -83,51 +100,29 @@ pub fn run_opcodes(
     ensures within_span_2 { WithinSpan result.work span.0 }
     ensures sums_after { sums.new ≡ sums_after sums.old memory.old memory.new }
 {
+    let mut w = start;
+    let mut shared = 0u32;
     if memory.len() != MEMORY_LENGTH {
         return Ran {
-            work: start,
-            shared: 0,
+            work: w,
+            shared: shared,
         };
     }
-    let mut w = same_work(start);
-    let mut shared = 0u32;
-    let mut on = true;
-    while on & ((w.wait as u32) < span.0 - w.gone.0) {
+    while (w.wait as u32) < span.0 - w.gone.0 {
         let pc = w.registers.pc;
         if is_register(pc) | (LAST_WHOLE < pc) {
-            return Ran {
-                work: w,
-                shared: shared,
-            };
+            break;
         }
-        let opcode = memory_byte(memory, pc);
-        let tried = match opcode / 16 {
-            0 => cpu_low_opcodes::opcodes_00(w, span, memory, sums, halt, opcode),
-            1 => cpu_low_opcodes::opcodes_10(w, span, memory, sums, halt, opcode),
-            2 => cpu_low_opcodes::opcodes_20(w, span, memory, sums, halt, opcode),
-            3 => cpu_low_opcodes::opcodes_30(w, span, memory, sums, halt, opcode),
-            4 => cpu_low_opcodes::opcodes_40(w, span, memory, sums, halt, opcode),
-            5 => cpu_low_opcodes::opcodes_50(w, span, memory, sums, halt, opcode),
-            6 => cpu_low_opcodes::opcodes_60(w, span, memory, sums, halt, opcode),
-            7 => cpu_low_opcodes::opcodes_70(w, span, memory, sums, halt, opcode),
-            8 => cpu_high_opcodes::opcodes_80(w, span, memory, sums, halt, opcode),
-            9 => cpu_high_opcodes::opcodes_90(w, span, memory, sums, halt, opcode),
-            10 => cpu_high_opcodes::opcodes_a0(w, span, memory, sums, halt, opcode),
-            11 => cpu_high_opcodes::opcodes_b0(w, span, memory, sums, halt, opcode),
-            12 => cpu_high_opcodes::opcodes_c0(w, span, memory, sums, halt, opcode),
-            13 => cpu_high_opcodes::opcodes_d0(w, span, memory, sums, halt, opcode),
-            14 => cpu_high_opcodes::opcodes_e0(w, span, memory, sums, halt, opcode),
-            _ => cpu_high_opcodes::opcodes_f0(w, span, memory, sums, halt, opcode),
+        let from = Start {
+            work: w,
+            span: span,
+            halt: halt,
         };
-        shared = with_shared(
-            ticking,
-            shared,
-            next_start(w),
-            tried.succeeded,
-            tried.work.gone.0,
-        );
-        w = same_work(tried.work);
-        on = tried.succeeded;
+        let Some(next) = tried(from, memory, sums) else {
+            break;
+        };
+        shared += shared_by(ticking, next_start(w), next.gone.0);
+        w = next;
     }
     Ran {
         work: w,
@@ -136,6 +131,7 @@ pub fn run_opcodes(
 }
 
 // The instructions of a span by their opcodes, where no byte waits; else nothing.
+#[tactic(auto, using(page_sums::proofs::Sums::sums_kept, crate::proofs::Instructions::shared_most))]
 pub fn run_working(
     v: Working,
     span: Clocks,

@@ -1,7 +1,0 @@
-use Rattle.cpu_kinds.specs.Kinds.{branch_taken}
-use mathlib.Core.Path.{refl}
-use Rattle.cpu_mnemonics.proofs.flow.bcs.Goals as goal
-
-pub returns : goal.returns
-unfolding branch_taken
-returns c = rw c.branch-w.ensures refl
