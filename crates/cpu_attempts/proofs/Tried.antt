@@ -98,6 +98,10 @@ module _ (start : Start) (memory : List ℕ) where
   abbrev span : ℕ
   span = start.span.0
 
+  -- the operand's place
+  abbrev operand : Mode → Place
+  operand m = place_of w memory m
+
   abbrev Decodes : Operation → Mode → ℕ → Type 0
   Decodes o m n = decode_of (memory_byte memory w.registers.pc) ≡ Some (entry o m n)
 
@@ -149,50 +153,50 @@ module _ (start : Start) (memory : List ℕ) where
       (opcode_executes w.registers memory (entry o m n) start.in_memory d ∙ e) refl both.0))
 
   -- a read
-  read_done : (o : ReadOperation) (m : Mode) (n : ℕ) → (place_of w memory m).bus.missing ≡ false
-      → is_register (place_of w memory m).address ≡ false
+  read_done : (o : ReadOperation) (m : Mode) (n : ℕ) → (operand m).bus.missing ≡ false
+      → is_register (operand m).address ≡ false
       → Executes (operation.Read o) m n
-      (worked_out (with_read o (with_pc (place_of w memory m).pc w.registers) (memory_byte memory (place_of w memory m).address)) Nothing
-      (n + one_where (place_of w memory m).crossed))
+      (worked_out (with_read o (with_pc (operand m).pc w.registers) (memory_byte memory (operand m).address)) Nothing
+      (n + one_where (operand m).crossed))
   unfolding execute_of carried_out operand_byte read_of outcome_of operate_of completed
   read_done o m n b a = rw (a, b) refl
 
   pub read_tries : {o : ReadOperation} {m : Mode} {n : ℕ} → Decodes (operation.Read o) m n
-      → Tries halt span w memory (read_tried o w memory (place_of w memory m) n) memory
+      → Tries halt span w memory (read_tried o w memory (operand m) n) memory
   unfolding read_tried
   read_tries {o} {m} {n} d =
-      failed_or_same (asks_for (place_of w memory m)) _
-      (λ t. let both = either_false (place_of w memory m).bus.missing (is_register (place_of w memory m).address) t in
+      failed_or_same (asks_for (operand m)) _
+      (λ t. let both = either_false (operand m).bus.missing (is_register (operand m).address) t in
       read_only (operation.Read o) m n d _ _ (read_done o m n both.0 both.1))
 
   -- STA, STX and STY
-  save_done : (o : StoreOperation) (m : Mode) (n : ℕ) → (place_of w memory m).bus.missing ≡ false
+  save_done : (o : StoreOperation) (m : Mode) (n : ℕ) → (operand m).bus.missing ≡ false
       → Executes (operation.Store o) m n
-      (worked_out (with_pc (place_of w memory m).pc w.registers)
-      (Stored (write_at (place_of w memory m).address (byte_to_store o w.registers))) n)
+      (worked_out (with_pc (operand m).pc w.registers)
+      (Stored (write_at (operand m).address (byte_to_store o w.registers))) n)
   unfolding execute_of carried_out operand_byte outcome_of operate_of stored
-  save_done o m n b = rw (byte_stored o (place_of w memory m).pc w.registers, b) refl
+  save_done o m n b = rw (byte_stored o (operand m).pc w.registers, b) refl
 
   pub save_tries : {o : StoreOperation} {m : Mode} {n : ℕ} → Decodes (operation.Store o) m n → 1 < n
-      → Tries halt span w memory (save_tried halt span o w (place_of w memory m) n) (save_memory halt span o w (place_of w memory m) n memory)
+      → Tries halt span w memory (save_tried halt span o w (operand m) n) (save_memory halt span o w (operand m) n memory)
   unfolding save_tried save_memory
   save_tries {o} {m} {n} d long =
-      failed_or (asks_for (place_of w memory m)) _ _
-      (λ t. let both = either_false (place_of w memory m).bus.missing (is_register (place_of w memory m).address) t in
+      failed_or (asks_for (operand m)) _ _
+      (λ t. let both = either_false (operand m).bus.missing (is_register (operand m).address) t in
       stores (operation.Store o) m n d _ _ long (save_done o m n both.0))
 
   -- a byte changed in memory
-  change_done : (o : ModifyOperation) (m : Mode) (n : ℕ) → (place_of w memory m).accumulator ≡ false
-      → (place_of w memory m).bus.missing ≡ false
-      → is_register (place_of w memory m).address ≡ false
+  change_done : (o : ModifyOperation) (m : Mode) (n : ℕ) → (operand m).accumulator ≡ false
+      → (operand m).bus.missing ≡ false
+      → is_register (operand m).address ≡ false
       → Executes (operation.Modify o) m n
-      (worked_out (with_status (changed_at o w memory (place_of w memory m)).status (with_pc (place_of w memory m).pc w.registers))
-      (Stored (write_at (place_of w memory m).address (changed_at o w memory (place_of w memory m)).value)) n)
+      (worked_out (with_status (changed_at o w memory (operand m)).status (with_pc (operand m).pc w.registers))
+      (Stored (write_at (operand m).address (changed_at o w memory (operand m)).value)) n)
   unfolding execute_of carried_out operand_byte read_of outcome_of operate_of modified stored
   change_done o m n c b a = rw (c, a, b) refl
 
   -- no mode but one has A for its operand
-  beside_a : (m : Mode) → of_accumulator m ≡ false → (place_of w memory m).accumulator ≡ false
+  beside_a : (m : Mode) → of_accumulator m ≡ false → (operand m).accumulator ≡ false
   unfolding locate_of indexed_by relative_to
   beside_a Implied z = refl
   beside_a Accumulator z = cc
@@ -211,12 +215,12 @@ module _ (start : Start) (memory : List ℕ) where
 
   pub change_tries : {o : ModifyOperation} {m : Mode} {n : ℕ} → Decodes (operation.Modify o) m n
       → of_accumulator m ≡ false → 1 < n
-      → Tries halt span w memory (change_tried halt span o w memory (place_of w memory m) n)
-      (change_memory halt span o w memory (place_of w memory m) n)
+      → Tries halt span w memory (change_tried halt span o w memory (operand m) n)
+      (change_memory halt span o w memory (operand m) n)
   unfolding change_tried change_memory
   change_tries {o} {m} {n} d c long =
-      failed_or (asks_for (place_of w memory m)) _ _
-      (λ t. let both = either_false (place_of w memory m).bus.missing (is_register (place_of w memory m).address) t in
+      failed_or (asks_for (operand m)) _ _
+      (λ t. let both = either_false (operand m).bus.missing (is_register (operand m).address) t in
       stores (operation.Modify o) m n d _ _ long (change_done o m n (beside_a m c) both.0 both.1))
 
   -- A changed
@@ -243,12 +247,12 @@ module _ (start : Start) (memory : List ℕ) where
       by_taken false z = read_only o m n d _ _ (e false z)
 
   -- what a branch executes to, taken or not
-  branch_executes : (o : BranchOperation) (n : ℕ) → (place_of w memory Relative).bus.missing ≡ false → (t : Bool)
+  branch_executes : (o : BranchOperation) (n : ℕ) → (operand Relative).bus.missing ≡ false → (t : Bool)
       → t ≡ branch_taken o w.registers.status
       → Executes (operation.Branch o) Relative n
-      (cond t (worked_out (with_pc (place_of w memory Relative).address w.registers) Nothing
-      (n + 1 + one_where (place_of w memory Relative).crossed))
-      (worked_out (with_pc (place_of w memory Relative).pc w.registers) Nothing n))
+      (cond t (worked_out (with_pc (operand Relative).address w.registers) Nothing
+      (n + 1 + one_where (operand Relative).crossed))
+      (worked_out (with_pc (operand Relative).pc w.registers) Nothing n))
   unfolding execute_of carried_out operand_byte outcome_of operate_of branched
   branch_executes o n b true z = rw (sym z, b) refl
   branch_executes o n b false z = rw (sym z, b) refl
@@ -259,23 +263,23 @@ module _ (start : Start) (memory : List ℕ) where
   missing_unchanged taken p n b = rw b unchanged
 
   pub branch_tries : {o : BranchOperation} {n : ℕ} → Decodes (operation.Branch o) Relative n
-      → Tries halt span w memory (branch_tried (branch_taken o w.registers.status) w (place_of w memory Relative) n) memory
-  branch_tries {o} {n} d = by_missing (place_of w memory Relative).bus.missing refl
+      → Tries halt span w memory (branch_tried (branch_taken o w.registers.status) w (operand Relative) n) memory
+  branch_tries {o} {n} d = by_missing (operand Relative).bus.missing refl
     where
-      by_missing : (t : Bool) → (place_of w memory Relative).bus.missing ≡ t
-          → Tries halt span w memory (branch_tried (branch_taken o w.registers.status) w (place_of w memory Relative) n) memory
-      by_missing true b = missing_unchanged _ (place_of w memory Relative) n b
+      by_missing : (t : Bool) → (operand Relative).bus.missing ≡ t
+          → Tries halt span w memory (branch_tried (branch_taken o w.registers.status) w (operand Relative) n) memory
+      by_missing true b = missing_unchanged _ (operand Relative) n b
       by_missing false b =
-          branch_done (operation.Branch o) Relative n d (branch_taken o w.registers.status) (place_of w memory Relative) b
+          branch_done (operation.Branch o) Relative n d (branch_taken o w.registers.status) (operand Relative) b
           (branch_executes o n b)
 
   -- BBR and BBS
   abbrev target : Place
-  target = relative_to (fetch_of [] memory (place_of w memory ZeroPageRelative).pc (place_of w memory ZeroPageRelative).bus)
+  target = relative_to (fetch_of [] memory (operand ZeroPageRelative).pc (operand ZeroPageRelative).bus)
 
-  bit_branch_executes : (o : BitBranchOperation) (n : ℕ) → is_register (place_of w memory ZeroPageRelative).address ≡ false
+  bit_branch_executes : (o : BitBranchOperation) (n : ℕ) → is_register (operand ZeroPageRelative).address ≡ false
       → target.bus.missing ≡ false
-      → (t : Bool) → t ≡ bit_branch_taken o (memory_byte memory (place_of w memory ZeroPageRelative).address)
+      → (t : Bool) → t ≡ bit_branch_taken o (memory_byte memory (operand ZeroPageRelative).address)
       → Executes (operation.BitBranch o) ZeroPageRelative n
       (cond t (worked_out (with_pc target.address w.registers) Nothing (n + 1 + one_where target.crossed))
       (worked_out (with_pc target.pc w.registers) Nothing n))
@@ -284,33 +288,33 @@ module _ (start : Start) (memory : List ℕ) where
   bit_branch_executes o n a b false z = rw (a, sym z, b) refl
 
   pub bit_branch_tries : {o : BitBranchOperation} {n : ℕ} → Decodes (operation.BitBranch o) ZeroPageRelative n
-      → Tries halt span w memory (bit_branch_tried o w memory (place_of w memory ZeroPageRelative) n) memory
+      → Tries halt span w memory (bit_branch_tried o w memory (operand ZeroPageRelative) n) memory
   unfolding bit_branch_tried
   bit_branch_tries {o} {n} d =
-      failed_or_same (asks_for (place_of w memory ZeroPageRelative)) _
-      (λ t. let both = either_false (place_of w memory ZeroPageRelative).bus.missing
-      (is_register (place_of w memory ZeroPageRelative).address) t in
+      failed_or_same (asks_for (operand ZeroPageRelative)) _
+      (λ t. let both = either_false (operand ZeroPageRelative).bus.missing
+      (is_register (operand ZeroPageRelative).address) t in
       by_missing both.1 target.bus.missing refl)
     where
-      by_missing : is_register (place_of w memory ZeroPageRelative).address ≡ false → (t : Bool) → target.bus.missing ≡ t
+      by_missing : is_register (operand ZeroPageRelative).address ≡ false → (t : Bool) → target.bus.missing ≡ t
           → Tries halt span w memory
-          (branch_tried (bit_branch_taken o (memory_byte memory (place_of w memory ZeroPageRelative).address)) w target n) memory
+          (branch_tried (bit_branch_taken o (memory_byte memory (operand ZeroPageRelative).address)) w target n) memory
       by_missing a true b = missing_unchanged _ target n b
       by_missing a false b =
           branch_done (operation.BitBranch o) ZeroPageRelative n d
-          (bit_branch_taken o (memory_byte memory (place_of w memory ZeroPageRelative).address)) target b
+          (bit_branch_taken o (memory_byte memory (operand ZeroPageRelative).address)) target b
           (bit_branch_executes o n a b)
 
-  jump_done : (m : Mode) (n : ℕ) → (place_of w memory m).bus.missing ≡ false
-      → Executes operation.Jmp m n (worked_out (with_pc (place_of w memory m).address w.registers) Nothing n)
+  jump_done : (m : Mode) (n : ℕ) → (operand m).bus.missing ≡ false
+      → Executes operation.Jmp m n (worked_out (with_pc (operand m).address w.registers) Nothing n)
   unfolding execute_of carried_out operand_byte outcome_of operate_of jumped
   jump_done m n b = rw b refl
 
   pub jump_tries : {m : Mode} {n : ℕ} → Decodes operation.Jmp m n
-      → Tries halt span w memory (jump_tried w (place_of w memory m) n) memory
+      → Tries halt span w memory (jump_tried w (operand m) n) memory
   unfolding jump_tried
   jump_tries {m} {n} d =
-      failed_or_same (place_of w memory m).bus.missing _ (λ b. read_only operation.Jmp m n d _ _ (jump_done m n b))
+      failed_or_same (operand m).bus.missing _ (λ b. read_only operation.Jmp m n d _ _ (jump_done m n b))
 
   -- PHA and PHP
   push_done : (o : PushOperation) (n : ℕ)
@@ -353,13 +357,15 @@ module _ (start : Start) (memory : List ℕ) where
   unfolding flag_tried execute_of carried_out operand_byte outcome_of operate_of completed locate_of
   flag_tries {o} {n} d =
       read_only (operation.Flag o) Implied n d _ _
-      (ap (λ (k : ℕ). Done (worked_out (with_status (with_flag o w.registers.status) (behind_opcode w)) Nothing k)) (add-zero n))
+      (ap (λ (k : ℕ). Done (worked_out (with_status (with_flag o w.registers.status) (behind_opcode w)) Nothing k))
+      (add-zero n))
 
   pub no_operation_tries : {n : ℕ} → Decodes operation.Nop Implied n
       → Tries halt span w memory (started_next w (behind_opcode w) n) memory
   unfolding execute_of carried_out operand_byte outcome_of operate_of completed locate_of
   no_operation_tries {n} d =
-      read_only operation.Nop Implied n d _ _ (ap (λ (k : ℕ). Done (worked_out (behind_opcode w) Nothing k)) (add-zero n))
+      read_only operation.Nop Implied n d _ _
+      (ap (λ (k : ℕ). Done (worked_out (behind_opcode w) Nothing k)) (add-zero n))
 
   -- JSR
   abbrev lower : Fetched ℕ
