@@ -1,6 +1,6 @@
 -- One plain clock, by what it comes to.
 use Rattle.std.specs.Prelude.{Option}
-use mathlib.Core.Path.{◌≡◌, refl}
+use mathlib.Core.Path.{◌≡◌, ◌∙◌, refl}
 use mathlib.Core.Bool.{Bool, true, false, cond}
 use mathlib.Core.List.{List}
 use Prim.Native.Nat.{ℕ, ◌+◌, ◌-◌, ◌≤◌}
@@ -22,7 +22,10 @@ use Rattle.r6501q_clock.specs.declared.Ended.{Ended}
 use Rattle.r6501q_clock.specs.Clock.{halt_stop, clock_of}
 use Rattle.r6501q_advance.specs.declared.Progress.{Progress}
 use Rattle.r6501q_chip.specs.R6501q.{World, r6501q, end_of}
-use Rattle.r6501q_advance.specs.World.{halted_after, progress_to}
+use Rattle.page_sums.proofs.Sums.{sums_kept, sums_then}
+use Rattle.r6501q_advance.specs.declared.lent.SummedMemory.{SummedMemory}
+use Rattle.r6501q_advance.specs.declared.lent.LentLists.{LentLists}
+use Rattle.r6501q_advance.specs.World.{halted_after, progress_to, Summed, SameOutputs, StillLent}
 
 module _ (halt : Option ℕ) (w : World) (inputs : ℕ) (free : Bool) (on : w.stop ≡ 0)
     (counted : inputs ≡ input_count_in (r6501q halt) w) where
@@ -72,3 +75,32 @@ input_count_fits clock read clocks codes h e =
       input_count_within clock (drop read clocks),
       length-drop read clocks,
     )
+
+-- nothing is put into the lent memory, nor into the lists
+pub summed_kept : (m : SummedMemory) → Summed m m
+summed_kept m = record {
+  bytes = refl;
+  sums = refl;
+  sums_after = sums_kept 0 m.sums.now m.bytes.now m.sixteen_bits;
+}
+
+pub still_lent_kept : (l : LentLists) → StillLent l l
+still_lent_kept l = record {
+  inputclocks = refl;
+  inputcodes = refl;
+  outputs = record { outputclocks = refl; outputwords = refl };
+}
+
+-- from one time to the next, and to a later one
+pub summed_then : (a b c : SummedMemory) → Summed a b → Summed b c → Summed a c
+summed_then a b c first second = record {
+  bytes = second.bytes ∙ first.bytes;
+  sums = second.sums ∙ first.sums;
+  sums_after = sums_then 0 a.sums.now a.bytes.now b.bytes.now c.bytes.now first.sums_after second.sums_after;
+}
+
+pub same_outputs_then : (a b c : LentLists) → SameOutputs a b → SameOutputs b c → SameOutputs a c
+same_outputs_then a b c first second = record {
+  outputclocks = second.outputclocks ∙ first.outputclocks;
+  outputwords = second.outputwords ∙ first.outputwords;
+}

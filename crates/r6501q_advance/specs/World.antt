@@ -6,16 +6,18 @@ use Rattle.stops.specs.declared.Stop.{Stop}
 use Rattle.stops.specs.declared.Stop.TheVariants.{Halted}
 use Rattle.stops.specs.Stops.{number_of}
 use Rattle.refusals.specs.Refusals.{last_clock}
-use Rattle.leaps.specs.Lent.{Lent, LentToRead}
+use Rattle.page_sums.specs.PageSums.{sums_after}
 use Rattle.cpu_access.specs.declared.stack.Writes.{Writes}
 use Rattle.cpu_access.specs.Halt.{halts}
 use Rattle.r6501q_clock.specs.declared.Ended.{Ended}
 use Rattle.r6501q_advance.specs.declared.Progress.{Progress}
+use Rattle.r6501q_advance.specs.declared.lent.SummedMemory.{SummedMemory}
+use Rattle.r6501q_advance.specs.declared.lent.LentLists.{LentLists}
 use Rattle.r6501q_chip.specs.R6501q.{World}
 
--- the lent lists, and how far a call has come with them
-abbrev pub world_of : Progress → List ℕ → List ℕ → List ℕ → List ℕ → List ℕ → World
-world_of p memory input_clocks input_codes output_clocks output_words = record {
+-- a memory and lists, and how far a call has come with them
+abbrev pub world_with : Progress → List ℕ → List ℕ → List ℕ → List ℕ → List ℕ → World
+world_with p memory input_clocks input_codes output_clocks output_words = record {
   state = p.state;
   memory = memory;
   input_clocks = drop p.read input_clocks;
@@ -27,16 +29,28 @@ world_of p memory input_clocks input_codes output_clocks output_words = record {
   stop = number_of p.stop;
 }
 
--- the lent lists at a clock's entry and at its exit, and how far the call has come there; the inputs do not change
-abbrev pub world_at_entry : Progress → Lent → LentToRead → LentToRead → Lent → Lent → World
-world_at_entry p memory input_clocks input_codes output_clocks output_words =
-    world_of p memory.entry.now input_clocks.entry.now input_codes.entry.now output_clocks.entry.now
-    output_words.entry.now
+-- those that are lent
+abbrev pub world_of : Progress → SummedMemory → LentLists → World
+world_of p memory lists =
+    world_with p memory.bytes.now lists.inputclocks.now lists.inputcodes.now lists.outputclocks.now
+    lists.outputwords.now
 
-abbrev pub world_at_exit : Progress → Lent → LentToRead → LentToRead → Lent → Lent → World
-world_at_exit p memory input_clocks input_codes output_clocks output_words =
-    world_of p memory.exit.now input_clocks.entry.now input_codes.entry.now output_clocks.exit.now
-    output_words.exit.now
+-- the same memory and sums are lent, and the sums go by the memory
+pub record Summed (old new : SummedMemory) : Type 0 where
+  pub bytes : new.bytes.ghost_name ≡ old.bytes.ghost_name
+  pub sums : new.sums.ghost_name ≡ old.sums.ghost_name
+  pub sums_after : new.sums.now ≡ sums_after old.sums.now old.bytes.now new.bytes.now
+
+-- the same output lists are lent
+pub record SameOutputs (old new : LentLists) : Type 0 where
+  pub outputclocks : new.outputclocks.ghost_name ≡ old.outputclocks.ghost_name
+  pub outputwords : new.outputwords.ghost_name ≡ old.outputwords.ghost_name
+
+-- and the same inputs
+pub record StillLent (old new : LentLists) : Type 0 where
+  pub inputclocks : new.inputclocks ≡ old.inputclocks
+  pub inputcodes : new.inputcodes ≡ old.inputcodes
+  pub outputs : SameOutputs old new
 
 -- the two ends of a clock, of what the code carries: a stop, and nothing else changes; or the clock done, which has
 -- `inputs` inputs
@@ -56,10 +70,8 @@ progress_to halt e inputs p = record {
 }
 
 -- what a clock in code starts from
-pub record Going (p : Progress) (input_clocks input_codes output_clocks output_words : List ℕ) : Type 0 where
+pub record Going (p : Progress) (lists : LentLists) : Type 0 where
   pub clock : p.state.clock < last_clock
-  pub read : p.read ≤ length input_clocks
-  pub inputs : length input_clocks ≡ length input_codes
-  pub outputs : length output_clocks ≡ length output_words
-  pub written : p.written ≤ length output_clocks
+  pub read : p.read ≤ length lists.inputclocks.now
+  pub written : p.written ≤ length lists.outputclocks.now
   pub stop : p.stop ≡ None

@@ -1,19 +1,23 @@
 // One clock of the chip with its memory and pin lists.
 #![tactic(auto)]
 
+// Memory and lists as a call is lent them.
+pub mod lent;
+
 ghost use Rattle.std.specs.Prelude.{◌≡◌, ◌+◌, ◌≤◌, ◌<◌, ◌^◌, length, take, drop, set, is_some, unwrap_or};
 ghost use Rattle.bits.specs.Bits.{one_where};
-ghost use Rattle.page_sums.specs.PageSums.{sums_after};
 ghost use Rattle.pin_lists.specs.PinLists.{input_count};
 ghost use Rattle.refusals.specs.Refusals.{last_clock};
 ghost use Rattle.leaps.specs.World.{put_record};
 ghost use Rattle.memory_writes.specs.Commit.{committed};
 ghost use Rattle.r6501q_clock.specs.Clock.{clock_of};
 ghost use Rattle.r6501q_chip.specs.R6501q.{word_after, plain};
-ghost use Rattle.r6501q_advance.specs.World.{halted_after, progress_to, stopped_with, Going, world_at_entry, world_at_exit};
+ghost use Rattle.r6501q_advance.specs.World.{halted_after, progress_to, stopped_with, Going};
+ghost use Rattle.r6501q_advance.specs.World.{Summed, StillLent, world_of};
 
 use cpu_access::halt::halts;
 use cpu_access::stack::Writes;
+use lent::{LentLists, SummedMemory};
 use memory_writes::commit;
 use pin_lists::input_count;
 use r6501q_clock::Ended;
@@ -73,17 +77,17 @@ fn input_count_from(inputclocks: &[u32], from: usize, clock: u32) -> usize
 fn outcome_from(
     p: Progress,
     inputs: usize,
-    memory: &[u8],
+    memory: &SummedMemory,
     inputcodes: &[u8],
     free: bool,
 ) -> Result<Ended, Stop>
     requires { (p.state.clock < last_clock) × (p.read + inputs ≤ length inputcodes.now) }
     ensures { result ≡ clock_of p.state (take inputs (drop p.read inputcodes.now))
-        memory.now free }
+        memory.now.bytes.now free }
 {
     let from = p.read;
     let upto = from + inputs;
-    r6501q_clock::clock(p.state, &inputcodes[from..upto], memory, free)
+    r6501q_clock::clock(p.state, &inputcodes[from..upto], memory.bytes, free)
 }
 
 // The stop that a clock with these writes ends in, if any.
@@ -98,25 +102,30 @@ fn complete(
     p: Progress,
     inputs: usize,
     ended: Ended,
-    memory: &mut [u8],
-    sums: &mut [u16],
-    outputclocks: &mut [u32],
-    outputwords: &mut [u32],
+    memory: &mut SummedMemory,
+    lists: &mut LentLists,
     halt: Option<u16>,
 ) -> Progress
     requires { (p.read + inputs < 2 ^ 64) × (p.written + 1 < 2 ^ 64) }
     ensures value { result ≡ progress_to halt ended inputs p }
-    ensures memory_after { memory.new ≡ committed memory.old ended.writes }
-    ensures outputclocks_after { outputclocks.new
-        ≡ put_record (is_some ended.output) p.written ended.state.clock outputclocks.old }
-    ensures outputwords_after { outputwords.new
-        ≡ put_record (is_some ended.output) p.written (word_after ended) outputwords.old }
-    ensures sums_after { sums.new ≡ sums_after sums.old memory.old memory.new }
+    ensures bytes_after { memory.new.bytes.now ≡ committed memory.old.bytes.now ended.writes }
+    ensures outputclocks_after { lists.new.outputclocks.now
+        ≡ put_record (is_some ended.output) p.written ended.state.clock lists.old.outputclocks.now }
+    ensures outputwords_after { lists.new.outputwords.now
+        ≡ put_record (is_some ended.output) p.written (word_after ended) lists.old.outputwords.now }
+    ensures summed { Summed memory.old memory.new }
+    ensures still_lent { StillLent lists.old lists.new }
 {
     let state = ended.state;
     let output = ended.output;
-    commit(memory, sums, ended.writes);
-    let written = put_record(output, state.clock, p.written, outputclocks, outputwords);
+    commit(memory.bytes, memory.sums, ended.writes);
+    let written = put_record(
+        output,
+        state.clock,
+        p.written,
+        lists.outputclocks,
+        lists.outputwords,
+    );
     Progress {
         state: state,
         read: p.read + inputs,
@@ -141,33 +150,20 @@ fn stop_at(stop: Stop, p: Progress) -> Progress
 // One clock: what it comes to, and then what it does.
 pub fn advance(
     p: Progress,
-    memory: &mut [u8],
-    sums: &mut [u16],
-    inputclocks: &[u32],
-    inputcodes: &[u8],
-    outputclocks: &mut [u32],
-    outputwords: &mut [u32],
+    memory: &mut SummedMemory,
+    lists: &mut LentLists,
     halt: Option<u16>,
 ) -> Progress
-    requires { Going p inputclocks.now inputcodes.now outputclocks.old outputwords.old }
-    ensures outputwords_value { world_at_exit result memory inputclocks inputcodes outputclocks outputwords
-        ≡ plain halt (world_at_entry p memory inputclocks inputcodes outputclocks outputwords) }
-    ensures sums_after { sums.new ≡ sums_after sums.old memory.old memory.new }
+    requires { Going p lists.old }
+    ensures world { world_of result memory.new lists.new ≡ plain halt (world_of p memory.old lists.old) }
+    ensures summed { Summed memory.old memory.new }
+    ensures still_lent { StillLent lists.old lists.new }
 {
-    let inputs = input_count_from(inputclocks, p.read, p.state.clock + 1);
-    let free = p.written < outputclocks.len();
-    let clocked = outcome_from(p, inputs, memory, inputcodes, free);
+    let inputs = input_count_from(lists.inputclocks, p.read, p.state.clock + 1);
+    let free = p.written < lists.outputclocks.len();
+    let clocked = outcome_from(p, inputs, memory, lists.inputcodes, free);
     match clocked {
         Err(stop) => stop_at(stop, p),
-        Ok(ended) => complete(
-            p,
-            inputs,
-            ended,
-            memory,
-            sums,
-            outputclocks,
-            outputwords,
-            halt,
-        ),
+        Ok(ended) => complete(p, inputs, ended, memory, lists, halt),
     }
 }

@@ -28,11 +28,12 @@ use Rattle.r6501q_events.specs.Gaps.{clocks_of, gap_of}
 use Rattle.r6501q_events.proofs.Gaps.{gap_le}
 use Rattle.r6501q_events.proofs.Passing.{pass_clock}
 use Rattle.r6501q_advance.specs.declared.Progress.{Progress}
+use Rattle.r6501q_advance.specs.declared.lent.LentLists.{LentLists}
 use Rattle.r6501q_chip.specs.R6501q.{World, r6501q_limits, r6501q, plain, system, machine}
-use Rattle.r6501q_advance.specs.World.{world_of, Going}
+use Rattle.r6501q_advance.specs.World.{world_with, Going}
 use Rattle.r6501q_step.specs.Calls.{handed, begin, refusal_result, progress_result, leaps_from}
 use Rattle.r6501q_leap.specs.declared.Leaped.{Leaped}
-use Rattle.r6501q_leap.specs.RunInCode.{passed_by, goes_on, run_from, run_ended, begin_run, Leaping}
+use Rattle.r6501q_leap.specs.RunInCode.{passed_by, goes_on, run_from, run_ended, begin_run, Leaping, LeapingOn}
 use Rattle.r6501q_leap.proofs.Laws.{laws, lawful}
 
 -- the gap of a world
@@ -87,12 +88,12 @@ leap_run halt n leaps w v h z e = rw (run_leap (system halt) (lawful halt) n w h
 
 module _ (halt : Option ℕ) (memory clocks codes times words memory' times' words' : List ℕ) (p q : Progress) (n : ℕ)
     (l : Leaping p n clocks codes times words)
-    (e : world_of q memory' clocks codes times' words'
-    ≡ leap_of (system halt) n (world_of p memory clocks codes times words)) where
+    (e : world_with q memory' clocks codes times' words'
+    ≡ leap_of (system halt) n (world_with p memory clocks codes times words)) where
   abbrev w : World
-  w = world_of p memory clocks codes times words
+  w = world_with p memory clocks codes times words
 
-  went : Leapt n w (world_of q memory' clocks codes times' words')
+  went : Leapt n w (world_with q memory' clocks codes times' words')
   went = rw e (leap_goes halt n w)
 
   -- and what holds at its end
@@ -110,7 +111,7 @@ pub run_ended_lem : (halt : Option ℕ) (l : Leaped) (memory clocks codes times 
     → run_ended l memory clocks codes times words ≡ run_from halt l memory clocks codes times words
 run_ended_lem halt l memory clocks codes times words e =
     rw (
-      run_over (system halt) (lawful halt) l.left.0 (world_of l.progress memory clocks codes times words)
+      run_over (system halt) (lawful halt) l.left.0 (world_with l.progress memory clocks codes times words)
           (rw (number_none l.progress.stop) e),
       add-zero l.leaps,
     )
@@ -173,14 +174,11 @@ gap_fits p n clocks codes times words gap l e =
     omega (arith, l.clock, gap_le n p.state (drop p.read clocks))
 
 -- an event clock that is reached may be done
-pub passed_goes : (p : Progress) (n : ℕ) (clocks codes times words : List ℕ) (gap : Clocks)
-    → Leaping p n clocks codes times words
-    → p.stop ≡ None → gap.0 < n → Going (passed_by gap p) clocks codes times words
-passed_goes p n clocks codes times words gap l on h = record {
+pub passed_goes : (p : Progress) (n : ℕ) (lists : LentLists) (gap : Clocks) → LeapingOn p n lists → p.stop ≡ None
+    → gap.0 < n → Going (passed_by gap p) lists
+passed_goes p n lists gap l on h = record {
   clock = omega (arith, l.clock, pass_clock p.state gap.0);
   read = l.read;
-  inputs = l.inputs;
-  outputs = l.outputs;
   written = l.written;
   stop = on;
 }
@@ -203,18 +201,18 @@ module _ (halt : Option ℕ) (memory clocks codes times words memory' times' wor
     (l : Leaping at.progress at.left.0 clocks codes times words) (some : 0 < at.left.0)
     (on : at.progress.stop ≡ None)
     (bound : at.leaps + at.left.0 ≤ last_clock)
-    (e : world_of r.progress memory' clocks codes times' words'
-    ≡ leap_of (system halt) at.left.0 (world_of at.progress memory clocks codes times words))
+    (e : world_with r.progress memory' clocks codes times' words'
+    ≡ leap_of (system halt) at.left.0 (world_with at.progress memory clocks codes times words))
     (left : r.left
-    ≡ clocks_of (left_after (system halt) at.left.0 (world_of at.progress memory clocks codes times words)))
+    ≡ clocks_of (left_after (system halt) at.left.0 (world_with at.progress memory clocks codes times words)))
     (leaps : r.leaps ≡ at.leaps + leaps_from at.progress.state.clock r.progress.state.clock) where
   abbrev before : World
-  before = world_of at.progress memory clocks codes times words
+  before = world_with at.progress memory clocks codes times words
 
   pub later_run : run_from halt r memory' clocks codes times' words' ≡ run_from halt at memory clocks codes times words
   later_run =
       rw (left, leaps)
-      (leap_run halt at.left.0 at.leaps before (world_of r.progress memory' clocks codes times' words') some
+      (leap_run halt at.left.0 at.leaps before (world_with r.progress memory' clocks codes times' words') some
       (rw on refl) e)
 
   pub later_leaping : Leaping r.progress r.left.0 clocks codes times' words'

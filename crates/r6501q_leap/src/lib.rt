@@ -2,15 +2,15 @@
 #![tactic(auto)]
 
 ghost use Rattle.std.specs.Prelude.{◌≡◌, None, ◌+◌, ◌-◌, ◌≤◌, ◌<◌, length, drop};
-ghost use Rattle.page_sums.specs.PageSums.{sums_after};
 ghost use Rattle.leaps.specs.Leaps.{leap_of, left_after};
 ghost use Rattle.r6501q_events.specs.Gaps.{gap_of, clocks_of};
 ghost use Rattle.r6501q_chip.specs.R6501q.{system};
-ghost use Rattle.r6501q_advance.specs.World.{world_at_entry, world_at_exit};
+ghost use Rattle.r6501q_advance.specs.World.{Summed, StillLent, world_of};
 ghost use Rattle.r6501q_step.specs.Calls.{leaps_from};
-ghost use Rattle.r6501q_leap.specs.RunInCode.{passed_by, Leaping};
+ghost use Rattle.r6501q_leap.specs.RunInCode.{passed_by, LeapingOn};
 
 use counters::time::Clocks;
+use r6501q_advance::lent::{LentLists, SummedMemory};
 use r6501q_advance::{Progress, advance};
 use r6501q_step::leaps_from;
 
@@ -60,33 +60,21 @@ fn leap(
     p: Progress,
     left: Clocks,
     gap: Clocks,
-    memory: &mut [u8],
-    sums: &mut [u16],
-    inputclocks: &[u32],
-    inputcodes: &[u8],
-    outputclocks: &mut [u32],
-    outputwords: &mut [u32],
+    memory: &mut SummedMemory,
+    lists: &mut LentLists,
     halt: Option<u16>,
 ) -> Progress
-    requires leaping { Leaping p left.0 inputclocks.now inputcodes.now outputclocks.old outputwords.old }
+    requires leaping { LeapingOn p left.0 lists.old }
     requires stop_value { p.stop ≡ None }
-    requires gap_value { gap ≡ gap_of left.0 p.state (drop p.read inputclocks.now) }
-    ensures outputwords_value { world_at_exit result memory inputclocks inputcodes outputclocks outputwords
-        ≡ leap_of (system halt) left.0 (world_at_entry p memory inputclocks inputcodes outputclocks outputwords) }
-    ensures sums_after { sums.new ≡ sums_after sums.old memory.old memory.new }
+    requires gap_value { gap ≡ gap_of left.0 p.state (drop p.read lists.old.inputclocks.now) }
+    ensures world { world_of result memory.new lists.new
+        ≡ leap_of (system halt) left.0 (world_of p memory.old lists.old) }
+    ensures summed { Summed memory.old memory.new }
+    ensures still_lent { StillLent lists.old lists.new }
 {
     let passed = pass_progress(p, gap);
     if gap.0 < left.0 {
-        return advance(
-            passed,
-            memory,
-            sums,
-            inputclocks,
-            inputcodes,
-            outputclocks,
-            outputwords,
-            halt,
-        );
+        return advance(passed, memory, lists, halt);
     }
     passed
 }
@@ -94,42 +82,25 @@ fn leap(
 // One leap more of a run.
 pub fn leap_once(
     at: Leaped,
-    memory: &mut [u8],
-    sums: &mut [u16],
-    inputclocks: &[u32],
-    inputcodes: &[u8],
-    outputclocks: &mut [u32],
-    outputwords: &mut [u32],
+    memory: &mut SummedMemory,
+    lists: &mut LentLists,
     halt: Option<u16>,
 ) -> Leaped
-    requires leaping { Leaping at.progress at.left.0 inputclocks.now inputcodes.now outputclocks.old
-        outputwords.old }
+    requires leaping { LeapingOn at.progress at.left.0 lists.old }
     requires left_nonzero { (0 < at.left.0) × (at.progress.stop ≡ None) }
     requires left_bound { at.leaps + at.left.0 ≤ 4294967295 }
-    ensures outputwords_value { world_at_exit result.progress memory inputclocks inputcodes outputclocks outputwords
-        ≡ leap_of (system halt) at.left.0
-        (world_at_entry at.progress memory inputclocks inputcodes outputclocks outputwords) }
+    ensures world { world_of result.progress memory.new lists.new
+        ≡ leap_of (system halt) at.left.0 (world_of at.progress memory.old lists.old) }
     ensures left_value { result.left
-        ≡ clocks_of (left_after (system halt) at.left.0
-        (world_at_entry at.progress memory inputclocks inputcodes outputclocks outputwords)) }
+        ≡ clocks_of (left_after (system halt) at.left.0 (world_of at.progress memory.old lists.old)) }
     ensures leaps_value { result.leaps ≡ at.leaps + leaps_from at.progress.state.clock result.progress.state.clock }
-    ensures sums_after { sums.new ≡ sums_after sums.old memory.old memory.new }
+    ensures summed { Summed memory.old memory.new }
+    ensures still_lent { StillLent lists.old lists.new }
 {
     let p = at.progress;
     let left = at.left;
-    let gap = gap_from(p, left, inputclocks);
-    let q = leap(
-        p,
-        left,
-        gap,
-        memory,
-        sums,
-        inputclocks,
-        inputcodes,
-        outputclocks,
-        outputwords,
-        halt,
-    );
+    let gap = gap_from(p, left, lists.inputclocks);
+    let q = leap(p, left, gap, memory, lists, halt);
     let moved = leaps_from(p.state.clock, q.state.clock);
     Leaped {
         progress: q,

@@ -17,7 +17,7 @@ use Rattle.leaps.specs.World.{WorldOf, after, input_count_in, outcome_in, plain_
 use Rattle.leaps.proofs.Along.{Unaffected, run_along}
 use Rattle.r6501q_events.specs.Gaps.{clocks_of}
 use Rattle.r6501q_chip.specs.R6501q.{World, r6501q, system}
-use Rattle.r6501q_advance.specs.World.{world_of}
+use Rattle.r6501q_advance.specs.World.{world_with}
 use Rattle.r6501q_step.specs.Calls.{leaps_from}
 use Rattle.r6501q_advance.proofs.Worlds.{lent_part}
 use Rattle.r6501q_leap.specs.declared.Leaped.{Leaped}
@@ -100,8 +100,8 @@ rest_run : (halt : Option ℕ) (l : Leaped) (memory clocks codes times words : L
 rest_run halt l memory clocks codes times words =
     let k = l.progress.read in
     let rest : World =
-    world_of (unread l).progress memory (drop k clocks) (drop k codes) times words in
-    let before : World = world_of l.progress memory clocks codes times words in
+    world_with (unread l).progress memory (drop k clocks) (drop k codes) times words in
+    let before : World = world_with l.progress memory clocks codes times words in
     let same : before ≡ read_before k rest = rw (add-zero k) in
     ap {B = Run World} (λ (r : Run World). record { world = r.world; leaps = l.leaps + r.leaps })
     (ap (run (system halt) l.left.0) same
@@ -121,9 +121,6 @@ module _ (halt : Option ℕ) (start : Leaped) (memory₀ input_clocks input_code
     pub within : length clocks ≤ length input_clocks
     pub leaping : Leaping at.progress at.left.0 clocks codes times words
     pub bound : at.leaps + at.left.0 ≤ last_clock
-    pub memory_kept : length memory ≡ length memory₀
-    pub times_kept : length times ≡ length times₀
-    pub words_kept : length words ≡ length words₀
 
   pub run_so_far_begins : Leaping start.progress start.left.0 input_clocks input_codes times₀ words₀
       → start.leaps + start.left.0 ≤ last_clock → RunSoFar memory₀ times₀ words₀ start input_clocks input_codes
@@ -136,19 +133,16 @@ module _ (halt : Option ℕ) (start : Leaped) (memory₀ input_clocks input_code
         within = omega arith;
         leaping = l;
         bound = b;
-        memory_kept = refl;
-        times_kept = refl;
-        words_kept = refl;
       }
 
   module _ {memory times words : List ℕ} {at : Leaped} {clocks codes : List ℕ}
       (k : RunSoFar memory times words at clocks codes) where
     -- one leap
     module _ {memory' times' words' : List ℕ} (r : Leaped) (on : goes_on at ≡ true)
-        (e : world_of r.progress memory' clocks codes times' words'
-        ≡ leap_of (system halt) at.left.0 (world_of at.progress memory clocks codes times words))
+        (e : world_with r.progress memory' clocks codes times' words'
+        ≡ leap_of (system halt) at.left.0 (world_with at.progress memory clocks codes times words))
         (left : r.left
-        ≡ clocks_of (left_after (system halt) at.left.0 (world_of at.progress memory clocks codes times words)))
+        ≡ clocks_of (left_after (system halt) at.left.0 (world_with at.progress memory clocks codes times words)))
         (leaps : r.leaps ≡ at.leaps + leaps_from at.progress.state.clock r.progress.state.clock) where
       fits : (r.leaps + r.left.0 ≤ last_clock) × (r.left.0 < at.left.0)
       fits =
@@ -158,9 +152,8 @@ module _ (halt : Option ℕ) (start : Leaped) (memory₀ input_clocks input_code
       pub leapt_fewer : r.left.0 < at.left.0
       leapt_fewer = fits.1
 
-      pub leapt : length memory' ≡ length memory → length times' ≡ length times → length words' ≡ length words
-          → RunSoFar memory' times' words' r clocks codes
-      leapt m t w = record {
+      pub leapt : RunSoFar memory' times' words' r clocks codes
+      leapt = record {
         run =
             ap (run_before (read_to clocks))
             (later_run halt memory clocks codes times words memory' times' words' at r k.leaping
@@ -172,24 +165,18 @@ module _ (halt : Option ℕ) (start : Leaped) (memory₀ input_clocks input_code
             later_leaping halt memory clocks codes times words memory' times' words' at r k.leaping
             (goes_some at on) (goes_unstopped at on) k.bound e left leaps;
         bound = fits.0;
-        memory_kept = m ∙ k.memory_kept;
-        times_kept = t ∙ k.times_kept;
-        words_kept = w ∙ k.words_kept;
       }
 
     -- the leaps of a span
     pub spanned : {memory' : List ℕ} {r : Leaped} → Spanned halt at memory r memory' clocks
-        → length memory' ≡ length memory → RunSoFar memory' times words r clocks codes
-    spanned {memory'} {r} z m = record {
+        → RunSoFar memory' times words r clocks codes
+    spanned {memory'} {r} z = record {
       run = ap (run_before (read_to clocks)) (run_later halt at r memory memory' clocks codes times words z) ∙ k.run;
       clocks_rest = k.clocks_rest;
       codes_rest = k.codes_rest;
       within = k.within;
       leaping = leaping_later halt at r memory memory' clocks codes times words z k.leaping;
       bound = omega (arith, z.bound, k.bound);
-      memory_kept = m ∙ k.memory_kept;
-      times_kept = k.times_kept;
-      words_kept = k.words_kept;
     }
 
     -- the inputs read are there, and are what the rest and the list differ by
@@ -227,9 +214,6 @@ module _ (halt : Option ℕ) (start : Leaped) (memory₀ input_clocks input_code
             written = k.leaping.written;
           };
           bound = k.bound;
-          memory_kept = k.memory_kept;
-          times_kept = k.times_kept;
-          words_kept = k.words_kept;
         })
 
     -- the loop is over

@@ -8,10 +8,12 @@ ghost use Rattle.leaps.specs.Lent.{at_entry};
 ghost use Rattle.leaps.specs.Summed.{with_sums};
 ghost use Rattle.r6501q_chip.specs.R6501q.{machine};
 ghost use Rattle.r6501q_step.specs.Calls.{at_exit};
-ghost use Rattle.r6501q_leap.specs.RunInCode.{goes_on, run_from, run_ended, begin_run, Leaping};
+ghost use Rattle.r6501q_leap.specs.RunInCode.{goes_on, run_from, run_ended, begin_run, LeapingOn};
+ghost use Rattle.r6501q_advance.specs.World.{Summed, SameOutputs};
 
 use counters::time::Clocks;
 use page_sums::page_list_refused;
+use r6501q_advance::lent::{LentLists, SummedMemory};
 use r6501q_leap::{Leaped, leap_once};
 use r6501q_span_leaps::leap_span;
 use r6501q_state::state::State;
@@ -25,48 +27,34 @@ fn goes_on(at: Leaped) -> bool
     (0 < at.left.0) & at.progress.stop.is_none()
 }
 
-// Leaps, until no clock is left or one stops. The input lists that each is lent begin at the first unread entry, and
-// its inputs read are counted from there; in the end those count that the rest lacks.
+// Leaps, until no clock is left or one stops. Each is lent the inputs from the first unread entry on, and its inputs
+// read are counted from there; in the end those count that the rest lacks.
 fn leap_on(
     start: Leaped,
-    memory: &mut [u8],
-    sums: &mut [u16],
-    inputclocks: &[u32],
-    inputcodes: &[u8],
-    outputclocks: &mut [u32],
-    outputwords: &mut [u32],
+    memory: &mut SummedMemory,
+    lists: &mut LentLists,
     halt: Option<u16>,
 ) -> Leaped
-    requires leaping { Leaping start.progress start.left.0 inputclocks.now inputcodes.now outputclocks.old
-        outputwords.old }
+    requires leaping { LeapingOn start.progress start.left.0 lists.old }
     requires left_bound { start.leaps + start.left.0 ≤ 4294967295 }
-    ensures outputwords_after { run_ended result memory.new inputclocks.now inputcodes.now
-        outputclocks.new outputwords.new
-        ≡ run_from halt start memory.old inputclocks.now inputcodes.now
-        outputclocks.old outputwords.old }
-    ensures sums_after { sums.new ≡ sums_after sums.old memory.old memory.new }
+    ensures run { run_ended result memory.new.bytes.now lists.old.inputclocks.now lists.old.inputcodes.now
+        lists.new.outputclocks.now lists.new.outputwords.now
+        ≡ run_from halt start memory.old.bytes.now lists.old.inputclocks.now lists.old.inputcodes.now
+        lists.old.outputclocks.now lists.old.outputwords.now }
+    ensures summed { Summed memory.old memory.new }
+    ensures outputs { SameOutputs lists.old lists.new }
 {
+    let given = lists.inputclocks.len();
     let mut at = start;
-    let mut clocks = inputclocks;
-    let mut codes = inputcodes;
     while goes_on(at) {
-        at = leap_once(
-            at,
-            memory,
-            sums,
-            clocks,
-            codes,
-            outputclocks,
-            outputwords,
-            halt,
-        );
+        at = leap_once(at, memory, lists, halt);
         let from = at.progress.read;
-        clocks = &clocks[from..];
-        codes = &codes[from..];
+        lists.inputclocks = &lists.inputclocks[from..];
+        lists.inputcodes = &lists.inputcodes[from..];
         at.progress.read = 0;
-        at = leap_span(at, memory, sums, clocks, halt);
+        at = leap_span(at, memory.bytes, memory.sums, lists.inputclocks, halt);
     }
-    let read = inputclocks.len() - clocks.len() + at.progress.read;
+    let read = given - lists.inputclocks.len() + at.progress.read;
     at.progress.read = read;
     at
 }
@@ -112,16 +100,17 @@ fn run_into(
     if let Err(refusal) = checked {
         return refused(refusal, state);
     }
-    let end = leap_on(
-        begin_run(state, n),
-        memory,
+    let mut memory = SummedMemory {
+        bytes: memory,
         sums,
+    };
+    let mut lists = LentLists {
         inputclocks,
         inputcodes,
         outputclocks,
         outputwords,
-        halt,
-    );
+    };
+    let end = leap_on(begin_run(state, n), &mut memory, &mut lists, halt);
     result_of(end.leaps, end.progress)
 }
 

@@ -25,7 +25,7 @@ use Rattle.r6501q_state.specs.declared.state.State.{State}
 use Rattle.std.specs.Prelude.{Ok}
 use Rattle.memory_writes.specs.Commit.{put_write, committed}
 use Rattle.r6501q_chip.specs.R6501q.{system}
-use Rattle.r6501q_advance.specs.World.{world_of}
+use Rattle.r6501q_advance.specs.World.{world_with}
 use Rattle.r6501q_spans.specs.Spans.{none_waiting}
 use Rattle.r6501q_span_work.specs.Work.{continued_by, committed_by, work_by, memory_by}
 use Rattle.cpu_access.specs.Halt.{ends_span}
@@ -145,8 +145,8 @@ module _ (halt : Option ℕ) (at r : Leaped) (memory memory' clocks codes times 
     (z : Spanned halt at memory r memory' clocks) where
   pub run_later : run_from halt r memory' clocks codes times words ≡ run_from halt at memory clocks codes times words
   run_later =
-      let w = world_of at.progress memory clocks codes times words in
-      let v = world_of r.progress memory' clocks codes times words in
+      let w = world_with at.progress memory clocks codes times words in
+      let v = world_with r.progress memory' clocks codes times words in
       rw (
         by_leaps_run (system halt) (lawful halt) (z.by_leaps codes times words),
         z.leaps,

@@ -37,7 +37,7 @@ use Rattle.r6501q_unseen.proofs.TickClocks.{on_tick_lem, peripherals_add, ticks_
 use Rattle.r6501q_unseen.proofs.Laws.{ticks_one, first_tick, ticks_most}
 use Rattle.r6501q_advance.specs.declared.Progress.{Progress}
 use Rattle.r6501q_chip.specs.R6501q.{World, r6501q, system}
-use Rattle.r6501q_advance.specs.World.{world_of}
+use Rattle.r6501q_advance.specs.World.{world_with}
 use Rattle.r6501q_spans.specs.Spans.{begin_work, none_waiting, next_working}
 use Rattle.r6501q_span_work.specs.Work.{work_after}
 use Rattle.cpu_access.specs.Halt.{ends_span}
@@ -107,12 +107,12 @@ module _ (halt : Option ℕ) (at : Leaped) (clocks : List ℕ) (span : ℕ) (on 
         written = at.progress.written;
         stop = at.progress.stop;
       } in
-      world_of p memory clocks codes times words
+      world_with p memory clocks codes times words
 
   -- `at` with the span's clocks gone so far is reached by so many whole leaps
   abbrev Reached : ℕ → List ℕ → Working → List ℕ → Type 0
   Reached made memory₀ v memory = (codes times words : List ℕ)
-      → ByLeaps (system halt) at.left.0 (world_of at.progress memory₀ clocks codes times words)
+      → ByLeaps (system halt) at.left.0 (world_with at.progress memory₀ clocks codes times words)
       made (at.left.0 - v.work.gone.0) (world_at v memory codes times words)
 
   -- one leap more: a gap of e clocks, and the event clock after them, which comes to `next`
@@ -553,8 +553,8 @@ module _ (halt : Option ℕ) (at : Leaped) (clocks : List ℕ) (span : ℕ) (mem
       counted = refl;
       leapt = λ codes times words.
           subst (λ (l : Leaped). ByLeaps (system halt) at.left.0
-          (world_of at.progress memory₀ clocks codes times words) 0 l.left.0
-          (world_of l.progress memory₀ clocks codes times words))
+          (world_with at.progress memory₀ clocks codes times words) 0 l.left.0
+          (world_with l.progress memory₀ clocks codes times words))
           (sym (begin_same at at.left.0 (drop at.progress.read clocks) span b.alone)) no_leap;
     };
     room = record { gone = omega arith; leaps = omega arith };

@@ -2,7 +2,7 @@
 use Rattle.std.specs.Prelude.{◌≡◌, List, ℕ, ◌+◌, ◌≤◌, Option}
 use Rattle.leaps.specs.Leaps.{ByLeaps}
 use Rattle.r6501q_chip.specs.R6501q.{system}
-use Rattle.r6501q_advance.specs.World.{world_of}
+use Rattle.r6501q_advance.specs.World.{world_with}
 use Rattle.r6501q_leap.specs.declared.Leaped.{Leaped}
 
 -- `r` is reached from `at` by so many whole leaps of document 01's, each the gap, the gap passed and the event clock,
@@ -13,8 +13,8 @@ pub record Spanned (halt : Option ℕ) (at : Leaped) (memory : List ℕ) (r : Le
   pub made : ℕ
   pub by_leaps : (input_codes output_clocks output_words : List ℕ)
       → ByLeaps (system halt) at.left.0
-      (world_of at.progress memory input_clocks input_codes output_clocks output_words)
-      made r.left.0 (world_of r.progress memory' input_clocks input_codes output_clocks output_words)
+      (world_with at.progress memory input_clocks input_codes output_clocks output_words)
+      made r.left.0 (world_with r.progress memory' input_clocks input_codes output_clocks output_words)
   pub leaps : r.leaps ≡ at.leaps + made
   -- what fits still fits, and no input is read and no record written
   pub clock : r.progress.state.clock + r.left.0 ≤ at.progress.state.clock + at.left.0

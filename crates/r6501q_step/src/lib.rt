@@ -13,6 +13,7 @@ ghost use Rattle.r6501q_step.specs.Calls.{begin, refusal_result, progress_result
 
 use memory::MEMORY_LENGTH;
 use page_sums::page_list_refused;
+use r6501q_advance::lent::{LentLists, SummedMemory};
 use r6501q_advance::{Progress, advance};
 use r6501q_state::inputs::LAST_PIN;
 use r6501q_state::state::{State, well_formed};
@@ -140,16 +141,17 @@ fn step_into(
     if let Err(refusal) = checked {
         return refused(refusal, state);
     }
-    let end = advance(
-        begin(state),
-        memory,
+    let mut memory = SummedMemory {
+        bytes: memory,
         sums,
+    };
+    let mut lists = LentLists {
         inputclocks,
         inputcodes,
         outputclocks,
         outputwords,
-        halt,
-    );
+    };
+    let end = advance(begin(state), &mut memory, &mut lists, halt);
     let leaps = leaps_from(state.clock, end.state.clock);
     result_of(leaps, end)
 }

@@ -17,11 +17,12 @@ overflow_add-result c =
 
 pub returns : goal.returns
 returns c = record {
-  outputwords_value = c.leap-q.ensures.outputwords_value;
+  world = c.leap-q.ensures.world;
   left_value = rw (
     c.left_after.ensures,
     c.gap_from-gap.ensures,
   );
   leaps_value = rw c.leaps_from-moved.ensures;
-  sums_after = c.leap-q.ensures.sums_after;
+  summed = c.leap-q.ensures.summed;
+  still_lent = c.leap-q.ensures.still_lent;
 }

@@ -1,14 +1,17 @@
-use mathlib.Core.Path.{◌≡◌}
-use Rattle.page_sums.specs.PageSums.{sums_after}
+use Rattle.r6501q_advance.specs.World.{Summed, SameOutputs}
 use Rattle.r6501q_run.proofs.Rests.{RunSoFar}
 use Rattle.r6501q_run.proofs.leap_on.Given as goal
 
-abbrev pub invariant-loop-codes : goal.invariant-loop-codes
-invariant-loop-codes l = RunSoFar l.halt l.initial.at l.initial.memory l.inputclocks l.inputcodes
-    l.initial.outputclocks l.initial.outputwords l.memory l.outputclocks l.outputwords l.at
-    l.clocks
-    l.codes
-    × (l.sums ≡ sums_after l.initial.sums l.initial.memory l.memory)
+-- what the loop keeps, beside what the types do
+abbrev pub invariant-loop-halt : goal.invariant-loop-halt
+invariant-loop-halt l = record {
+  run : RunSoFar l.halt l.initial.at l.initial.memory.bytes.now l.initial.lists.inputclocks.now
+      l.initial.lists.inputcodes.now l.initial.lists.outputclocks.now l.initial.lists.outputwords.now
+      l.memory.bytes.now l.lists.outputclocks.now l.lists.outputwords.now l.at l.lists.inputclocks.now
+      l.lists.inputcodes.now;
+  summed : Summed l.initial.memory l.memory;
+  outputs : SameOutputs l.initial.lists l.lists;
+}
 
-abbrev pub decreases-loop-codes : goal.decreases-loop-codes
-decreases-loop-codes l = l.at.left.0
+abbrev pub decreases-loop-halt : goal.decreases-loop-halt
+decreases-loop-halt l = l.at.left.0
