@@ -25,7 +25,7 @@ use Rattle.r6501q_chip.specs.R6501q.{World, r6501q, end_of}
 use Rattle.page_sums.proofs.Sums.{sums_kept, sums_then}
 use Rattle.r6501q_advance.specs.declared.lent.SummedMemory.{SummedMemory}
 use Rattle.r6501q_advance.specs.declared.lent.LentLists.{LentLists}
-use Rattle.r6501q_advance.specs.World.{halted_after, progress_to, Summed, SameOutputs, StillLent}
+use Rattle.r6501q_advance.specs.World.{halted_after, progress_to, Summed, StillLent}
 
 module _ (halt : Option ℕ) (w : World) (inputs : ℕ) (free : Bool) (on : w.stop ≡ 0)
     (counted : inputs ≡ input_count_in (r6501q halt) w) where
@@ -97,10 +97,4 @@ summed_then a b c first second = record {
   bytes = second.bytes ∙ first.bytes;
   sums = second.sums ∙ first.sums;
   sums_after = sums_then 0 a.sums.now a.bytes.now b.bytes.now c.bytes.now first.sums_after second.sums_after;
-}
-
-pub same_outputs_then : (a b c : LentLists) → SameOutputs a b → SameOutputs b c → SameOutputs a c
-same_outputs_then a b c first second = record {
-  outputclocks = second.outputclocks ∙ first.outputclocks;
-  outputwords = second.outputwords ∙ first.outputwords;
 }
