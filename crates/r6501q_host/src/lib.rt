@@ -140,6 +140,7 @@ pub struct HostTotalResult {
 impl From<HostWaiting> for Option<Write> {
     ghost from_gives = { λ host waiting. waiting ≡ waiting_from_host host };
 
+    #[tactic(auto, unfolding(crate::specs::Host::waiting_from_host))]
     fn from(host: HostWaiting) -> Option<Write> {
         (host.there == 1).then_some(Write {
             address: host.address,

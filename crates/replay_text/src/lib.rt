@@ -5,12 +5,15 @@ ghost use Rattle.std.specs.Prelude.{◌≡◌, length, take};
 ghost use Rattle.memory.specs.Memory.{memory_length};
 ghost use Rattle.replay_text.specs.Replay.{tape_length, ran_of, replay_of};
 ghost use Rattle.replay_text.specs.Printed.{printed};
+ghost use Rattle.record_text.specs.Lines.{end_line};
+ghost use Rattle.tape.specs.Tapes.{fault_number};
 
 use memory::MEMORY_LENGTH;
 use printed::{RECORDS, Replay};
 use r6501q_state::inputs::RES_HIGH;
 use r6501q_state::state::fresh_state;
 use record_text::End;
+use tape::LoadFault;
 
 pub mod printed; // printed.rt: what a replay comes to, and what it prints
 
@@ -52,6 +55,22 @@ fn run_loaded(memory: &mut [u8]) -> Replay
     }
 }
 
+// A refused tape: no clock is done.
+fn refused(fault: LoadFault) -> Replay
+    ensures { printed result ≡ end_line 0 (fault_number fault) }
+{
+    let end = End {
+        done: 0,
+        number: fault.into(),
+    };
+    Replay {
+        times: [0; RECORDS],
+        words: [0; RECORDS],
+        written: 0,
+        end,
+    }
+}
+
 // Replays a tape.
 pub fn replay(tape: &[u8]) -> Replay
     ensures { printed result ≡ replay_of tape.now }
@@ -59,15 +78,7 @@ pub fn replay(tape: &[u8]) -> Replay
     let mut memory = [0u8; MEMORY_LENGTH];
     match tape::load(tape, &mut memory) {
         Ok(_) => run_loaded(&mut memory),
-        Err(error) => Replay {
-            times: [0; RECORDS],
-            words: [0; RECORDS],
-            written: 0,
-            end: End {
-                done: 0,
-                number: error.fault.into(),
-            },
-        },
+        Err(error) => refused(error.fault),
     }
 }
 

@@ -1,7 +1,6 @@
 use mathlib.Core.Path.{refl, ◌∙◌}
 use Rattle.tape.specs.Tapes.{load_result, fault_number}
 use Rattle.tape.proofs.Laws.{some_fault}
-use Rattle.record_text.specs.Lines.{record_lines, outcome_lines}
 use Rattle.replay_text.specs.Replay.{zero_memory}
 use Rattle.replay_text.proofs.Laws.{replay_refused, replay_ran}
 use Rattle.replay_text.proofs.replay.Goals as goal
@@ -12,9 +11,9 @@ returns-in-Ok c =
     c.run_loaded.ensures ∙ replay_ran c.args.tape.now c.load.new.memory _ c.in-Ok.ensures refl
 
 pub returns-in-Err : goal.returns-in-Err
-unfolding zero_memory outcome_lines record_lines
+unfolding zero_memory
 returns-in-Err c =
     let fault = c.in-Err.error.fault in
-    rw c.into.ensures
-    (replay_refused c.args.tape.now c.load.new.memory (load_result (fault_number fault) c.in-Err.error.place)
-    c.in-Err.ensures (some_fault fault))
+    c.refused.ensures
+    ∙ replay_refused c.args.tape.now c.load.new.memory (load_result (fault_number fault) c.in-Err.error.place)
+    c.in-Err.ensures (some_fault fault)

@@ -1,6 +1,6 @@
 use mathlib.Core.Path.{refl}
 use Rattle.r6501q_host.specs.Host.{host_waiting}
-use Rattle.r6501q_host.proofs.HostWaitingFromWaiting.from.Goals as goal
+use Rattle.r6501q_host.proofs.HostWaitingFromOptionWrite.from.Goals as goal
 
 pub returns-in-None : goal.returns-in-None
 unfolding host_waiting
