@@ -140,17 +140,12 @@ pub fn answered_instruction(s: State, memory: &[u8]) -> Result<Next, Stop>
 {
     let mut answers = [0u8; ANSWERS];
     let mut peripherals = s.peripherals;
-    let mut count = 0;
-    while count < ANSWERS {
-        let round = one_round(s, peripherals, &answers[..count], memory);
-        match round {
-            ControlFlow::Break(processed) => {
-                return processed;
-            }
+    for count in 0..ANSWERS {
+        match one_round(s, peripherals, &answers[..count], memory) {
+            ControlFlow::Break(processed) => return processed,
             ControlFlow::Continue(reading) => {
                 answers[count] = reading.value;
                 peripherals = reading.peripherals;
-                count += 1;
             }
         }
     }

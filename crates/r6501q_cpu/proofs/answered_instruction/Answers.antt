@@ -3,50 +3,34 @@ use Prim.Native.Nat.{suc, ◌<◌, ◌-◌}
 use native.Mathlib.Omega.{arith}
 use native.Mathlib.Numerals.{add-one}
 use lib.ListN.{length, length-set}
-use lib.Seq.{length-take-le, take-suc-set}
+use lib.Seq.{take-suc-set}
 use Rattle.r6501q_cpu.specs.Asking.{instruction_from, answered_instruction}
 use Rattle.r6501q_cpu.proofs.Asks.{round_over, round_answered}
 use Rattle.r6501q_cpu.proofs.answered_instruction.Goals as goal
 
 pub loop-count-init : goal.loop-count-init
 unfolding answered_instruction
-loop-count-init c = (omega arith, refl, refl)
-
-pub slice_bounds-answers-end : goal.slice_bounds-answers-end
-slice_bounds-answers-end c = rw c.loop-count.invariant.1 c.loop-count.invariant.0
-
-pub slice_bounds-one_round-end : goal.slice_bounds-one_round-end
-slice_bounds-one_round-end c = sym (length-take-le _ _ (rw c.loop-count.invariant.1 c.loop-count.invariant.0))
+loop-count-init c = (refl, refl)
 
 pub returns-in-Break : goal.returns-in-Break
 returns-in-Break c =
     let at = c.loop-count in
     let left : 0 < 6 - at.count = omega arith in
-    let over = sym c.one_round-round.ensures ∙ c.in-Break.is in
-    sym (round_over _ _ _ _ _ _ _ left over) ∙ at.invariant.2
-
-pub bounds-answers-count : goal.bounds-answers-count
-bounds-answers-count c = omega arith
-
-pub overflow_add-count : goal.overflow_add-count
-overflow_add-count c = omega arith
-
-pub loop-count-smaller : goal.loop-count-smaller
-loop-count-smaller c = omega arith
+    let over = sym c.one_round.ensures ∙ c.in-Break.is in
+    sym (round_over _ _ _ _ _ _ _ left over) ∙ at.invariant.1
 
 pub loop-count-preserved : goal.loop-count-preserved
 loop-count-preserved c =
     let at = c.loop-count in
     let left : 6 - at.count ≡ suc (6 - suc at.count) = omega arith in
-    let room : at.count < length at.answers = rw at.invariant.1 (omega arith) in
-    let asked = sym c.one_round-round.ensures ∙ c.in-Continue.is in (
-      omega arith,
-      rw (length-set at.answers at.count c.in-Continue.reading.value) at.invariant.1,
+    let room : at.count < length at.answers = rw at.invariant.0 (omega arith) in
+    let asked = sym c.one_round.ensures ∙ c.in-Continue.is in (
+      rw (length-set at.answers at.count c.in-Continue.reading.value) at.invariant.0,
       rw (add-one at.count, take-suc-set at.answers at.count _ room)
-          (sym (round_answered _ _ _ _ _ _ _ _ left asked) ∙ at.invariant.2),
+          (sym (round_answered _ _ _ _ _ _ _ _ left asked) ∙ at.invariant.1),
     )
 
 pub returns : goal.returns
 unfolding instruction_from
 returns c =
-    let none : 6 - c.loop-count.count ≡ 0 = omega arith in rw (none) at c.loop-count.invariant.2
+    let none : 6 - c.loop-count.count ≡ 0 = omega arith in rw (none) at c.loop-count.invariant.1

@@ -1,5 +1,5 @@
 use mathlib.Core.Path.{◌≡◌}
-use Prim.Native.Nat.{◌≤◌, ◌-◌}
+use Prim.Native.Nat.{◌-◌}
 use lib.ListN.{length, take}
 use Rattle.std.specs.Prelude.{Err}
 use Rattle.stops.specs.declared.Stop.TheVariants.{Undefined}
@@ -7,9 +7,6 @@ use Rattle.r6501q_cpu.specs.Asking.{instruction_from, answered_instruction}
 use Rattle.r6501q_cpu.proofs.answered_instruction.Given as goal
 
 abbrev pub invariant-loop-count : goal.invariant-loop-count
-invariant-loop-count l = (l.count ≤ 6) × (length l.answers ≡ 6)
+invariant-loop-count l = (length l.answers ≡ 6)
     × (instruction_from (Err Undefined) (6 - l.count) l.s l.peripherals (take l.count l.answers) l.memory
     ≡ answered_instruction l.s l.memory)
-
-abbrev pub decreases-loop-count : goal.decreases-loop-count
-decreases-loop-count l = 6 - l.count

@@ -1,4 +1,4 @@
-use Rattle.std.proofs.Common.{ltb, lt-ltb, arith, refl}
+use Rattle.std.proofs.Common.{lt-ltb, arith, refl}
 use Rattle.r6501q_cpu.specs.Asking.{put_register, registers_after}
 use Rattle.r6501q_cpu.proofs.registers_after.Goals as goal
 
