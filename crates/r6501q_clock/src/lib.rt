@@ -35,10 +35,8 @@ fn apply_inputs(levels: Levels, codes: &[u8]) -> Levels
     ensures { result ≡ with_inputs levels codes.now }
 {
     let mut set = levels;
-    let mut i = 0;
-    while i < codes.len() {
-        set = set.input(codes[i]);
-        i += 1;
+    for code in codes {
+        set = set.input(*code);
     }
     set
 }
