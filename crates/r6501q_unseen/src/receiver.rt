@@ -47,16 +47,13 @@ pub fn unseen_listens(r: Receiver, sccr: u8, high: bool) -> u32
 }
 
 // The register after some bits of one level.
-fn with_levels(register: u16, high: bool, bits: u32) -> u16
+fn with_levels(mut register: u16, high: bool, bits: u32) -> u16
     ensures { result ≡ with_levels bits register high }
 {
-    let mut next = register;
-    let mut left = bits;
-    while 0 < left {
-        next = with_level(next, high);
-        left -= 1;
+    for _ in 0..bits {
+        register = with_level(register, high);
     }
-    next
+    register
 }
 
 // Looks with no bits left: a high zeroes the sub-interval, and lows count.

@@ -1,9 +1,7 @@
-use Rattle.r6501q_unseen.specs.Ticks.{with_levels}
+use Prim.Native.Nat.{◌-◌}
 use mathlib.Core.Path.{◌≡◌}
+use Rattle.r6501q_unseen.specs.Ticks.{with_levels}
 use Rattle.r6501q_unseen.proofs.receiver.with_levels.Given as goal
 
-abbrev pub invariant-loop-left : goal.invariant-loop-left
-invariant-loop-left l = with_levels l.left l.next l.high ≡ with_levels l.bits l.register l.high
-
-abbrev pub decreases-loop-left : goal.decreases-loop-left
-decreases-loop-left l = l.left
+abbrev pub invariant-loop : goal.invariant-loop
+invariant-loop l = with_levels (l.bits - l.counter) l.register l.high ≡ with_levels l.bits l.initial.register l.high
