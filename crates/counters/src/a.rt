@@ -67,6 +67,7 @@ impl CounterA {
     }
 
     // A gap without an underflow, in all of which it counts or in none.
+    // Each counter has this for itself: a trait over both would ask for as many accessors as there are lines here.
     pub fn pass(mut self, counting: bool, gap: Clocks) -> CounterA
         ensures { result ≡ pass_a self counting gap }
     {

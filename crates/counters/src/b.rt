@@ -87,6 +87,7 @@ impl CounterB {
     }
 
     // A gap without an underflow, in all of which it counts or in none.
+    // As counter A's; see there why each has it for itself.
     pub fn pass(mut self, counting: bool, gap: Clocks) -> CounterB
         ensures { result ≡ pass_b self counting gap }
     {

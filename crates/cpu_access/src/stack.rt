@@ -71,6 +71,7 @@ pub fn stack_address(sp: u8) -> u16
 }
 
 // SP after a push.
+// Down and up are two words of the definitions, not one with a direction.
 pub fn down(sp: u8) -> u8
     ensures { result ≡ down sp }
 {
@@ -151,6 +152,7 @@ impl Bus {
     }
 
     // PC pulled, low byte first.
+    // What moves on is SP here and PC in `fetch_address`, so that the two are not one.
     pub fn pull_address(self, answers: &[u8], memory: &[u8], sp: u8) -> Pulled<u16>
         ensures { result ≡ pull_address answers.now memory.now sp self }
     {

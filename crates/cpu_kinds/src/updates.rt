@@ -27,6 +27,7 @@ pub fn with_status(registers: CpuRegisters, status: Status) -> CpuRegisters
     }
 }
 
+// A function for each register: a field has no name that a caller could hand over.
 // What was computed, into a register, with the flags.
 pub fn into_a(registers: CpuRegisters, computed: Computed) -> CpuRegisters
     ensures { result ≡ into_a computed registers }

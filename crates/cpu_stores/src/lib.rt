@@ -1,5 +1,7 @@
 // Operations that store a byte, or change one: the byte is put on the last clock, which must lie within the span.
 // Those that change A put none.
+// Memory and page sums are lent as two slices: one behind a field of a lent struct is known no more once it has been
+// lent to be read, and an instruction reads before it writes.
 #![tactic(auto)]
 
 ghost use Rattle.std.specs.Prelude.{◌≡◌, ◌≤◌};

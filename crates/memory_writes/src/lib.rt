@@ -1,4 +1,6 @@
 // A clock's writes, put into memory and its page sums.
+// Memory and page sums are lent as two slices: one behind a field of a lent struct is known no more once it has been
+// lent to be read, and an instruction reads before it writes.
 #![tactic(auto)]
 
 ghost use Rattle.std.specs.Prelude.{◌≡◌, true};

@@ -48,7 +48,7 @@ pub fn commit_byte(part: &mut [u8], address: usize, sums: &mut [u16], k: usize, 
 }
 
 // Whether 13 refuses a call that is lent a memory of so many bytes and so many sums: 1 does not, which comes before,
-// and there are not 256 sums.
+// and there are not 256 sums. A yes or no and no Result, since its callers hand back values of different types.
 pub fn page_list_refused(memory: usize, sums: usize) -> bool
     ensures { result ≡ page_list_refused memory sums }
 {

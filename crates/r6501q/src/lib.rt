@@ -1,4 +1,5 @@
 // The library for programs in C and Rust. A struct goes by value, a lent slice as a pointer and then its length.
+// Inputs and records are two lists each, as a program in C lends them; so are those of `step` and `run`.
 #![tactic(auto)]
 
 ghost use Rattle.std.specs.Prelude.{◌≡◌};

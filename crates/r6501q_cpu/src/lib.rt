@@ -31,6 +31,7 @@ pub struct Next {
 const ANSWERS: usize = 6;
 
 // The CPU's registers as an instruction has them.
+// A function and no From: both types are of other crates.
 pub fn registers_of(c: Cpu) -> CpuRegisters
     ensures { result ≡ registers_of c }
 {

@@ -1,4 +1,6 @@
 // Instructions of a span one after the other, by their opcodes.
+// Memory and page sums are lent as two slices: one behind a field of a lent struct is known no more once it has been
+// lent to be read, and an instruction reads before it writes.
 #![tactic(auto)]
 
 ghost use Rattle.std.specs.Prelude.{◌≡◌, ◌+◌, ◌≤◌, ◌<◌};
@@ -23,7 +25,7 @@ pub struct Ran {
     pub shared: u32,
 }
 
-// The same with the byte that waits.
+// The same with the byte that waits, after instructions and after any step of the CPU.
 #[derive(Clone, Copy)]
 pub struct RanOn {
     pub working: Working,

@@ -273,6 +273,7 @@ pub fn halt_of(halt: u32) -> Option<u16>
     u16::try_from(halt).ok()
 }
 
+// A flag goes by `one_where`, the word of the definitions; std states `u8::from` by two clauses in place of one equation.
 // To the host.
 impl From<Option<Write>> for HostWaiting {
     ghost from_gives = { λ waiting host. host ≡ host_waiting waiting };

@@ -58,7 +58,6 @@ use Rattle.cpu_attempts.specs.Attempts as attempts
 use Rattle.r6501q_fast.specs.Instructions as instructions
 use Rattle.r6501q_fast.specs.Instructions.{ByInstructions, shared_by, RunsOn}
 use Rattle.r6501q_fast.proofs.Instructions.{shared_most}
-use Rattle.r6501q_span_leaps.specs.declared.Stepped.{Stepped}
 use Rattle.r6501q_span_leaps.specs.Ticked.{SpanBegun, shared_in, leaps_to, ticked_to, EndFits, StepsOn}
 use Rattle.r6501q_span_leaps.specs.Spanned.{Spanned}
 use Rattle.r6501q_leap.proofs.Runs.{leap_reaches}
@@ -644,7 +643,7 @@ module _ (halt : Option ℕ) (at : Leaped) (clocks : List ℕ) (span : ℕ) (mem
         }
     within_ran memory memory' w (Some x) shared r i o room k = rw (o.0, o.1, add-zero shared) i
 
-    pub within_steps : (memory memory' : List ℕ) (v : Working) (shared : ℕ) (r : Stepped)
+    pub within_steps : (memory memory' : List ℕ) (v : Working) (shared : ℕ) (r : RanOn)
         → Within halt at clocks span memory₀ memory v shared → StepsOn halt start span t v memory r memory'
         → Within halt at clocks span memory₀ memory' r.working (shared + r.shared)
     within_steps memory memory' v shared r i o =

@@ -11,7 +11,6 @@ use Rattle.r6501q_span_work.specs.Work.{WorkedOn}
 use Rattle.r6501q_spans.specs.Ticked.{AloneSeen, ticked_state}
 use Rattle.r6501q_fast.specs.declared.RanOn.{RanOn}
 use Rattle.r6501q_fast.specs.Instructions.{RunsOn}
-use Rattle.r6501q_span_leaps.specs.declared.Stepped.{Stepped}
 use Rattle.r6501q_leap.specs.declared.Leaped.{Leaped}
 
 -- at its start nothing has stopped, and in the span only the CPU does what can be seen
@@ -54,7 +53,7 @@ pub record EndFits (at : Leaped) (v : Working) (shared : ℕ) : Type 0 where
 
 -- the leaps of a span that began with the state s, further on from `v`: instructions by their opcodes (`middle`,
 -- `between`), then one more step of the CPU, with how many of the clocks that it acted on had a tick too
-pub record StepsOn (halt : Option ℕ) (s : State) (span : ℕ) (t : Ticking) (v : Working) (memory : List ℕ) (r : Stepped)
+pub record StepsOn (halt : Option ℕ) (s : State) (span : ℕ) (t : Ticking) (v : Working) (memory : List ℕ) (r : RanOn)
     (memory' : List ℕ) : Type 0 where
   pub middle : RanOn
   pub between : List ℕ

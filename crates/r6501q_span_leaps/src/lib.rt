@@ -1,4 +1,6 @@
 // The leaps of a span, made one after the other on a small record.
+// Memory and page sums are lent as two slices: one behind a field of a lent struct is known no more once it has been
+// lent to be read, and an instruction reads before it writes.
 #![tactic(auto)]
 
 ghost use Rattle.std.specs.Prelude.{◌≡◌, ◌+◌, ◌≤◌, ◌<◌, length};
@@ -9,19 +11,12 @@ ghost use Rattle.r6501q_span_leaps.specs.Ticked.{SpanBegun, shared_in, ticked_to
 
 use counters::time::Clocks;
 use r6501q_advance::Progress;
-use r6501q_fast::run_working;
+use r6501q_fast::{RanOn, run_working};
 use r6501q_leap::Leaped;
 use r6501q_span_work::work_once;
 use r6501q_spans::{Working, begin_work};
 use r6501q_state::state::State;
 use r6501q_unseen::{Ticking, on_tick, ticking_of, ticks_in};
-
-// The CPU in a span after some leaps, and how many of the clocks that it acted on had a tick too.
-#[derive(Clone, Copy)]
-pub struct Stepped {
-    pub working: Working,
-    pub shared: u32,
-}
 
 // The clocks in which nothing but the CPU does what can be seen; none where no clock is left or the run has stopped. Any
 // smaller number, none too, would meet the contract. No clock left is looked at first, for calls of few clocks.
@@ -62,7 +57,7 @@ fn steps_on(
     memory: &mut [u8],
     sums: &mut [u16],
     halt: Option<u16>,
-) -> Stepped
+) -> RanOn
     requires within_span { WithinSpan v.work span.0 }
     requires span_bound { (span.0 ≤ 2147483647) × (0 < ticking.period) }
     ensures steps_on { StepsOn halt s span.0 ticking v memory.old result memory.new }
@@ -71,7 +66,7 @@ fn steps_on(
     let ran = run_working(v, span, ticking, memory, sums, halt);
     let between = ran.working;
     let next = work_once(s, between, span, memory, sums, halt);
-    Stepped {
+    RanOn {
         working: next,
         shared: ran.shared + shared_in(ticking, between, next),
     }

@@ -1,4 +1,6 @@
 // The CPU's steps in a span, one at a time: an instruction that starts in it, or the byte that waits put.
+// Memory and page sums are lent as two slices: one behind a field of a lent struct is known no more once it has been
+// lent to be read, and an instruction reads before it writes.
 #![tactic(auto)]
 
 ghost use Rattle.std.specs.Prelude.{◌≡◌, ◌+◌, ◌≤◌};

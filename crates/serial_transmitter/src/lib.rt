@@ -179,6 +179,7 @@ impl Transmitter {
     }
 
     // Its progress after a write of SCCR over an old value.
+    // Rule and idle value are each half's own, so that this is not one with the receiver's.
     pub fn with_sccr(self, old: u8, sccr: u8) -> Transmitter
         ensures { result ≡ transmitter_with_sccr old sccr self }
     {

@@ -192,6 +192,7 @@ fn run_scenario(rt: &impl Print, text: &[u8], settings: Settings) -> io::Result<
 }
 
 // Runs each scenario; the settings are its last part.
+// The settings may reach past the next mark, so that the text is not split at the marks.
 fn run_scenarios(rt: &impl Print, text: &[u8]) -> io::Result<()> {
     let mut from = 0;
     let mut end = next_mark(text, from, SETTINGS_MARK);

@@ -47,6 +47,7 @@ fn code(text: &[u8]) -> u8 {
 }
 
 // The inputs from `from` on into the two lists, as many as they have room for; how many they are.
+// An input's digits may hold the next mark, so that the text is not split at the marks.
 pub fn read_inputs(text: &[u8], from: usize, clocks: &mut [u32], codes: &mut [u8]) -> usize
     requires { length clocks.old ≡ length codes.old }
     ensures { result ≤ length clocks.old }
