@@ -1,6 +1,8 @@
 -- Numbers read digit by digit.
 use Rattle.std.proofs.Common.{◌≡◌, ℕ, suc, ◌+◌, ◌-◌, ◌*◌, ◌/◌, ◌%◌, ◌^◌, ◌<◌, ◌≤◌, true, List, [], ◌∷◌, ◌++◌, length, get_or, take, drop, sym, refl, ap, ◌∙◌, pow-suc, add-one, arith, length-drop, get_or-drop, take-suc, le-ltb, lt-ltb}
 use native.Mathlib.Nat.{pow-le-pow_right}
+use lib.Seq.{take_all}
+use Rattle.std.specs.List.{slice_range}
 use Rattle.record_text.specs.Lines.{digit_of, digits_of}
 use Rattle.test_instructions.specs.Line.{Read}
 
@@ -51,8 +53,15 @@ reading_fits line from i n h r =
     let below = r.small in
     omega arith
 
-pub reading_ends : (line : List ℕ) (from count i n : ℕ) → i ≤ count → count ≤ i → Reading line from i n
-    → Read line from count n (from + i)
-reading_ends line from count i n h k r =
+-- the digits that are read are all of `digits`, which the line has from `from` on
+pub reading_ends : (line later digits : List ℕ) (from count i n : ℕ) → later ≡ slice_range line from (length line)
+    → digits ≡ slice_range later 0 count → length digits + 0 ≡ count → length digits ≤ i → i ≤ length digits
+    → Reading digits 0 i n → Read line from count n (from + count)
+reading_ends line later digits from count i n behind front long most least r =
     let e : i ≡ count = omega arith in
-    rw e (record { text = rw e at r.text; small = rw e at r.small; past = refl })
+    let rest : later ≡ drop from line = behind ∙ take_all (length line - from) (drop from line) (omega (arith, length-drop from line)) in
+    let none : count - 0 ≡ count = omega arith in
+    let cut : digits ≡ take count later = rw none at front in
+    let whole : take i digits ≡ digits = take_all i digits most in
+    let same : take count (drop from line) ≡ digits_of 16 i n = rw (← rest, ← cut) (sym whole ∙ r.text) in
+    record { text = rw e at same; small = rw e at r.small; past = refl }

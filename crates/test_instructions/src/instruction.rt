@@ -11,7 +11,6 @@ use r6501q_state::inputs::RES_HIGH;
 use r6501q_state::state::{Cpu, State, fresh_state};
 use r6501q_step::CallResult;
 use stops::Stop;
-use test_states::same::same_state;
 
 // The leaps of an instruction: one through its first clock, and one through its last.
 const LEAPS: u32 = 2;
@@ -65,7 +64,7 @@ pub(crate) fn run_alone(cpu: Cpu, clocks: u8, memory: &mut [u8]) -> CallResult
 pub(crate) fn done_with(res: CallResult, clocks: u8, cpu: Cpu) -> bool
     ensures { result ≡ true → result_from res ≡ done_with clocks cpu }
 {
-    let state = same_state(res.state, later(cpu, clocks));
+    let state = res.state == later(cpu, clocks);
     (res.number == 0) & state & (res.leaps == LEAPS) & (res.read == 1) & (res.written == 0)
 }
 

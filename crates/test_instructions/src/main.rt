@@ -7,22 +7,19 @@
 // agree.
 #![tactic(auto)]
 
-ghost use Rattle.std.specs.Prelude.{◌≡◌, ◌≤◌, IfOk, length};
-
-use group::{GROUP_MARK, Group, open, unknown};
-use std::alloc::{AllocError, Global};
+use group::{GROUP_MARK, Group, open};
 use std::env::FillError;
 use std::io::Read;
 use std::rt::{Env, Files};
 use std::{fs, io, str};
-use test_text::next_mark;
-use totals::{Totals, no_totals, print_opcodes};
+use totals::{Totals, print_opcodes};
 
 mod case;
 mod digest;
 mod group;
 mod instruction;
 mod line;
+mod memories;
 mod tally;
 mod totals;
 
@@ -46,30 +43,20 @@ fn take_line(
     line: &[u8],
     by_opcode: &mut [u64; 256],
 ) -> io::Result<GroupsSoFar> {
-    let group = p.group;
-    let totals = p.totals;
-    if line.len() == 0 {
+    if line.is_empty() {
         return Ok(p);
     }
     if line[0] != GROUP_MARK {
         return Ok(GroupsSoFar {
-            group: group.take(line),
-            totals: totals,
+            group: p.group.take(line),
+            totals: p.totals,
         });
     }
-    let closed = totals.close(rt, group, by_opcode)?;
+    let closed = p.totals.close(rt, p.group, by_opcode)?;
     Ok(GroupsSoFar {
         group: open(rt, line)?,
         totals: closed,
     })
-}
-
-// The end of the line that begins at `from`.
-fn line_end(text: &[u8], from: usize) -> usize
-    requires { from ≤ length text.now }
-    ensures { (from ≤ result) × (result ≤ length text.now) }
-{
-    next_mark(text, from, b'\n')
 }
 
 // All lines of a file; its last group ends with it.
@@ -80,46 +67,13 @@ fn take_text(
     by_opcode: &mut [u64; 256],
 ) -> io::Result<Totals> {
     let mut p = GroupsSoFar {
-        group: unknown(),
+        group: Group::default(),
         totals: totals,
     };
-    let mut from = 0;
-    while from < text.len() {
-        let end = line_end(text, from);
-        p = take_line(rt, p, &text[from..end], by_opcode)?;
-        from = end + 1;
+    for line in text.split(|c| *c == b'\n') {
+        p = take_line(rt, p, line, by_opcode)?;
     }
-    let last = p.totals;
-    last.close(rt, p.group, by_opcode)
-}
-
-// Reads until `text` is full, the file ends or a read fails, and gives how many characters it put at the start of
-// `text`.
-fn read_full(file: &mut impl Read, text: &mut [u8]) -> usize
-    ensures { result ≤ length text.new }
-{
-    let mut done = 0;
-    while done < text.len() {
-        let got = file.read(&mut text[done..]).unwrap_or(0);
-        if got == 0 {
-            return done;
-        }
-        done += got;
-    }
-    done
-}
-
-// Whether nothing is left to read, and reading does not fail.
-fn at_end(file: &mut impl Read) -> bool {
-    let mut more = [0u8; 1];
-    matches!(file.read(&mut more), Ok(0))
-}
-
-// Room for a file. Its length is stated, so that its user's proof need not count.
-fn room(alloc: Global) -> Result<Vec<u8>, AllocError>
-    ensures { IfOk result (λ text. 655360 ≡ length text.items) }
-{
-    vec![in alloc; 0; TEXT_LENGTH]
+    p.totals.close(rt, p.group, by_opcode)
 }
 
 // Says of a file why it is left out.
@@ -136,13 +90,13 @@ fn take_file(
     name: &[u8],
     by_opcode: &mut [u64; 256],
 ) -> io::Result<Totals> {
-    let mut text = room(rt.alloc())?;
-    let got = read_full(file, &mut text);
-    if !at_end(file) {
+    let mut text = Vec::new(rt.alloc());
+    let read = file.take(TEXT_LENGTH as u64 + 1).read_to_end(&mut text);
+    if read.is_err() || TEXT_LENGTH < text.len() {
         report(rt, name, b": too large, or not read\n")?;
         return Ok(totals);
     }
-    take_text(rt, totals, &text[..got], by_opcode)
+    take_text(rt, totals, &text, by_opcode)
 }
 
 // The file of that name, to be read; none where it does not open, as one whose name is no text.
@@ -173,7 +127,7 @@ fn is_argument(rt: &impl Env, i: usize) -> bool {
 
 fn main(rt: HostRuntime) -> io::Result<()> {
     let mut by_opcode = [0u64; 256];
-    let mut totals = no_totals();
+    let mut totals = Totals::default();
     for i in 1..usize::MAX {
         if !is_argument(&rt, i) {
             break;

@@ -1,38 +1,32 @@
 // How many there are, and how many of them agree. No file has 2^64 lines, so that no count wraps.
-use std::io;
-use std::num::wrapping_add_u64;
+use std::fmt;
 
-#[derive(Clone, Copy)]
+#[derive(Clone, Copy, Default)]
 pub struct Tally {
     pub all: u64,
     pub agreed: u64,
 }
 
-pub(crate) fn none() -> Tally {
-    Tally { all: 0, agreed: 0 }
-}
-
 impl Tally {
     // One more.
     pub(crate) fn count(self, agrees: bool) -> Tally {
-        Tally {
-            all: wrapping_add_u64(self.all, 1),
-            agreed: wrapping_add_u64(self.agreed, bits::one_where(agrees) as u64),
-        }
+        self.join(Tally {
+            all: 1,
+            agreed: u64::from(agrees),
+        })
     }
 
     // Two together.
     pub(crate) fn join(self, other: Tally) -> Tally {
         Tally {
-            all: wrapping_add_u64(self.all, other.all),
-            agreed: wrapping_add_u64(self.agreed, other.agreed),
+            all: self.all.wrapping_add(other.all),
+            agreed: self.agreed.wrapping_add(other.agreed),
         }
     }
+}
 
-    // Prints it between two texts.
-    pub(crate) fn print(self, rt: &impl Print, before: &[u8], after: &[u8]) -> io::Result<()> {
-        rt.write_all(before)?;
-        print!(rt; "{} of {}", self.agreed, self.all)?;
-        rt.write_all(after)
+impl fmt::Display for Tally {
+    fn fmt<W: fmt::Write>(&self, f: &mut fmt::Formatter<W>) -> fmt::Result {
+        write!(f, "{} of {}", self.agreed, self.all)
     }
 }

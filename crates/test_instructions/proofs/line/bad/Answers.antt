@@ -1,5 +1,0 @@
-use Rattle.test_states.proofs.Equal.{never}
-use Rattle.test_instructions.proofs.line.bad.Goals as goal
-
-pub returns : goal.returns
-returns c e = never e

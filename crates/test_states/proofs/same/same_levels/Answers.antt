@@ -1,5 +1,0 @@
-use Rattle.test_states.proofs.Equal.{levels_same}
-use Rattle.test_states.proofs.same.same_levels.Goals as goal
-
-pub returns : goal.returns
-returns c e = levels_same _ _ e
