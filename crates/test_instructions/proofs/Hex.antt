@@ -1,5 +1,5 @@
 -- Numbers read digit by digit.
-use Rattle.std.proofs.Common.{◌≡◌, ℕ, suc, ◌+◌, ◌-◌, ◌*◌, ◌/◌, ◌%◌, ◌^◌, ◌<◌, ◌≤◌, true, List, [], ◌∷◌, ◌++◌, length, get_or, take, drop, sym, refl, ap, ◌∙◌, pow-suc, add-one, arith, length-drop, get_or-drop, take-suc, le-ltb, lt-ltb}
+use Rattle.std.proofs.Common.{◌≡◌, ℕ, suc, ◌+◌, ◌-◌, ◌*◌, ◌/◌, ◌%◌, ◌^◌, ◌<◌, ◌≤◌, List, length, get_or, take, drop, sym, refl, ◌∙◌, pow-suc, add-one, arith, length-drop, get_or-drop, take-suc, le-ltb, lt-ltb}
 use native.Mathlib.Nat.{pow-le-pow_right}
 use lib.Seq.{take_all}
 use Rattle.std.specs.List.{slice_range}
@@ -59,7 +59,8 @@ pub reading_ends : (line later digits : List ℕ) (from count i n : ℕ) → lat
     → Reading digits 0 i n → Read line from count n (from + count)
 reading_ends line later digits from count i n behind front long most least r =
     let e : i ≡ count = omega arith in
-    let rest : later ≡ drop from line = behind ∙ take_all (length line - from) (drop from line) (omega (arith, length-drop from line)) in
+    let rest : later ≡ drop from line =
+    behind ∙ take_all (length line - from) (drop from line) (omega (arith, length-drop from line)) in
     let none : count - 0 ≡ count = omega arith in
     let cut : digits ≡ take count later = rw none at front in
     let whole : take i digits ≡ digits = take_all i digits most in
