@@ -23,7 +23,7 @@ impl fmt::Display for Record {
     }
 }
 
-// How a run ended, which prints the end line: the clocks done, and the number that ended them, or 0.
+// How a run ended, which prints the end line: the clocks done, and the number that ended them, or 0, as it is printed.
 #[derive(Clone, Copy)]
 pub struct End {
     pub done: u32,

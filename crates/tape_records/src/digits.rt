@@ -18,7 +18,7 @@ pub fn all_digits(text: &[u8]) -> bool
     text.iter().all(|&c| is_digit(c))
 }
 
-// A digit's value; 0 of any other character.
+// A digit's value; 0 of any other character, where `char::to_digit` takes lower case too.
 #[tactic(auto, using(crate::proofs::DigitLaws::value_low, crate::proofs::DigitLaws::value_decimal, crate::proofs::DigitLaws::value_between, crate::proofs::DigitLaws::value_letter, crate::proofs::DigitLaws::value_high))]
 pub fn value(c: u8) -> usize
     ensures { result ≡ value_of c }

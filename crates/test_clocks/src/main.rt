@@ -34,7 +34,8 @@ struct ScenarioEnd {
     end: End,
 }
 
-// How far a scenario's calls have come: the state, the inputs read, the records written, and the last call's number.
+// How far a scenario's calls have come: the state, the inputs read, the records written, and the last call's number,
+// as it is printed.
 #[derive(Clone, Copy)]
 struct Reached {
     state: State,

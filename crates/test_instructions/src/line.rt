@@ -18,7 +18,7 @@ pub(crate) fn after(line: &[u8], place: usize, mark: u8) -> Option<usize> {
     None
 }
 
-// A digit's value; a letter in lower case has none.
+// A digit's value; a letter in lower case has none, where `char::to_digit` gives it one.
 fn value(c: u8) -> Option<u32>
     ensures upper_bound { IfSome result (λ v. v < 16) }
     ensures c_value { IfSome result (λ v. c ≡ digit_of v) }
@@ -46,7 +46,7 @@ pub(crate) fn digits(line: &[u8], place: usize, count: usize) -> Option<Parsed<u
     })
 }
 
-// Two digits.
+// Two digits. Not one with `word16_at`: count, width and modulus would be three parameters of two lines.
 pub(crate) fn byte_at(line: &[u8], place: usize) -> Option<Parsed<u8>>
     ensures { IfSome result (λ read. Read line.now place 2 read.value read.rest) }
 {
