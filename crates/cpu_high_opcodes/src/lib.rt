@@ -1,5 +1,7 @@
 // The opcodes 80h to FFh by the rows of the code matrix (source document 001, A.3): an opcode's high digit chooses its
 // row, A that of `opcodes_a0`. Each defined opcode but BRK is tried; any other is left as it was.
+// Rows with the same columns are not folded, and each stays a match, as in the matrix. What stands in memory at PC is
+// about two parameters; as a fact of a type of both it would be no plainer.
 // Memory and page sums are lent as two slices: one behind a field of a lent struct is known no more once it has been
 // lent to be read, and an instruction reads before it writes.
 #![tactic(auto)]

@@ -1,6 +1,7 @@
 // The opcodes 00h to 7Fh by the rows of the code matrix (source document 001, A.3): an opcode's high digit chooses its
 // row, 2 that of `opcodes_20`. Each defined opcode but BRK is tried; any other is left as it was.
-// Rows with the same columns are not folded: they stand as in the matrix.
+// Rows with the same columns are not folded, and each stays a match, as in the matrix. What stands in memory at PC is
+// about two parameters; as a fact of a type of both it would be no plainer.
 // Memory and page sums are lent as two slices: one behind a field of a lent struct is known no more once it has been
 // lent to be read, and an instruction reads before it writes.
 #![tactic(auto)]

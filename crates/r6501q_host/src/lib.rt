@@ -104,6 +104,7 @@ pub struct HostState {
     pub clock: u32,
 }
 
+// Here and below a number is the C interface's.
 #[repr(C)]
 #[derive(Clone, Copy)]
 pub struct HostResult {
@@ -273,8 +274,8 @@ pub fn halt_of(halt: u32) -> Option<u16>
     u16::try_from(halt).ok()
 }
 
-// A flag goes by `one_where`, the word of the definitions; std states `u8::from` by two clauses in place of one equation.
 // To the host.
+// A flag goes by `one_where`, the word of the definitions; std states `u8::from` by two clauses in place of one equation.
 impl From<Option<Write>> for HostWaiting {
     ghost from_gives = { λ waiting host. host ≡ host_waiting waiting };
 

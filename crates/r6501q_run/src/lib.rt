@@ -98,7 +98,7 @@ fn run_into(
         n,
     );
     if let Err(refusal) = checked {
-        return refused(refusal, state);
+        return refused(refusal.into(), state);
     }
     let mut memory = SummedMemory {
         bytes: memory,
@@ -165,7 +165,7 @@ pub fn run_with_sums(
     ensures sums_after { sums.new ≡ sums_after sums.old memory.old memory.new }
 {
     if page_list_refused(memory.len(), sums.len()) {
-        return refused(Refusal::PageList, state);
+        return refused(Refusal::PageList.into(), state);
     }
     run_into(
         state,

@@ -69,11 +69,11 @@ pub fn check_call(
 }
 
 // The result of a refused call.
-pub fn refused(refusal: Refusal, state: State) -> CallResult
-    ensures { result ≡ refusal_result (number_of refusal) state }
+pub fn refused(number: u8, state: State) -> CallResult
+    ensures { result ≡ refusal_result number state }
 {
     CallResult {
-        number: refusal.into(),
+        number: number,
         state: state,
         leaps: 0,
         read: 0,
@@ -139,7 +139,7 @@ fn step_into(
         1,
     );
     if let Err(refusal) = checked {
-        return refused(refusal, state);
+        return refused(refusal.into(), state);
     }
     let mut memory = SummedMemory {
         bytes: memory,
@@ -199,7 +199,7 @@ pub fn step_with_sums(
     ensures sums_after { sums.new ≡ sums_after sums.old memory.old memory.new }
 {
     if page_list_refused(memory.len(), sums.len()) {
-        return refused(Refusal::PageList, state);
+        return refused(Refusal::PageList.into(), state);
     }
     step_into(
         state,

@@ -68,7 +68,7 @@ pub fn read_inputs(text: &[u8], from: usize, clocks: &mut [u32], codes: &mut [u8
 }
 
 // The settings, whose mark stands first in `text`.
-pub fn read_settings(text: &[u8]) -> Settings {
+pub(crate) fn read_settings(text: &[u8]) -> Settings {
     let records = number(text, 6, 8) as usize;
     Settings {
         clocks: number(text, 1, 5),

@@ -16,8 +16,8 @@ returns-in-Err c =
     at.outputwords.now _ told (number_some c.in-Err.refusal) in
     let plainly = runs_plainly at.halt at.n at.state at.memory.now at.inputclocks.now at.inputcodes.now
     at.outputclocks.now at.outputwords.now in record {
-      outputwords_value = rw c.refused.ensures left;
-      outputwords_value_2 = rw c.refused.ensures (left ∙ plainly);
+      outputwords_value = rw (c.refused.ensures, c.into.ensures) left;
+      outputwords_value_2 = rw (c.refused.ensures, c.into.ensures) (left ∙ plainly);
       sums_after = sums_kept 0 at.sums.now at.memory.now words;
     }
 

@@ -25,8 +25,8 @@ returns-then-page_list_refused c =
     let leaps = list_refused at.sums.now (run_of (machine at.halt) at.n) start wrong in
     let plains = list_refused at.sums.now (plain_run_of (machine at.halt) at.n) start wrong in
     let kept = sums_kept 0 at.sums.now at.memory.now words in record {
-      outputwords_value = rw c.refused.ensures (sym leaps);
-      outputwords_value_2 = rw c.refused.ensures (sym plains);
+      outputwords_value = rw (c.refused.ensures, c.into.ensures) (sym leaps);
+      outputwords_value_2 = rw (c.refused.ensures, c.into.ensures) (sym plains);
       sums_after = kept;
     }
 

@@ -12,7 +12,7 @@ returns-in-Err c =
     let at = c.args in
     let words : SixteenBits at.sums.now = λ p. omega (arith, c.type_inv.sums p) in
     let told = rw c.in-Err.is at c.check_call-checked.ensures in record {
-      outputwords_value = rw c.refused.ensures
+      outputwords_value = rw (c.refused.ensures, c.into.ensures)
           (refuses at.halt at.state at.memory.now at.inputclocks.now at.inputcodes.now at.outputclocks.now
           at.outputwords.now _ told (number_some c.in-Err.refusal));
       sums_after = sums_kept 0 at.sums.now at.memory.now words;

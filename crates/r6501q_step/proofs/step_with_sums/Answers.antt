@@ -22,8 +22,8 @@ returns-then-page_list_refused c =
     c.page_list_refused.ensures in
     let wrong : page_list_refused (length at.memory.now) (length at.sums.now) ≡ true =
     sym told ∙ c.if-page_list_refused.true in record {
-      outputwords_value = rw c.refused.ensures (sym (list_refused at.sums.now (step_of (machine at.halt)) start
-          wrong));
+      outputwords_value = rw (c.refused.ensures, c.into.ensures)
+          (sym (list_refused at.sums.now (step_of (machine at.halt)) start wrong));
       sums_after = sums_kept 0 at.sums.now at.memory.now words;
     }
 
