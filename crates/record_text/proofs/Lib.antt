@@ -1,2 +1,2 @@
-mod Laws
-mod Examples
+pub mod Laws
+pub mod Examples

@@ -1,6 +1,7 @@
 -- What a program prints of a run: document 01, "Tape": "it prints `10 FFFFFF55` (clock, driven word in hex), then `end
 -- 100 0` (clocks done, number or 0)". Characters are their ASCII codes.
-use Rattle.std.specs.Prelude.{cond, List, [], ◌∷◌, ◌++◌, ℕ, zero, suc, ◌+◌, ◌/◌, ◌%◌, ltb}
+use Rattle.std.specs.Prelude.{cond, List, [], ◌∷◌, ◌++◌, ℕ, zero, suc, ◌+◌, ◌/◌, ◌%◌, ltb, length}
+use Rattle.std.proofs.lemmas.List.Edits.{sets}
 
 -- `0` to `9`, then `A` to `F`
 unfoldable pub digit_of : ℕ → ℕ
@@ -48,3 +49,15 @@ record_lines (clock ∷ times) (word ∷ words) = record_line clock word ++ reco
 -- the records, then the end line
 unfoldable pub outcome_lines : List ℕ → List ℕ → ℕ → ℕ → List ℕ
 outcome_lines times words done number = record_lines times words ++ end_line done number
+
+-- a lent text, of which the characters before `place` are filled in
+pub record Filled : Type 0 where
+  pub place : ℕ
+  pub text : List ℕ
+
+abbrev pub filled : ℕ → List ℕ → Filled
+filled place text = record { place = place; text = text }
+
+-- characters put behind those that are; what stands behind them stays
+abbrev pub put_of : List ℕ → Filled → Filled
+put_of characters w = filled (w.place + length characters) (sets w.text w.place characters)

@@ -16,13 +16,16 @@ ghost use Rattle.std.specs.Prelude.{◌≡◌, ◌≤◌, length};
 
 use memory::MEMORY_LENGTH;
 use r6501q_state::state::{State, fresh_state};
-use record_text::{End, Outcome};
+use record_text::{End, LINE_LENGTH, put_end, put_outcome};
 use scenario::{INPUTS, RECORDS, SETTINGS_MARK, Settings, read_inputs, read_settings};
 use std::io;
 use std::io::Read;
 use test_text::next_mark;
 
 mod scenario; // scenario.rt: the parts of a scenario's text
+
+// The most characters that a scenario prints: a line for each record, and the end line.
+const TEXT_LENGTH: usize = LINE_LENGTH * (RECORDS + 1);
 
 // The most characters of the scenarios; what follows them on standard input plays no part.
 const SCENARIOS_LENGTH: usize = 32768;
@@ -133,6 +136,29 @@ fn run_clocks(
     }
 }
 
+// The line of a scenario whose tape is refused.
+fn print_refused(rt: &impl Print, number: u8) -> io::Result<()> {
+    let mut text = [0u8; LINE_LENGTH];
+    let put = put_end(End { done: 0, number }, &mut text, 0);
+    rt.write_all(&text[..put])
+}
+
+// The lines of a scenario's outcome.
+fn print_outcome(
+    rt: &impl Print,
+    outcome: ScenarioEnd,
+    times: &[u32],
+    words: &[u32],
+) -> io::Result<()>
+    requires { (outcome.written ≤ length times.now) × (outcome.written ≤ length words.now)
+        × (outcome.written ≤ 64) }
+{
+    let written = outcome.written;
+    let mut text = [0u8; TEXT_LENGTH];
+    let put = put_outcome(&times[..written], &words[..written], outcome.end, &mut text);
+    rt.write_all(&text[..put])
+}
+
 // Runs a scenario on the lent lists and prints what it comes to.
 fn run_lent(
     rt: &impl Print,
@@ -144,15 +170,10 @@ fn run_lent(
     words: &mut [u32],
 ) -> io::Result<()>
     requires clocks_len { length clocks.now ≡ length codes.now }
-    requires times_len { length times.old ≡ length words.old }
+    requires times_len { (length times.old ≡ length words.old) × (length times.old ≤ 64) }
 {
     let outcome = run_clocks(limit, memory, clocks, codes, times, words);
-    let written = outcome.written;
-    rt.print(Outcome {
-        times: &times[..written],
-        words: &words[..written],
-        end: outcome.end,
-    })
+    print_outcome(rt, outcome, times, words)
 }
 
 // Runs a scenario whose tape is loaded; its inputs stand in `text` from `place` on.
@@ -185,10 +206,7 @@ fn run_scenario(rt: &impl Print, text: &[u8], settings: Settings) -> io::Result<
     let mut memory = [0u8; MEMORY_LENGTH];
     match tape::load(text, &mut memory) {
         Ok(place) => run_loaded(rt, &mut memory, text, place, settings),
-        Err(error) => rt.print(End {
-            done: 0,
-            number: error.fault.into(),
-        }),
+        Err(error) => print_refused(rt, error.fault.into()),
     }
 }
 

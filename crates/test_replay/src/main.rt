@@ -7,7 +7,7 @@
 // most, and so many are free.
 #![tactic(auto)]
 
-use replay_text::replay;
+use replay_text::{TEXT_LENGTH, replay};
 use std::io;
 use std::io::Read;
 
@@ -17,9 +17,15 @@ const SEPARATOR: u8 = b'=';
 // The most characters of the tapes; what follows them on standard input plays no part.
 const TAPES_LENGTH: usize = 16384;
 
+fn print_replay(rt: &impl Print, tape: &[u8]) -> io::Result<()> {
+    let mut text = [0u8; TEXT_LENGTH];
+    let put = replay(tape, &mut text);
+    rt.write_all(&text[..put])
+}
+
 fn print_replays(rt: &impl Print, tapes: &[u8]) -> io::Result<()> {
     for tape in tapes.split(|c| *c == SEPARATOR) {
-        rt.print(replay(tape))?;
+        print_replay(rt, tape)?;
     }
     Ok(())
 }

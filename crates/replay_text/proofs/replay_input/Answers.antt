@@ -6,7 +6,11 @@ use Rattle.replay_text.proofs.replay_input.Goals as goal
 
 pub returns-then-input-le-TAPE_LENGTH : goal.returns-then-input-le-TAPE_LENGTH
 returns-then-input-le-TAPE_LENGTH c =
-    rw (take_all tape_length c.args.input.now c.if-input-le-TAPE_LENGTH.true) c.replay.ensures
+    let input = c.args.input.now in
+    rw (take_all tape_length input c.if-input-le-TAPE_LENGTH.true) (record {
+      text_after = c.replay.ensures.text_after;
+      upper_bound = c.replay.ensures.upper_bound;
+    })
 
 pub slice_bounds-replay-end : goal.slice_bounds-replay-end
 slice_bounds-replay-end c = sym (length-take-le tape_length c.args.input.now

@@ -3,7 +3,7 @@ use Rattle.tape.specs.Tapes.{load_result, fault_number}
 use Rattle.tape.proofs.Laws.{some_fault}
 use Rattle.replay_text.specs.Replay.{zero_memory}
 use Rattle.replay_text.proofs.Laws.{replay_refused, replay_ran}
-use Rattle.replay_text.proofs.replay.Goals as goal
+use Rattle.replay_text.proofs.replayed.Goals as goal
 
 pub returns-in-Ok : goal.returns-in-Ok
 unfolding zero_memory
