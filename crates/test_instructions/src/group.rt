@@ -8,7 +8,7 @@ use std::io;
 
 pub const GROUP_MARK: u8 = b'=';
 
-const COMMENT_MARK: u8 = b'#';
+pub const COMMENT_MARK: u8 = b'#';
 
 // Its opcode, its cases and its digests so far. What stands in front of a file's first group, or behind a line that
 // begins one and is not right, is of no known opcode, so that no case agrees.
@@ -60,12 +60,11 @@ impl Group {
         self
     }
 
-    // One line more. A line that is nothing else counts as a case, which does not agree.
+    // One line more, which is no comment. A line that is nothing else counts as a case, which does not agree.
     pub(crate) fn take(self, line: &[u8]) -> Group
         requires { 1 ≤ length line.now }
     {
         match line[0] {
-            COMMENT_MARK => self,
             DIGEST_MARK => self.take_digest(line),
             _ => self.take_case(line),
         }

@@ -7,11 +7,14 @@
 // agree.
 #![tactic(auto)]
 
-use group::{GROUP_MARK, Group, open};
+ghost use Rattle.std.specs.Prelude.{◌≤◌, length};
+
+use group::{COMMENT_MARK, GROUP_MARK, Group, open};
 use std::env::FillError;
 use std::io::Read;
 use std::rt::{Env, Files};
 use std::{fs, io, str};
+use test_text::next_mark;
 use totals::{Totals, print_opcodes};
 
 mod case;
@@ -36,16 +39,15 @@ struct GroupsSoFar {
     totals: Totals,
 }
 
-// One line more.
+// One line more, which is neither empty nor a comment.
 fn take_line(
     rt: &impl Print,
     p: GroupsSoFar,
     line: &[u8],
     by_opcode: &mut [u64; 256],
-) -> io::Result<GroupsSoFar> {
-    if line.is_empty() {
-        return Ok(p);
-    }
+) -> io::Result<GroupsSoFar>
+    requires { 1 ≤ length line.now }
+{
     if line[0] != GROUP_MARK {
         return Ok(GroupsSoFar {
             group: p.group.take(line),
@@ -59,7 +61,16 @@ fn take_line(
     })
 }
 
-// All lines of a file; its last group ends with it.
+// The end of the line that begins at `from`.
+fn line_end(text: &[u8], from: usize) -> usize
+    requires { from ≤ length text.now }
+    ensures { (from ≤ result) × (result ≤ length text.now) }
+{
+    next_mark(text, from, b'\n')
+}
+
+// All lines of a file; its last group ends with it. Its lines are cut by the places of their ends: by `split` an empty
+// line took twice the host instructions.
 fn take_text(
     rt: &impl Print,
     totals: Totals,
@@ -70,8 +81,13 @@ fn take_text(
         group: Group::default(),
         totals: totals,
     };
-    for line in text.split(|c| *c == b'\n') {
-        p = take_line(rt, p, line, by_opcode)?;
+    let mut from = 0;
+    while from < text.len() {
+        let end = line_end(text, from);
+        if from < end && text[from] != COMMENT_MARK {
+            p = take_line(rt, p, &text[from..end], by_opcode)?;
+        }
+        from = end + 1;
     }
     p.totals.close(rt, p.group, by_opcode)
 }
@@ -90,7 +106,9 @@ fn take_file(
     name: &[u8],
     by_opcode: &mut [u64; 256],
 ) -> io::Result<Totals> {
-    let mut text = Vec::new(rt.alloc());
+    // Room for the largest file, for the character that shows a larger one, and for one more, so that no read asks for
+    // memory: where there is none, the program ends with that error and leaves no file out.
+    let mut text = Vec::with_capacity(rt.alloc(), TEXT_LENGTH + 2)?;
     let read = file.take(TEXT_LENGTH as u64 + 1).read_to_end(&mut text);
     if read.is_err() || TEXT_LENGTH < text.len() {
         report(rt, name, b": too large, or not read\n")?;
