@@ -33,10 +33,6 @@ pub data Ending : Type 0 where
   undefined : Ending
   leaves : Conclusion → Ending
 
--- 01, What is handed back: "6 | the next clock would start an undefined opcode"
-abbrev pub undefined_stop : ℕ
-undefined_stop = 6
-
 abbrev pub conclusion : CpuRegisters → ℕ → Conclusion
 conclusion r n = record { registers = r; waiting = None; clocks = n }
 

@@ -255,7 +255,7 @@ impl Receiver {
 
     // The receiver after a clock with these ticks, with a rise of PA4 or none, and this level of PA7.
     pub fn clock(
-        self,
+        mut self,
         ticks: Ticks,
         rise: bool,
         sccr: u8,

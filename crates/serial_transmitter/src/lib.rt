@@ -151,7 +151,7 @@ impl Transmitter {
     }
 
     // The transmitter after a clock with these ticks.
-    pub fn clock(self, ticks: Ticks, sccr: u8, scsr: u8, byte: u8) -> Sending
+    pub fn clock(mut self, ticks: Ticks, sccr: u8, scsr: u8, byte: u8) -> Sending
         ensures { result ≡ transmitter_clock self ticks sccr scsr byte }
     {
         let moves = (ticks.0 != 0) & transmitter_on(sccr);
