@@ -1,14 +1,14 @@
 -- Characters put one behind the other, and the lengths of lines.
 use mathlib.Core.Path.{◌≡◌, refl, sym, ap, ◌∙◌}
 use mathlib.Core.Bool.{cond}
-use mathlib.Core.List.{List, [], ◌∷◌, ◌++◌, append-nil}
+use mathlib.Core.List.{List, [], ◌∷◌, ◌++◌}
 use Prim.Native.Nat.{ℕ, zero, suc, ◌+◌, ◌-◌, ◌*◌, ◌/◌, ◌%◌, ◌^◌, ◌≤◌, ◌<◌}
 use native.Mathlib.Nat.{add-zero, pow-suc}
 use native.Mathlib.Numerals.{add-one}
 use native.Mathlib.Omega.{arith}
 use lib.Dec.{ltb}
 use lib.ListN.{length, take, drop, get_or, set, length-append}
-use lib.Seq.{sets, set_comm, take-suc, append_snoc, length-take-le, length-sets, take-length, sets-eq, take-append_seam}
+use lib.Seq.{sets, set_comm, take-suc, append_snoc, length-take-le, length-sets, sets-eq, take-append_seam}
 use borrow.Author.Tests.{lt-ltb, le-ltb}
 use Rattle.bits.proofs.Cond.{cond_both}
 use Rattle.record_text.specs.Lines.{
@@ -83,12 +83,6 @@ put_next cs l at i h =
     let n : length (take i cs) ≡ i = length-take-le i cs (omega arith) in
     rw (add-one i, take-suc cs i 0 h, ← sets_append (take i cs) (get_or cs i 0 ∷ []) l at, n)
 
-pub put_all : (cs l text : List ℕ) (at i : ℕ) → length cs ≤ i → i ≤ length cs → text ≡ sets l at (take i cs)
-    → filled (at + i) text ≡ put_of cs (filled at l)
-put_all cs l text at i h h' e =
-    let n : i ≡ length cs = omega arith in
-    rw (e, n, take-length cs)
-
 -- ---- digits
 
 -- the loop that puts digits from the last to the first: `later` are those that stand
@@ -106,9 +100,6 @@ digits_length base (suc count) n =
     omega (arith, length-append (digits_of base count (n / base)) (digit_of (n % base) ∷ []))
 
 module _ (base count n at : ℕ) (text₀ : List ℕ) where
-  pub spelling_begins : Spelling base count n at text₀ count n text₀
-  spelling_begins = record { later = []; digits = append-nil (digits_of base count n); put = refl; within = omega arith }
-
   spelling_next : (left rest : ℕ) (text : List ℕ) → Spelling base count n at text₀ (suc left) rest text
       → Spelling base count n at text₀ left (rest / base) (set text (at + left) (digit_of (rest % base)))
   unfolding digits_of

@@ -8,19 +8,15 @@ pub put_end-requires : goal.put_end-requires
 put_end-requires c = omega (
   arith,
   place_of c.put_records-place.ensures,
-  lines_length c.args.times.now
-      c.args.words.now,
+  lines_length c.args.times.now c.args.words.now,
 )
 
 pub returns : goal.returns
 unfolding outcome_lines
 returns c = record {
   text_after = c.put_end.ensures.text_after
-      ∙ ap (put_of (end_line c.args.end.done
-      c.args.end.number))
-      c.put_records-place.ensures
-      ∙ put_append (record_lines c.args.times.now c.args.words.now) (end_line c.args.end.done
-      c.args.end.number)
+      ∙ ap (put_of (end_line c.args.end.done c.args.end.number)) c.put_records-place.ensures
+      ∙ put_append (record_lines c.args.times.now c.args.words.now) (end_line c.args.end.done c.args.end.number)
       (filled 0 c.args.text.now);
   upper_bound = c.put_end.ensures.upper_bound;
 }
